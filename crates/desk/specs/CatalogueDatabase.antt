@@ -1,7 +1,8 @@
--- The database of a catalogue: where its leaves are, what each has of whole relations, and what statements read and write.
-use Rattle.std.specs.Prelude.{◌≡◌, ℕ, ℤ, ◌==◌, ◌&&◌, Bool, List, [], ◌∷◌, Option, Some, None, length, map, unwrap_or}
+-- The database of a catalogue: where its leaves are, what each place has of whole relations, and what statements read and write.
+use Rattle.std.specs.Prelude.{◌≡◌, ℕ, ℤ, nat_eq, ◌==◌, ◌&&◌, Bool, true, false, List, [], ◌∷◌, Option, Some, None, length, map, if◌then◌else◌}
+use Rattle.std.specs.Cmp.Lexicographic.{pointwise}
 use Rattle.std.specs.FinMap as fin
-use Rattle.std.specs.List.{list_all, slice_get}
+use Rattle.std.specs.List.{list_all}
 use Rattle.std.specs.Ordering.{int_eq}
 use Rattle.terms.specs.declared.leaf.Leaf.{Leaf}
 use Rattle.terms.specs.declared.value.Value.{Value}
@@ -17,17 +18,13 @@ use Rattle.answers.specs.Writes.{writes_between}
 use Rattle.store.specs.Content.{Content}
 use Rattle.desk.specs.Database.{Database}
 use Rattle.desk.specs.OfCatalogue.{IsOfCatalogue}
-use Rattle.desk.specs.Transaction.{at_leaf}
+use Rattle.desk.specs.Place.{Place, fetch_in, site_in, write_in}
 
 -- the leaf of a name
 abbrev pub found : Catalogue → Leaf → Option FragmentLeaf
 found catalogue name = leaf_named name (catalogue_leaves catalogue)
 
--- the name of its site, and the number of its columns
-abbrev pub site_of : List (List ℕ) → Option FragmentLeaf → List ℕ
-site_of sites None = []
-site_of sites (Some leaf) = unwrap_or (slice_get sites leaf.site) []
-
+-- the number of its columns
 abbrev pub width_of : Option FragmentLeaf → ℕ
 width_of None = 0
 width_of (Some leaf) = length leaf.columns
@@ -46,28 +43,40 @@ abbrev pub content_of : Option FragmentLeaf → Relations → Content
 content_of None whole = fin.empty
 content_of (Some leaf) whole = stored (content (unnamed leaf) (rows_of whole leaf.name.relation))
 
--- the database
+-- whether a site is this one
+abbrev pub is_site : Option (List ℕ) → List ℕ → Bool
+is_site None site = false
+is_site (Some home) site = pointwise nat_eq home site
+
+-- whether the catalogue has the leaf at the site
+abbrev pub is_home : Catalogue → Place → Bool
+is_home catalogue place = is_site (site_in catalogue place.1) place.0
+
+-- what a place has of whole relations: nothing where the catalogue has no such leaf there
+abbrev pub content_at : Catalogue → Place → Relations → Content
+content_at catalogue place whole = if is_home catalogue place then content_of (found catalogue place.1) whole else fin.empty
+
+-- the database whose one catalogue has every number
 abbrev pub database : Catalogue → Database
 database catalogue = record {
-  catalogue = catalogue;
+  catalogue = λ n. catalogue;
   schemas = schemas_of catalogue;
   sites = catalogue.sites;
-  home = λ name. site_of catalogue.sites (found catalogue name);
-  well_formed = λ name parts. parts_climb (width_of (found catalogue name)) None parts;
-  content = λ name whole. content_of (found catalogue name) whole;
-  fetches = λ statement. map (λ fetch. (fetch.leaf, fetch.conds)) (fetches_by catalogue statement);
-  writes = λ before after. map at_leaf (writes_between catalogue before after);
+  well_formed = λ n place parts. parts_climb (width_of (found catalogue place.1)) None parts;
+  content = λ n. content_at catalogue;
+  fetches = λ n statement. map (fetch_in catalogue) (fetches_by catalogue statement);
+  writes = λ n before after. map (write_in catalogue) (writes_between catalogue before after);
 }
 
--- a database is that of its catalogue, and has nothing elsewhere
+-- a database is that of its catalogues, and has nothing elsewhere
 pub record IsBase (db : Database) : Type 0 where
   pub of_catalogue : IsOfCatalogue db
-  pub nowhere : (name : Leaf) (whole : Relations) → leaf_named name (catalogue_leaves db.catalogue) ≡ None → db.content name whole ≡ fin.empty
+  pub nowhere : (n : ℕ) (place : Place) (whole : Relations) → is_home (db.catalogue n) place ≡ false → db.content n place whole ≡ fin.empty
 
 -- whether a part stands under its key, with a value for each column
 abbrev pub is_part : ℕ → ℤ × List Value → Bool
 is_part width entry = (length entry.1 == width) && int_eq (key_of entry.1) entry.0
 
--- whether all parts of a leaf do
-abbrev pub fits : Catalogue → Leaf → Content → Bool
-fits catalogue name kept = list_all (is_part (width_of (found catalogue name))) (fin.entries kept)
+-- whether all parts of a place do
+abbrev pub fits : Catalogue → Place → Content → Bool
+fits catalogue place kept = list_all (is_part (width_of (found catalogue place.1))) (fin.entries kept)

@@ -1,7 +1,7 @@
--- The language of a database: the leaves of a catalogue at its sites, and statements over whole relations.
-use Rattle.std.specs.Prelude.{ℕ, Bool, false, List}
+-- The language of a database: places are leaves at sites, and statements over whole relations are for the catalogue that was in force as they were made.
+use Rattle.std.specs.Prelude.{◌≡◌, ℕ, Bool, false, List, Some}
+use Rattle.std.specs.FinMap as fin
 use Rattle.terms.specs.declared.cond.Cond.{Cond}
-use Rattle.terms.specs.declared.leaf.Leaf.{Leaf}
 use Rattle.terms.specs.declared.value.Value.{Value}
 use Rattle.meaning.specs.declared.answer.Answer.{Answer}
 use Rattle.meaning.specs.declared.schema.RelationSchema.{RelationSchema}
@@ -13,56 +13,57 @@ use Rattle.catalog.specs.Catalogue.{Catalogue}
 use Rattle.store.specs.Content.{Content}
 use Rattle.store.specs.declared.letter.Letter as letters
 use Rattle.store.specs.declared.reply.Reply as replies
+use Rattle.protocol.specs.Catalogues.{Catalogues, body_at, letter_at, listed}
 use Rattle.protocol.specs.Language.{Lang}
 use Rattle.protocol.specs.Letter.{Body, Letter}
 use Rattle.protocol.specs.Letters.{letter_of, reply_body}
 use Rattle.protocol.specs.Local.{local, AtKey}
-use Rattle.protocol.specs.Statements.{Statements, with_statements, body_with, letter_with}
+use Rattle.desk.specs.Place.{Place, site_in}
 
 -- what the coordinator's machine knows of a database
 pub record Database : Type 0 where
-  -- its catalogue, and its relations
-  pub catalogue : Catalogue
+  -- the catalogue of each number, and the relations and the sites that all of them have, in their order
+  pub catalogue : ℕ → Catalogue
   pub schemas : List RelationSchema
-  -- the sites in the catalogue's order, and the site of each leaf
   pub sites : List (List ℕ)
-  pub home : Leaf → List ℕ
-  -- whether parts fit a leaf's columns and their keys ascend
-  pub well_formed : Leaf → List (List Value) → Bool
-  -- what a leaf has of whole relations
-  pub content : Leaf → Relations → Content
+  -- under a catalogue: whether parts fit a leaf's columns and their keys ascend, and what a place has of whole relations
+  pub well_formed : ℕ → Place → List (List Value) → Bool
+  pub content : ℕ → Place → Relations → Content
   -- what a statement reads, and the writes that lead from some whole relations to others
-  pub fetches : Statement → List (Leaf × List Cond)
-  pub writes : Relations → Relations → List (Leaf × AtKey)
+  pub fetches : ℕ → Statement → List (Place × List Cond)
+  pub writes : ℕ → Relations → Relations → List (Place × AtKey)
 
--- its statements, all for the one catalogue, which is in force from the beginning on
-abbrev pub statements : Database → Statements local
+-- a catalogue has the leaf at the site
+pub record IsPlace (db : Database) (place : Place) : Type 0 where
+  pub version : ℕ
+  pub there : site_in (db.catalogue version) place.1 ≡ Some place.0
+
+-- its statements; none of them brings another catalogue, so writes lead from whole relations to others under one
+abbrev pub statements : Database → Catalogues local
 statements db = record {
   Statement = Statement;
   Answer = Answer;
   Whole = Relations;
   sites = db.sites;
-  home = db.home;
-  well_formed = λ statement. db.well_formed;
-  IsStatement = IsStatementOf db.schemas;
+  nothing = fin.empty;
+  well_formed = db.well_formed;
+  IsStatement = λ n statement. IsStatementOf db.schemas statement;
   IsWhole = FitsSchema db.schemas;
-  tag = λ statement. 1;
-  version = λ whole. 1;
   raises = λ statement. false;
   meaning = meaning;
   content = db.content;
   fetches = db.fetches;
-  writes = db.writes;
+  writes = λ n m. db.writes n;
 }
 
 -- its language
 abbrev pub language : Database → Lang
-language db = with_statements local (statements db)
+language db = listed local (statements db)
 
 -- a letter in it
 abbrev pub sent : (db : Database) → letters.Letter → Letter (language db)
-sent db letter = letter_with (statements db) (letter_of letter)
+sent db letter = letter_at local (statements db) (letter_of letter)
 
--- what a site's reply says in it
-abbrev pub replied : (db : Database) → replies.Reply → Body (language db)
-replied db reply = body_with (statements db) (reply_body reply)
+-- what a reply of a site says in it
+abbrev pub replied : (db : Database) → List ℕ → replies.Reply → Body (language db)
+replied db site reply = body_at local (statements db) site (reply_body reply)

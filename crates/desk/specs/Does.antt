@@ -1,6 +1,7 @@
 -- What is done of a statement.
 use Rattle.std.specs.Prelude.{◌≡◌, ◌⊎◌, ℕ, true, false, List}
 use Rattle.std.specs.BTreeMap.{is_at}
+use Rattle.std.specs.List.{AllByRecursion}
 use Rattle.std.specs.Map.{set_value}
 use Rattle.meaning.specs.declared.schema.RelationSchema.{RelationSchema}
 use Rattle.meaning.specs.declared.statement.Statement.{Statement}
@@ -17,6 +18,7 @@ use Rattle.store.specs.declared.name.Txn.{Txn}
 use Rattle.store.specs.Name.{txn_cmp}
 use Rattle.protocol.specs.Desk as protocol
 use Rattle.protocol.specs.Letters.{txn_name}
+use Rattle.protocol.specs.Local.{AtKey}
 use Rattle.protocol.specs.Serial.{AllExplained}
 use Rattle.desk.specs.declared.volatile.Volatile.{Volatile}
 use Rattle.desk.specs.declared.refusal.Refusal as refusals
@@ -27,22 +29,28 @@ use Rattle.desk.specs.declared.transaction.TxnState.TheVariants as standing
 use Rattle.desk.specs.declared.statement.Progress.{Progress}
 use Rattle.desk.specs.declared.transaction.Undecided.{Undecided}
 use Rattle.desk.specs.Request.{txn_in}
-use Rattle.desk.specs.Database.{Database, language}
+use Rattle.desk.specs.Database.{Database, IsPlace, language}
+use Rattle.desk.specs.Place.{Place}
 use Rattle.desk.specs.Send.{AreShort}
 use Rattle.desk.specs.State.{IsIn, Steps, VolatileState, desk_of, volatile_from}
 use Rattle.desk.specs.Stepped.{IsProgress}
 
--- a step is the protocol's for one answer and its writes, and these are explained
-pub record Does (db : Database) (txn : Txn) (new : Undecided) (made : Progress) (wanted : protocol.Choice (language db) → protocol.Transition (language db)) : Type 0 where
+-- writes are of leaves at their sites
+abbrev pub ArePlaced : Database → List (Place × AtKey) → Type 0
+ArePlaced db writes = AllByRecursion (λ write. IsPlace db write.0) writes
+
+-- a step is the protocol's for one answer and its writes: these are explained, and of leaves at their sites; n: the number of the catalogue in force
+pub record Does (db : Database) (n : ℕ) (txn : Txn) (new : Undecided) (made : Progress) (wanted : protocol.Choice (language db) → protocol.Transition (language db)) : Type 0 where
   pub choice : protocol.Choice (language db)
   pub step : IsProgress db txn new made (wanted choice)
   pub explained : AllExplained (wanted choice).deeds
-  pub within : IsIn db (standing.Undecided new)
+  pub placed : ArePlaced db choice.1
+  pub within : IsIn db n (standing.Undecided new)
 
 -- so of what stands behind a transaction
-abbrev pub DoesIn : (db : Database) → Txn → TxnState → Progress → (protocol.Choice (language db) → protocol.Transition (language db)) → Type 0
-DoesIn db txn (standing.Undecided new) made wanted = Does db txn new made wanted
-DoesIn db txn (standing.Committed committed) made wanted = ⊥
+abbrev pub DoesIn : (db : Database) → ℕ → Txn → TxnState → Progress → (protocol.Choice (language db) → protocol.Transition (language db)) → Type 0
+DoesIn db n txn (standing.Undecided new) made wanted = Does db n txn new made wanted
+DoesIn db n txn (standing.Committed committed) made wanted = ⊥
 
 -- an undecided transaction's counts are below the limit
 abbrev pub IsShort : TxnState → Type 0
@@ -59,8 +67,9 @@ pub record IsUnread (schema : List RelationSchema) (text : List ℕ) (told : ref
 -- a statement is run
 pub record Runs (db : Database) (before : VolatileState) (kept : DeskContent) (after : VolatileState) (txn : Txn) (statement : Statement) (written : List Letter) (heard : List Notice) : Type 0 where
   pub choice : protocol.Choice (language db)
-  pub steps : Steps db before kept after txn (protocol.on_request (txn_name txn) choice (protocol.State statement) (txn_in db before txn)) written heard
-  pub explained : AllExplained (protocol.on_request (txn_name txn) choice (protocol.State statement) (txn_in db before txn)).deeds
+  pub steps : Steps db before kept after txn (protocol.on_request (txn_name txn) choice (protocol.State (before.version, statement)) (txn_in db before txn)) written heard
+  pub explained : AllExplained (protocol.on_request (txn_name txn) choice (protocol.State (before.version, statement)) (txn_in db before txn)).deeds
+  pub placed : ArePlaced db choice.1
 
 -- a text is a statement's, and the statement is run
 pub record States (db : Database) (before : VolatileState) (kept : DeskContent) (after : VolatileState) (txn : Txn) (text : List ℕ) (written : List Letter) (heard : List Notice) : Type 0 where
@@ -74,12 +83,13 @@ pub record Takes (db : Database) (before : VolatileState) (kept : DeskContent) (
   pub choice : protocol.Choice (language db)
   pub steps : Steps db before kept after txn (wanted choice) written heard
   pub explained : AllExplained (wanted choice).deeds
+  pub placed : ArePlaced db choice.1
 
 -- a statement goes on in memory
 pub record GoesOn (db : Database) (old : Volatile) (after : VolatileState) (txn : Txn) (made : Progress) (wanted : protocol.Choice (language db) → protocol.Transition (language db)) : Type 0 where
   pub new : Undecided
   pub moved : after ≡ volatile_from (set_value (is_at (txn_cmp txn)) old.standings.entries (standing.Undecided new)) old.undecided old.life old.number old.version
-  pub does : Does db txn new made wanted
+  pub does : Does db old.version txn new made wanted
   pub short : protocol.is_short_txn (wanted does.choice).txn ≡ true
 
 -- for one answer and its writes, which are explained, the step sends a site more operations than the limit allows
@@ -96,7 +106,7 @@ pub record IsPastLimits (db : Database) (before : VolatileState) (txn : Txn) (wa
 
 -- to run the statement would lead past them
 abbrev pub RunsPastLimits : Database → VolatileState → Txn → Statement → Type 0
-RunsPastLimits db before txn statement = IsPastLimits db before txn (λ choice. protocol.on_request (txn_name txn) choice (protocol.State statement) (txn_in db before txn))
+RunsPastLimits db before txn statement = IsPastLimits db before txn (λ choice. protocol.on_request (txn_name txn) choice (protocol.State (before.version, statement)) (txn_in db before txn))
 
 -- a text is a statement's, and to run that would
 pub record StatesPastLimits (db : Database) (before : VolatileState) (txn : Txn) (text : List ℕ) : Type 0 where

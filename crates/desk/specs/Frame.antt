@@ -4,7 +4,6 @@ use Rattle.std.specs.Cmp.Lexicographic.{pointwise}
 use Rattle.std.specs.List.{list_any}
 use Rattle.terms.specs.declared.memory.Memory.{Memory}
 use Rattle.meaning.specs.declared.statement.Statement.{Statement}
-use Rattle.catalog.specs.Relation.{catalogue_of}
 use Rattle.protocol.specs.Desk as protocol
 use Rattle.protocol.specs.Desk.{on_desk_letter}
 use Rattle.protocol.specs.Letters.{txn_name}
@@ -33,7 +32,7 @@ use Rattle.desk.specs.Called.{CallsStore}
 use Rattle.desk.specs.Request.{IsAt, IsOver, txn_in}
 use Rattle.desk.specs.Database.{Database, language, replied}
 use Rattle.desk.specs.Does.{IsPastLimits, Takes}
-use Rattle.desk.specs.OfCatalogue.{IsOfCatalogue}
+use Rattle.desk.specs.OfCatalogue.{InForce, IsOfCatalogue}
 use Rattle.desk.specs.Recovery.{IsStrange, Restarts, Rises}
 use Rattle.desk.specs.State.{Fits, volatile_of}
 use Rattle.desk.specs.Participants.{sites_of}
@@ -62,7 +61,7 @@ pub record StepsBelowLimits (old new : Volatile) (result : Result Out Refusal) :
 pub record StatesInMemory (old new : Volatile) (txn : Txn) (result : Result Out Refusal) : Type 0 where
   pub kept : IfOk result (λ out. out.kept ≡ true)
   pub err : OnErr result (volatile_of new ≡ volatile_of old)
-  pub accepted : (db : Database) (statement : Statement) → OnOk result (protocol.refusal (protocol.State statement) (txn_in db (volatile_of old) txn) ≡ None)
+  pub accepted : (db : Database) (statement : Statement) → OnOk result (protocol.refusal (protocol.State ((volatile_of old).version, statement)) (txn_in db (volatile_of old) txn) ≡ None)
 
 -- the coordinator makes a step in memory alone: its store and its catalogue are as they were
 pub record StepsPlainly {S : Type 0} (old new : Desk S) (result : Result Out Refusal) : Type 0 where
@@ -74,7 +73,7 @@ pub record StepsPlainly {S : Type 0} (old new : Desk S) (result : Result Out Ref
 -- so it makes a statement's, of a transaction for which the protocol refuses none
 pub record StatesPlainly {S : Type 0} (old new : Desk S) (txn : Txn) (result : Result Out Refusal) : Type 0 where
   pub plainly : StepsPlainly old new result
-  pub accepted : (db : Database) (statement : Statement) → OnOk result (protocol.refusal (protocol.State statement) (txn_in db (volatile_of old.volatile) txn) ≡ None)
+  pub accepted : (db : Database) (statement : Statement) → OnOk result (protocol.refusal (protocol.State ((volatile_of old.volatile).version, statement)) (txn_in db (volatile_of old.volatile) txn) ≡ None)
 
 -- a step that calls no store leaves what stands there
 pub record LeavesStanding (result : Result Transition Memory) : Type 0 where
@@ -128,18 +127,18 @@ pub record BeginsOrFails {S T : Type 0} (is_clean is_sound : S → Type 0) (kept
 -- site of the catalogue, and one that no site sends, are passed over; after a refusal nothing has changed
 pub record TakesLetter {S : Type 0} (is_clean is_sound : S → Type 0) (kept : S → DeskContent) (refused : S → ℕ) (old new : Desk S) (letter : Letter) (may : Bool) (result : Result Out Refusal) : Type 0 where
   pub store : StepsStore is_clean is_sound kept refused old.store new.store may result (λ out. out.kept)
-      ((db : Database) (reply : Reply) → IsOfCatalogue db → db.catalogue ≡ catalogue_of old.catalog → Fits db (kept old.store) (volatile_of old.volatile) → letter.body ≡ bodies.Reply reply
-      → CallsStore {L = language db} letter.site (replied db reply) (txn_in db (volatile_of old.volatile) letter.txn))
-  pub ok : (db : Database) (reply : Reply) → IsOfCatalogue db → db.catalogue ≡ catalogue_of old.catalog → is_clean new.store → is_sound old.store → Fits db (kept old.store) (volatile_of old.volatile)
+      ((db : Database) (reply : Reply) → IsOfCatalogue db → InForce db old.volatile.version old.catalog → Fits db (kept old.store) (volatile_of old.volatile) → letter.body ≡ bodies.Reply reply
+      → CallsStore {L = language db} letter.site (replied db letter.site reply) (txn_in db (volatile_of old.volatile) letter.txn))
+  pub ok : (db : Database) (reply : Reply) → IsOfCatalogue db → InForce db old.volatile.version old.catalog → is_clean new.store → is_sound old.store → Fits db (kept old.store) (volatile_of old.volatile)
       → letter.body ≡ bodies.Reply reply → list_any (λ site. pointwise nat_eq site letter.site) db.sites ≡ true
       → IfOk result (λ out. Takes db (volatile_of old.volatile) (kept new.store) (volatile_of new.volatile) letter.txn
-      (λ choice. on_desk_letter (txn_name letter.txn) letter.site out.kept choice (replied db reply) (txn_in db (volatile_of old.volatile) letter.txn)) out.letters out.replies)
+      (λ choice. on_desk_letter (txn_name letter.txn) letter.site out.kept choice (replied db letter.site reply) (txn_in db (volatile_of old.volatile) letter.txn)) out.letters out.replies)
   pub strange : is_strange old.catalog.0 letter ≡ true → IsOk result × ((new.volatile ≡ old.volatile) × (new.store ≡ old.store))
   pub silent : is_strange old.catalog.0 letter ≡ true → IfOk result (λ out. (out.letters ≡ []) × (out.replies ≡ []) × (out.kept ≡ true))
   pub own : IfErr result (λ told. (told ≡ refusals.Memory) ⊎ (told ≡ refusals.Full))
-  pub full : (db : Database) (reply : Reply) → IsOfCatalogue db → db.catalogue ≡ catalogue_of old.catalog → Fits db (kept old.store) (volatile_of old.volatile)
+  pub full : (db : Database) (reply : Reply) → IsOfCatalogue db → InForce db old.volatile.version old.catalog → Fits db (kept old.store) (volatile_of old.volatile)
       → letter.body ≡ bodies.Reply reply → list_any (λ site. pointwise nat_eq site letter.site) db.sites ≡ true → result ≡ Err refusals.Full
-      → IsPastLimits db (volatile_of old.volatile) letter.txn (λ choice. on_desk_letter (txn_name letter.txn) letter.site true choice (replied db reply) (txn_in db (volatile_of old.volatile) letter.txn))
+      → IsPastLimits db (volatile_of old.volatile) letter.txn (λ choice. on_desk_letter (txn_name letter.txn) letter.site true choice (replied db letter.site reply) (txn_in db (volatile_of old.volatile) letter.txn))
   pub full_at : (reply : Reply) → letter.body ≡ bodies.Reply reply → result ≡ Err refusals.Full → may_send ((volatile_of old.volatile).standing letter.txn) letter.site reply ≡ true
   pub err : OnErr result (volatile_of new.volatile ≡ volatile_of old.volatile)
   pub catalog : new.catalog ≡ old.catalog

@@ -1,5 +1,6 @@
 -- The coordinator's machine over its store, in reading order.
 pub mod Refusal
+pub mod Place
 pub mod Reply
 pub mod Database
 pub mod OfCatalogue

@@ -10,7 +10,7 @@ use Rattle.protocol.specs.Letters.{leaf_of}
 use Rattle.desk.specs.declared.fetches.Ask.{Ask}
 use Rattle.desk.specs.declared.participant.Participant.{Participant}
 use Rattle.desk.specs.declared.transaction.Unsent.{Unsent}
-use Rattle.desk.specs.Database.{Database}
+use Rattle.desk.specs.Database.{Database, IsPlace}
 use Rattle.desk.specs.Orders.{ordered}
 use Rattle.desk.specs.Participants.{changed_at, participant_in}
 
@@ -85,12 +85,12 @@ abbrev pub writes_go : Txn → List Unsent → List Participant → Sent Unsent
 writes_go txn [] participants = record { left = []; participants = participants; letters = [] }
 writes_go txn (unsent ∷ rest) participants = write_goes txn unsent (participant_in unsent.site participants).ticket participants (writes_go txn rest)
 
--- each fetch, and each write, has the site of its leaf
+-- each fetch, and each write, is of a leaf at its site
 abbrev pub AsksAtHome : Database → List Ask → Type 0
-AsksAtHome db asks = AllByRecursion (λ ask. ask.site ≡ db.home ask.leaf) asks
+AsksAtHome db asks = AllByRecursion (λ ask. IsPlace db (ask.site, ask.leaf)) asks
 
 abbrev pub UnsentAtHome : Database → List Unsent → Type 0
-UnsentAtHome db writes = AllByRecursion (λ unsent. unsent.site ≡ db.home (leaf_of unsent.write)) writes
+UnsentAtHome db writes = AllByRecursion (λ unsent. IsPlace db (unsent.site, leaf_of unsent.write)) writes
 
 -- each site was sent as many operations at most as the limit allows
 abbrev pub AreShort : List Participant → Type 0

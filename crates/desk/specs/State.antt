@@ -74,17 +74,17 @@ closes Ends = true
 closes (Becomes (standing.Undecided undecided)) = false
 closes (Becomes (standing.Committed committed)) = true
 
--- an undecided transaction has to do with the sites of the database, what its statement still sends has the sites of its leaves,
--- and a plan whose rows are waited for is the statement's; the voters of a decided one stand in the order of the sites
-abbrev pub IsIn : Database → TxnState → Type 0
-IsIn db (standing.Undecided undecided) = (sites_of undecided.participants ≡ db.sites) × IsAtHome db undecided.stage × IsPlanned db undecided.stage
-IsIn db (standing.Committed committed) = AreInOrder db.sites committed.voters
+-- an undecided transaction has to do with the sites of the database, what its statement still sends is of leaves at their sites,
+-- and a plan whose rows are waited for is the statement's under the catalogue in force; the voters of a decided one stand in the order of the sites
+abbrev pub IsIn : Database → ℕ → TxnState → Type 0
+IsIn db n (standing.Undecided undecided) = (sites_of undecided.participants ≡ db.sites) × IsAtHome db undecided.stage × IsPlanned db n undecided.stage
+IsIn db n (standing.Committed committed) = AreInOrder db.sites committed.voters
 
 -- so after a step
-abbrev pub IsInAfter : Database → After → Type 0
-IsInAfter db Stays = Unit
-IsInAfter db Ends = Unit
-IsInAfter db (Becomes standing) = IsIn db standing
+abbrev pub IsInAfter : Database → ℕ → After → Type 0
+IsInAfter db n Stays = Unit
+IsInAfter db n Ends = Unit
+IsInAfter db n (Becomes standing) = IsIn db n standing
 
 -- a transaction was begun in an earlier life, or in this one
 abbrev pub IsBegun : VolatileState → Txn → Type 0
@@ -106,8 +106,8 @@ pub record Fits (db : Database) (kept : DeskContent) (table : VolatileState) : T
   pub lives : (txn : Txn) → In txn table.txns → is_some (table.standing txn) ≡ true
   -- they were begun
   pub begun : (txn : Txn) → is_some (table.standing txn) ≡ true → IsBegun table txn
-  -- each has to do with the sites of the database
-  pub sites : (txn : Txn) (standing : TxnState) → table.standing txn ≡ Some standing → IsIn db standing
+  -- each has to do with the sites of the database, and with the catalogue in force
+  pub sites : (txn : Txn) (standing : TxnState) → table.standing txn ≡ Some standing → IsIn db table.version standing
   -- so many are undecided
   pub counted : table.undecided ≡ open_among table.standing table.txns
   -- the limits are kept

@@ -1,8 +1,6 @@
 -- What stands behind transactions, as the protocol has it.
 use Rattle.std.specs.Prelude.{ℕ, List, map, Option, Some, None, false}
 use Rattle.std.specs.Option.{option_map}
-use Rattle.terms.specs.declared.leaf.Leaf.{Leaf}
-use Rattle.terms.specs.declared.write.Write.{Write}
 use Rattle.store.specs.declared.commit.Voter.{Voter}
 use Rattle.protocol.specs.Desk as protocol
 use Rattle.protocol.specs.Language.{Name}
@@ -18,18 +16,15 @@ use Rattle.desk.specs.declared.transaction.TxnState.{TxnState}
 use Rattle.desk.specs.declared.transaction.TxnState.TheVariants as standing
 use Rattle.desk.specs.Database.{Database, language}
 use Rattle.desk.specs.Participants.{participant_in}
+use Rattle.desk.specs.Place.{Place}
 
--- a fetch
+-- a fetch, of a leaf at its site
 abbrev pub ask_of : (db : Database) → Ask → protocol.Ask (language db)
-ask_of db ask = record { leaf = ask.leaf; query = ask.conds; number = ask.number; rows = ask.rows }
+ask_of db ask = record { leaf = (ask.site, ask.leaf); query = ask.conds; number = ask.number; rows = ask.rows }
 
--- a write with its leaf
-abbrev pub at_leaf : Write → Leaf × AtKey
-at_leaf write = (leaf_of write, at_key write)
-
--- a write that waits
-abbrev pub write_of : Unsent → Leaf × AtKey
-write_of unsent = at_leaf unsent.write
+-- a write that waits, of a leaf at its site
+abbrev pub write_of : Unsent → Place × AtKey
+write_of unsent = ((unsent.site, leaf_of unsent.write), at_key unsent.write)
 
 -- the votes that were counted
 abbrev pub votes_of : List Participant → List ℕ → Option Rattle.protocol.specs.Letter.Vote
@@ -38,7 +33,7 @@ votes_of participants site = option_map vote_of (participant_in site participant
 -- where a transaction stands
 abbrev pub stage_of : (db : Database) → List Participant → Stage → protocol.Stage (language db)
 stage_of db participants stage.Idle = protocol.Idle
-stage_of db participants (stage.Reading reading) = protocol.Reading reading.statement (map (ask_of db) reading.asks.items)
+stage_of db participants (stage.Reading reading) = protocol.Reading (reading.version, reading.statement) (map (ask_of db) reading.asks.items)
 stage_of db participants (stage.Writing writing) = protocol.Writing writing.answer (map write_of writing.unsent.items)
 stage_of db participants stage.Voting = protocol.Voting (votes_of participants)
 

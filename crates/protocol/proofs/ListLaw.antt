@@ -14,8 +14,8 @@ module _ (M : Lang) (C : Catalogues M) (law : IsLawfulList M C) where
 
   same_places : (p q : M.Site × M.Leaf) → (same_place M p q ≡ true) ↔ (p ≡ q)
   same_places p q = (
-    λ e. λ i. ((law.sites p.0 q.0).0 (left_true (M.same_site p.0 q.0) (M.same_leaf p.1 q.1) e) i, (law.leaves p.1 q.1).0 (right_true (M.same_site p.0 q.0) (M.same_leaf p.1 q.1) e) i),
-    λ e. both_true (M.same_site p.0 q.0) (M.same_leaf p.1 q.1) ((law.sites p.0 q.0).1 (ap (λ r. r.0) e)) ((law.leaves p.1 q.1).1 (ap (λ r. r.1) e)),
+    λ e. λ i. ((law.site.sites p.0 q.0).0 (left_true (M.same_site p.0 q.0) (M.same_leaf p.1 q.1) e) i, (law.site.leaves p.1 q.1).0 (right_true (M.same_site p.0 q.0) (M.same_leaf p.1 q.1) e) i),
+    λ e. both_true (M.same_site p.0 q.0) (M.same_leaf p.1 q.1) ((law.site.sites p.0 q.0).1 (ap (λ r. r.0) e)) ((law.site.leaves p.1 q.1).1 (ap (λ r. r.1) e)),
   )
 
   -- intentions of a visit at each site
@@ -24,11 +24,11 @@ module _ (M : Lang) (C : Catalogues M) (law : IsLawfulList M C) where
   at_site (Some_at at) a = at a
 
   changed_is : (p : M.Site × M.Leaf) (i : Intended_at M) (content : M.Content) → changed_at M p i content ≡ M.changed p.1 (at_site i p.0) content
-  changed_is p Nothing content = sym (law.changed_none p.1 content)
+  changed_is p Nothing content = sym (law.site.changed_none p.1 content)
   changed_is p (Some_at at) content = refl
 
   touches_is : (p : M.Site × M.Leaf) (i : Intended_at M) → touches_at M p i ≡ M.touches p.1 (at_site i p.0)
-  touches_is p Nothing = sym (law.touches_none p.1)
+  touches_is p Nothing = sym (law.site.touches_none p.1)
   touches_is p (Some_at at) = refl
 
   -- one more intention is that of its own site
@@ -40,23 +40,23 @@ module _ (M : Lang) (C : Catalogues M) (law : IsLawfulList M C) where
   one_more : {A : Type 0} (of : M.Intentions → A) (up : A → A) (l : M.Leaf) (q : M.Site × M.Leaf) (x : M.Write) (i : Intended_at M) →
       ((j : M.Intentions) → of (M.add q.1 x j) ≡ (if M.same_leaf q.1 l then up (of j) else of j)) → (a : M.Site) →
       of (put M.same_site q.0 (M.add q.1 x (at_site i q.0)) (at_site i) a) ≡ (if M.same_site q.0 a && M.same_leaf q.1 l then up (of (at_site i a)) else of (at_site i a))
-  one_more of up l q x i more = put_all M.same_site law.sites q.0 (M.add q.1 x (at_site i q.0)) (at_site i)
+  one_more of up l q x i more = put_all M.same_site law.site.sites q.0 (M.add q.1 x (at_site i q.0)) (at_site i)
       (λ a j. of j ≡ (if M.same_site q.0 a && M.same_leaf q.1 l then up (of (at_site i a)) else of (at_site i a)))
-      (more (at_site i q.0) ∙ ap (λ b. if b && M.same_leaf q.1 l then up (of (at_site i q.0)) else of (at_site i q.0)) (sym ((law.sites q.0 q.0).1 refl)))
+      (more (at_site i q.0) ∙ ap (λ b. if b && M.same_leaf q.1 l then up (of (at_site i q.0)) else of (at_site i q.0)) (sym ((law.site.sites q.0 q.0).1 refl)))
       (λ a other. ap (λ b. if b && M.same_leaf q.1 l then up (of (at_site i a)) else of (at_site i a)) (sym (elsewhere a q.0 other)))
     where
       elsewhere : (a b : M.Site) → M.same_site a b ≡ false → M.same_site b a ≡ false
-      elsewhere a b other = ⊎_elim (λ is. clash ((law.sites a b).1 (sym ((law.sites b a).0 is))) other) (λ none. none) (by_test (M.same_site b a))
+      elsewhere a b other = ⊎_elim (λ is. clash ((law.site.sites a b).1 (sym ((law.site.sites b a).0 is))) other) (λ none. none) (by_test (M.same_site b a))
 
   changed_more : (p q : M.Site × M.Leaf) (x : M.Write) (i : Intended_at M) (content : M.Content) →
       changed_at M p (add_at M q x i) content ≡ (if same_place M q p then M.put_in x (changed_at M p i content) else changed_at M p i content)
   changed_more p q x i content = changed_is p (add_at M q x i) content ∙ ap (λ j. M.changed p.1 j content) (added q x i p.0)
-      ∙ one_more (λ j. M.changed p.1 j content) (M.put_in x) p.1 q x i (λ j. law.changed_add p.1 q.1 x j content) p.0
+      ∙ one_more (λ j. M.changed p.1 j content) (M.put_in x) p.1 q x i (λ j. law.site.changed_add p.1 q.1 x j content) p.0
       ∙ ap (λ c. if same_place M q p then M.put_in x c else c) (sym (changed_is p i content))
 
   touches_more : (p q : M.Site × M.Leaf) (x : M.Write) (i : Intended_at M) → touches_at M p (add_at M q x i) ≡ (if same_place M q p then true else touches_at M p i)
   touches_more p q x i = touches_is p (add_at M q x i) ∙ ap (λ j. M.touches p.1 j) (added q x i p.0)
-      ∙ one_more (λ j. M.touches p.1 j) (λ b. true) p.1 q x i (λ j. law.touches_add p.1 q.1 x j) p.0
+      ∙ one_more (λ j. M.touches p.1 j) (λ b. true) p.1 q x i (λ j. law.site.touches_add p.1 q.1 x j) p.0
       ∙ ap (λ b. if same_place M q p then true else b) (sym (touches_is p i))
 
   nothing_touches : (p : M.Site × M.Leaf) (i : Intended_at M) → is_nothing M i ≡ true → touches_at M p i ≡ false
@@ -66,7 +66,7 @@ module _ (M : Lang) (C : Catalogues M) (law : IsLawfulList M C) where
   pub list_lawful : IsLawful (listed M C)
   list_lawful = record {
     leaves = same_places;
-    sites = law.sites;
+    sites = law.site.sites;
     changed_none = λ p content. refl;
     changed_add = changed_more;
     touches_none = λ p. refl;

@@ -5,7 +5,7 @@ use Rattle.std.proofs.lemmas.List.{map-append}
 use Rattle.protocol.specs.Language.{Lang, Name, same, put}
 use Rattle.protocol.specs.Letter.{Body, Letter, No, Read, Lock, Full, Open, Fetch, Write, Prepare, Commit, Abort, Ticket, Rows, Refused, Voted, Ack, Inquire}
 use Rattle.protocol.specs.Site.{Visit, Status, Dead, Active, Prepared, SiteState, Act, Says, Opens, Locks, Prepares, Applies, Ends, on_fetch, on_write, on_prepare, on_commit, on_abort, is_dead, is_active, has_exclusive, has_lock, others_exclusive, others_lock, next_ticket, new_visit, with_status, on_letter, on_give_up, site_after, said, sees, restarted, site_restarted, inquiry_of, inquiries, is_short, is_within}
-use Rattle.protocol.specs.Catalogues.{Catalogues, Intended_at, Nothing, Some_at, same_place, only_at, add_at, is_nothing, touches_at, changed_at, is_full_at, listed, IsLawfulList, body_at, letter_at, intended_at, visit_at, status_at, site_at, act_at}
+use Rattle.protocol.specs.Catalogues.{Catalogues, Intended_at, Nothing, Some_at, same_place, only_at, add_at, is_nothing, touches_at, changed_at, is_full_at, listed, IsLawfulSite, body_at, letter_at, intended_at, visit_at, status_at, site_at, act_at}
 use Rattle.protocol.proofs.Basics.{by_test, clash, if_true, if_false, any_same, all_same, filter_same, if_with}
 
 -- a place is another one's where its site is, and its leaf
@@ -31,7 +31,7 @@ any_and true c d xs = refl
 any_and false c d [] = refl
 any_and false c d (y ∷ xs) = ap₂ (λ (a b : Bool). a || b) (and_none (c y)) (any_and false c d xs)
 
-module _ (M : Lang) (C : Catalogues M) (law : IsLawfulList M C) (a : M.Site) where
+module _ (M : Lang) (C : Catalogues M) (law : IsLawfulSite M) (a : M.Site) where
   abbrev L : Lang
   L = listed M C
 

@@ -33,14 +33,16 @@ rows_led false n m before after = led false (row_under n (false, tt) before) (ro
 
 pub two_lawful : IsLawfulList one_leaf two_sites
 two_lawful = record {
-  leaves = λ a b. (λ e. refl, λ e. refl);
-  sites = toy_lawful.sites;
-  changed_none = λ g content. refl;
-  changed_add = λ g h x i content. refl;
-  touches_none = λ g. refl;
-  touches_add = λ g h x i. refl;
-  only_none = only_nothing;
-  none_empty = refl;
+  site = record {
+    leaves = λ a b. (λ e. refl, λ e. refl);
+    sites = toy_lawful.sites;
+    changed_none = λ g content. refl;
+    changed_add = λ g h x i content. refl;
+    touches_none = λ g. refl;
+    touches_add = λ g h x i. refl;
+    only_none = only_nothing;
+    none_empty = refl;
+  };
   keeps_whole = λ n s whole is fits. tt;
   writes_right = λ n s whole p is fits. rows_led p.0 n (then_in_force one_leaf two_sites n s) whole (two_sites.meaning s whole).1;
 }

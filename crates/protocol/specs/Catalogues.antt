@@ -58,6 +58,18 @@ module _ (M : Lang) where
   is_full_at p x Nothing = M.is_full p.1 x M.none
   is_full_at p x (Some_at at) = M.is_full p.1 x (at p.0)
 
+  -- what holds of leaves and intentions at a site, whatever is stated
+  pub record IsLawfulSite : Type 0 where
+    pub leaves : (a b : M.Leaf) → (M.same_leaf a b ≡ true) ↔ (a ≡ b)
+    pub sites : (a b : M.Site) → (M.same_site a b ≡ true) ↔ (a ≡ b)
+    pub changed_none : (g : M.Leaf) (content : M.Content) → M.changed g M.none content ≡ content
+    pub changed_add : (g h : M.Leaf) (x : M.Write) (i : M.Intentions) (content : M.Content) → M.changed g (M.add h x i) content ≡ (if M.same_leaf h g then M.put_in x (M.changed g i content) else M.changed g i content)
+    pub touches_none : (g : M.Leaf) → M.touches g M.none ≡ false
+    pub touches_add : (g h : M.Leaf) (x : M.Write) (i : M.Intentions) → M.touches g (M.add h x i) ≡ (if M.same_leaf h g then true else M.touches g i)
+    -- intentions that are empty are none
+    pub only_none : (i : M.Intentions) → M.is_empty i ≡ true → i ≡ M.none
+    pub none_empty : M.is_empty M.none ≡ true
+
   module _ (C : Catalogues M) where
     -- the catalogue in force after a statement
     abbrev pub then_in_force : ℕ → C.Statement → ℕ
@@ -172,17 +184,9 @@ module _ (M : Lang) where
     abbrev pub ListLaw : Type 0
     ListLaw = (n : ℕ) (whole : C.Whole) (w : World listed) (events : List (Event listed)) → IsOpening (n, whole) w → AllExplained (run events w).past → IsSerialList whole (run events w)
 
-    -- what holds of a lawful list
+    -- what holds of a lawful list: its sites' part, and that of its statements
     pub record IsLawfulList : Type 0 where
-      pub leaves : (a b : M.Leaf) → (M.same_leaf a b ≡ true) ↔ (a ≡ b)
-      pub sites : (a b : M.Site) → (M.same_site a b ≡ true) ↔ (a ≡ b)
-      pub changed_none : (g : M.Leaf) (content : M.Content) → M.changed g M.none content ≡ content
-      pub changed_add : (g h : M.Leaf) (x : M.Write) (i : M.Intentions) (content : M.Content) → M.changed g (M.add h x i) content ≡ (if M.same_leaf h g then M.put_in x (M.changed g i content) else M.changed g i content)
-      pub touches_none : (g : M.Leaf) → M.touches g M.none ≡ false
-      pub touches_add : (g h : M.Leaf) (x : M.Write) (i : M.Intentions) → M.touches g (M.add h x i) ≡ (if M.same_leaf h g then true else M.touches g i)
-      -- intentions that are empty are none
-      pub only_none : (i : M.Intentions) → M.is_empty i ≡ true → i ≡ M.none
-      pub none_empty : M.is_empty M.none ≡ true
+      pub site : IsLawfulSite
       -- a statement makes a whole database of a whole database, and its writes lead from the contents under the catalogue that it was made for to those under the one in force after it
       pub keeps_whole : (n : ℕ) (s : C.Statement) (whole : C.Whole) → C.IsStatement n s → C.IsWhole whole → C.IsWhole (C.meaning s whole).1
       pub writes_right : (n : ℕ) (s : C.Statement) (whole : C.Whole) (p : M.Site × M.Leaf) → C.IsStatement n s → C.IsWhole whole →

@@ -12,7 +12,6 @@ pub mod Alone
 pub mod Refusing
 pub mod Premise
 pub mod Client
-pub mod Statements
 pub mod Catalogues
 pub mod Rounds
 pub mod VisitPlaces

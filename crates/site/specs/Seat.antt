@@ -6,9 +6,9 @@ use Rattle.terms.specs.declared.leaf.Leaf.{Leaf}
 use Rattle.store.specs.declared.fault.StoreFault.TheVariants as store_faults
 use Rattle.store.specs.declared.letter.Letter.{Letter}
 use Rattle.store.specs.SiteContent.{SiteContent}
+use Rattle.protocol.specs.Catalogues.{Catalogues, listed, site_at}
 use Rattle.protocol.specs.Local.{local}
 use Rattle.protocol.specs.Site.{SiteState, Dead}
-use Rattle.protocol.specs.Statements.{Statements, with_statements, site_with}
 use Rattle.site.specs.declared.fault.SiteFault as faults
 use Rattle.site.specs.declared.fault.SiteFault.TheVariants as fault
 use Rattle.site.specs.declared.locks.Locks.{Locks}
@@ -37,14 +37,15 @@ IsSeated seat = Fits seat.kept seat.table
 abbrev pub seat_from : {S : Type 0} → (S → SiteContent) → Site S → Seat
 seat_from content site = record { name = site.volatile.name; leaves = leaves_in site.volatile.locks.items; kept = content site.store; table = volatile_of site.volatile }
 
-module _ (S : Statements local) where
+-- S: the statements over a list of catalogues
+module _ (S : Catalogues local) where
   -- a site that isn't there
-  abbrev pub nobody : SiteState (with_statements local S)
-  nobody = record { kept = λ leaf. fin.empty; status = λ ticket. Dead; known = []; life = 0; number = 0 }
+  abbrev pub nobody : SiteState (listed local S)
+  nobody = record { kept = λ place. S.nothing; status = λ ticket. Dead; known = []; life = 0; number = 0 }
 
-  -- the state of a site
-  abbrev pub state_at : Seat → SiteState (with_statements local S)
-  state_at seat = site_with S (state_of seat.kept seat.table)
+  -- the state of a site, whose leaves are places there
+  abbrev pub state_at : Seat → SiteState (listed local S)
+  state_at seat = site_at local S seat.name (state_of seat.kept seat.table)
 
 -- why a site doesn't take a letter: want of memory aside, its step calls the store, or leads past a limit, or the leaf is at another site
 abbrev pub SiteTells : Seat → Letter → faults.SiteFault → Type 0
