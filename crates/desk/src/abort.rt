@@ -134,7 +134,7 @@ pub(crate) fn on_refusal(
     refusal: Refusal,
 ) -> Result<Transition, Memory>
     ensures turn { (db : Database) (choice : Choice (language db)) → AreParticipants db undecided.now.participants
-        → IfOk result (λ turn. IsTransition db txn (Some (standing.Undecided undecided.now)) turn (on_known (txn_name txn) (undecided_of db undecided.now) site.now turn.kept choice (replied db (reply.Refused refusal)))) }
+        → IfOk result (λ turn. IsTransition db txn (Some (standing.Undecided undecided.now)) turn (on_known (txn_name txn) (undecided_of db undecided.now) site.now turn.kept choice (replied db site.now (reply.Refused refusal)))) }
     ensures sites { IfOk result (λ turn. AtSites (sites_of undecided.now.participants) turn.after) }
     ensures keeps { IfOk result (λ turn. kept_voters (after_of (Some (standing.Undecided undecided.now)) turn.after) ≡ None) }
     ensures kept { IfOk result (λ turn. turn.kept ≡ true) }

@@ -154,9 +154,9 @@ pub(crate) fn on_row<S: DeskStore>(
     reply: &Reply,
     kept: bool,
 ) -> Result<Transition, Memory>
-    ensures store { StepsStore S.is_clean S.is_sound S.kept S.refused store.old store.new kept result (λ turn. turn.kept) ((db : Database) → CallsStore {L = language db} site.now (replied db reply.now) (Row (map voter_of committed.now.voters) (map voter_of committed.now.acked))) }
+    ensures store { StepsStore S.is_clean S.is_sound S.kept S.refused store.old store.new kept result (λ turn. turn.kept) ((db : Database) → CallsStore {L = language db} site.now (replied db site.now reply.now) (Row (map voter_of committed.now.voters) (map voter_of committed.now.acked))) }
     ensures turn { (db : Database) → IfOk result (λ turn. IsTransition db txn (Some (standing.Committed committed.now)) turn
-        (on_row (txn_name txn) (map voter_of committed.now.voters) (map voter_of committed.now.acked) site.now turn.kept (replied db reply.now))) }
+        (on_row (txn_name txn) (map voter_of committed.now.voters) (map voter_of committed.now.acked) site.now turn.kept (replied db site.now reply.now))) }
     ensures sites { (sites : List (List ℕ)) → AreInOrder sites committed.now.voters → IfOk result (λ turn. AtSites sites turn.after) }
     ensures keeps { S.is_clean store.new → S.is_sound store.old → (S.kept store.old).commits txn ≡ Some (by_site committed.now.voters)
         → IfOk result (λ turn. Keeps txn (kept_voters (after_of (Some (standing.Committed committed.now)) turn.after)) (S.kept store.old) (S.kept store.new)) }

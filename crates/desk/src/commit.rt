@@ -134,10 +134,10 @@ pub(crate) fn on_vote<S: DeskStore>(
     version: u64,
     kept: bool,
 ) -> Result<Transition, Memory>
-    ensures store { StepsStore S.is_clean S.is_sound S.kept S.refused store.old store.new kept result (λ turn. turn.kept) ((db : Database) → AreParticipants db undecided.now.participants → CallsStore {L = language db} site.now (replied db (reply.Voted voted)) (Known (undecided_of db undecided.now))) }
+    ensures store { StepsStore S.is_clean S.is_sound S.kept S.refused store.old store.new kept result (λ turn. turn.kept) ((db : Database) → AreParticipants db undecided.now.participants → CallsStore {L = language db} site.now (replied db site.now (reply.Voted voted)) (Known (undecided_of db undecided.now))) }
     ensures turn { (db : Database) (choice : Choice (language db)) → AreParticipants db undecided.now.participants
         → IfOk result (λ turn. IsTransition db txn (Some (standing.Undecided undecided.now)) turn
-        (on_known (txn_name txn) (undecided_of db undecided.now) site.now turn.kept choice (replied db (reply.Voted voted)))) }
+        (on_known (txn_name txn) (undecided_of db undecided.now) site.now turn.kept choice (replied db site.now (reply.Voted voted)))) }
     ensures sites { AreDistinct (sites_of undecided.now.participants) → IfOk result (λ turn. AtSites (sites_of undecided.now.participants) turn.after) }
     ensures keeps { (db : Database) → AreParticipants db undecided.now.participants → S.is_clean store.new → S.is_sound store.old → (S.kept store.old).commits txn ≡ None → version ≡ (S.kept store.old).version
         → IfOk result (λ turn. Keeps txn (kept_voters (after_of (Some (standing.Undecided undecided.now)) turn.after)) (S.kept store.old) (S.kept store.new)) }

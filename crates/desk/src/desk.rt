@@ -20,7 +20,7 @@ ghost use Rattle.desk.specs.Request.{IsOver, refused_as, txn_in};
 ghost use Rattle.desk.specs.Database.{Database, language};
 ghost use Rattle.desk.specs.Does.{IsUnread, Runs, RunsPastLimits, States, StatesPastLimits};
 ghost use Rattle.desk.specs.Frame.{RestartsDesk, StatesPlainly, StepsPlainly, TakesLetter};
-ghost use Rattle.desk.specs.OfCatalogue.{IsOfCatalogue};
+ghost use Rattle.desk.specs.OfCatalogue.{InForce, IsOfCatalogue};
 ghost use Rattle.desk.specs.Recovery.{IsStrange, Rises};
 ghost use Rattle.desk.specs.State.{Begins, Fits, Steps, desk_of, volatile_of};
 
@@ -145,12 +145,12 @@ impl<S: DeskStore> Desk<S> {
     /// A statement of a transaction, by its text. The text is read under the catalogue's schema; one of BEGIN, COMMIT or ROLLBACK
     /// is no statement's. After a refusal nothing has changed.
     pub fn statement(&mut self, txn: Txn, text: &str) -> Result<Out, Refusal>
-        ensures ok { (db : Database) → IsOfCatalogue db → db.catalogue ≡ catalogue_of self.old.catalog → Fits db (S.kept self.old.store) (volatile_of self.old.volatile)
+        ensures ok { (db : Database) → IsOfCatalogue db → InForce db self.old.volatile.version self.old.catalog → Fits db (S.kept self.old.store) (volatile_of self.old.volatile)
             → IfOk result (λ out. States db (volatile_of self.old.volatile) (S.kept self.new.store) (volatile_of self.new.volatile) txn text.now out.letters out.replies) }
         ensures states { StatesPlainly self.old self.new txn result }
-        ensures told { (db : Database) (statement : StatementNow) → IfErr result (λ told. (told ≡ refusals.Memory) ⊎ (option_map refused_as (refusal (State statement) (txn_in db (volatile_of self.old.volatile) txn)) ≡ Some told)
-            ⊎ ((refusal (State statement) (txn_in db (volatile_of self.old.volatile) txn) ≡ None) × (IsUnread (schemas_of (catalogue_of self.old.catalog)) text.now told ⊎ (told ≡ refusals.Full)))) }
-        ensures full { (db : Database) → IsOfCatalogue db → db.catalogue ≡ catalogue_of self.old.catalog → Fits db (S.kept self.old.store) (volatile_of self.old.volatile) → result ≡ Err refusals.Full
+        ensures told { (db : Database) (statement : StatementNow) → IfErr result (λ told. (told ≡ refusals.Memory) ⊎ (option_map refused_as (refusal (State (self.old.volatile.version, statement)) (txn_in db (volatile_of self.old.volatile) txn)) ≡ Some told)
+            ⊎ ((refusal (State (self.old.volatile.version, statement)) (txn_in db (volatile_of self.old.volatile) txn) ≡ None) × (IsUnread (schemas_of (catalogue_of self.old.catalog)) text.now told ⊎ (told ≡ refusals.Full)))) }
+        ensures full { (db : Database) → IsOfCatalogue db → InForce db self.old.volatile.version self.old.catalog → Fits db (S.kept self.old.store) (volatile_of self.old.volatile) → result ≡ Err refusals.Full
             → StatesPastLimits db (volatile_of self.old.volatile) txn text.now }
     {
         call_statement(&mut self.volatile, &self.catalog, txn, text)
@@ -159,12 +159,12 @@ impl<S: DeskStore> Desk<S> {
     /// A statement of a transaction, as the reader has it under the catalogue's schema. After a refusal nothing has changed.
     pub fn run(&mut self, txn: Txn, statement: &Statement) -> Result<Out, Refusal>
         requires { IsStatementOf (schemas_of (catalogue_of self.old.catalog)) statement.now }
-        ensures ok { (db : Database) → IsOfCatalogue db → db.catalogue ≡ catalogue_of self.old.catalog → Fits db (S.kept self.old.store) (volatile_of self.old.volatile)
+        ensures ok { (db : Database) → IsOfCatalogue db → InForce db self.old.volatile.version self.old.catalog → Fits db (S.kept self.old.store) (volatile_of self.old.volatile)
             → IfOk result (λ out. Runs db (volatile_of self.old.volatile) (S.kept self.new.store) (volatile_of self.new.volatile) txn statement.now out.letters out.replies) }
         ensures states { StatesPlainly self.old self.new txn result }
-        ensures told { (db : Database) → IfErr result (λ told. (told ≡ refusals.Memory) ⊎ (option_map refused_as (refusal (State statement.now) (txn_in db (volatile_of self.old.volatile) txn)) ≡ Some told)
-            ⊎ ((refusal (State statement.now) (txn_in db (volatile_of self.old.volatile) txn) ≡ None) × (told ≡ refusals.Full))) }
-        ensures full { (db : Database) → IsOfCatalogue db → db.catalogue ≡ catalogue_of self.old.catalog → Fits db (S.kept self.old.store) (volatile_of self.old.volatile) → result ≡ Err refusals.Full
+        ensures told { (db : Database) → IfErr result (λ told. (told ≡ refusals.Memory) ⊎ (option_map refused_as (refusal (State (self.old.volatile.version, statement.now)) (txn_in db (volatile_of self.old.volatile) txn)) ≡ Some told)
+            ⊎ ((refusal (State (self.old.volatile.version, statement.now)) (txn_in db (volatile_of self.old.volatile) txn) ≡ None) × (told ≡ refusals.Full))) }
+        ensures full { (db : Database) → IsOfCatalogue db → InForce db self.old.volatile.version self.old.catalog → Fits db (S.kept self.old.store) (volatile_of self.old.volatile) → result ≡ Err refusals.Full
             → RunsPastLimits db (volatile_of self.old.volatile) txn statement.now }
     {
         call_run(&mut self.volatile, &self.catalog, txn, statement)

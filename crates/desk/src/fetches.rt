@@ -4,7 +4,8 @@ ghost use Rattle.std.specs.Prelude.{◌≡◌, IfOk, map, OnErr, OnOk};
 ghost use Rattle.std.specs.Option.{option_copied};
 ghost use Rattle.catalog.specs.Relation.{catalogue_of};
 ghost use Rattle.protocol.specs.Letters.{leaf_of};
-ghost use Rattle.desk.specs.Planned.{ask_from, home_in, site_in, unsent_from};
+ghost use Rattle.desk.specs.Place.{home_in, site_in};
+ghost use Rattle.desk.specs.Planned.{ask_from, unsent_from};
 ghost use Rattle.catalog.specs.FragmentLeaf.{catalogue_leaves, leaf_named};
 ghost use Rattle.desk.specs.Fetches.{are_in_with, awaits, brought, fits_leaf, has_rows_with, rows_for, with_found, with_rows};
 

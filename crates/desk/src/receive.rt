@@ -1,6 +1,6 @@
 //! A site's letter, by what stands behind its transaction.
 
-ghost use Rattle.std.specs.Prelude.{◌≡◌, ◌≢◌, ◌⊎◌, ◌<◌, true, false, Option, None, Some, is_some, IfOk, IfErr, OnErr, [], Err, nat_eq, OnOk};
+ghost use Rattle.std.specs.Prelude.{◌≡◌, ℕ, ◌≢◌, ◌⊎◌, ◌<◌, true, false, Option, None, Some, is_some, IfOk, IfErr, OnErr, [], Err, nat_eq, OnOk};
 ghost use Rattle.std.specs.Option.{option_copied};
 ghost use Rattle.reader.specs.Printable.{AreDistinct};
 ghost use Rattle.protocol.specs.Desk.{Choice, Known, on_desk_letter, on_known, stays as unchanged, on_unknown};
@@ -24,12 +24,11 @@ ghost use Rattle.desk.specs.declared.transition.After.TheVariants.{Stays};
 ghost use Rattle.std.specs.Cmp.Lexicographic.{pointwise};
 ghost use Rattle.std.specs.BTreeMap.{IsOrdered};
 ghost use Rattle.std.specs.List.{list_any};
-ghost use Rattle.catalog.specs.Relation.{catalogue_of};
 ghost use Rattle.store.specs.DeskContent.{DeskContent};
 ghost use Rattle.store.specs.Name.{txn_cmp};
 ghost use Rattle.desk.specs.declared.transaction.Undecided.{Undecided as UndecidedNow};
 ghost use Rattle.desk.specs.Does.{Does, DoesIn, GoesOn, IsLong, IsPastLimits, IsShort, Takes};
-ghost use Rattle.desk.specs.OfCatalogue.{IsOfCatalogue};
+ghost use Rattle.desk.specs.OfCatalogue.{InForce, IsOfCatalogue};
 
 use crate::abort::on_refusal;
 use crate::acknowledge::on_row;
@@ -87,7 +86,7 @@ fn on_another(
 ) -> Result<Transition, Memory>
     ensures turn { (db : Database) (choice : Choice (language db)) → (participant_in site.now undecided.now.participants).ticket ≢ None
         → IfOk result (λ turn. IsTransition db txn (Some (standings.Undecided undecided.now)) turn
-        (on_known (txn_name txn) (undecided_of db undecided.now) site.now turn.kept choice (replied db (replies.Ticket ticket)))) }
+        (on_known (txn_name txn) (undecided_of db undecided.now) site.now turn.kept choice (replied db site.now (replies.Ticket ticket)))) }
     ensures leaves { LeavesStanding result }
 {
     let first = ticket_of(undecided.participants.as_slice(), site);
@@ -118,10 +117,10 @@ fn on_open<S: DeskStore>(
     kept: bool,
 ) -> Result<Transition, Memory>
     requires { goes_on (participant_in site.now undecided.now.participants).ticket reply.now ≡ false }
-    ensures store { StepsStore S.is_clean S.is_sound S.kept S.refused store.old store.new kept result (λ turn. turn.kept) ((db : Database) → AreParticipants db undecided.now.participants → CallsStore {L = language db} site.now (replied db reply.now) (Known (undecided_of db undecided.now))) }
+    ensures store { StepsStore S.is_clean S.is_sound S.kept S.refused store.old store.new kept result (λ turn. turn.kept) ((db : Database) → AreParticipants db undecided.now.participants → CallsStore {L = language db} site.now (replied db site.now reply.now) (Known (undecided_of db undecided.now))) }
     ensures turn { (db : Database) (choice : Choice (language db)) → AreParticipants db undecided.now.participants
         → IfOk result (λ turn. IsTransition db txn (Some (standings.Undecided undecided.now)) turn
-        (on_known (txn_name txn) (undecided_of db undecided.now) site.now turn.kept choice (replied db reply.now))) }
+        (on_known (txn_name txn) (undecided_of db undecided.now) site.now turn.kept choice (replied db site.now reply.now))) }
     ensures sites { AreDistinct (sites_of undecided.now.participants) → IfOk result (λ turn. AtSites (sites_of undecided.now.participants) turn.after) }
     ensures keeps { (db : Database) → AreParticipants db undecided.now.participants → S.is_clean store.new → S.is_sound store.old → (S.kept store.old).commits txn ≡ None → version ≡ (S.kept store.old).version
         → IfOk result (λ turn. Keeps txn (kept_voters (after_of (Some (standings.Undecided undecided.now)) turn.after)) (S.kept store.old) (S.kept store.new)) }
@@ -146,9 +145,9 @@ fn step<S: DeskStore>(
     kept: bool,
 ) -> Result<Transition, Memory>
     requires { may_send ((volatile_of volatile.now).standing txn) site.now reply.now ≡ false }
-    ensures store { StepsStore S.is_clean S.is_sound S.kept S.refused store.old store.new kept result (λ turn. turn.kept) ((db : Database) → IsAt db ((volatile_of volatile.now).standing txn) → CallsStore {L = language db} site.now (replied db reply.now) (txn_in db (volatile_of volatile.now) txn)) }
+    ensures store { StepsStore S.is_clean S.is_sound S.kept S.refused store.old store.new kept result (λ turn. turn.kept) ((db : Database) → IsAt db ((volatile_of volatile.now).standing txn) → CallsStore {L = language db} site.now (replied db site.now reply.now) (txn_in db (volatile_of volatile.now) txn)) }
     ensures turn { (db : Database) (choice : Choice (language db)) → IsAt db ((volatile_of volatile.now).standing txn)
-        → IfOk result (λ turn. IsTransition db txn ((volatile_of volatile.now).standing txn) turn (on_desk_letter (txn_name txn) site.now turn.kept choice (replied db reply.now) (txn_in db (volatile_of volatile.now) txn))) }
+        → IfOk result (λ turn. IsTransition db txn ((volatile_of volatile.now).standing txn) turn (on_desk_letter (txn_name txn) site.now turn.kept choice (replied db site.now reply.now) (txn_in db (volatile_of volatile.now) txn))) }
     ensures sites { (db : Database) → IsAt db ((volatile_of volatile.now).standing txn) → IfOk result (λ turn. AtSites db.sites turn.after) }
     ensures keeps { (db : Database) → IsAt db ((volatile_of volatile.now).standing txn) → S.is_clean store.new → S.is_sound store.old → (S.kept store.old).commits txn ≡ kept_voters ((volatile_of volatile.now).standing txn) → (volatile_of volatile.now).version ≡ (S.kept store.old).version
         → IfOk result (λ turn. Keeps txn (kept_voters (after_of ((volatile_of volatile.now).standing txn) turn.after)) (S.kept store.old) (S.kept store.new)) }
@@ -177,9 +176,9 @@ pub(crate) fn take<S: DeskStore>(
     kept: bool,
 ) -> Result<Out, Refusal>
     requires { may_send ((volatile_of volatile.old).standing txn) site.now reply.now ≡ false }
-    ensures store { StepsStore S.is_clean S.is_sound S.kept S.refused store.old store.new kept result (λ out. out.kept) ((db : Database) → AreDistinct db.sites → Fits db (S.kept store.old) (volatile_of volatile.old) → CallsStore {L = language db} site.now (replied db reply.now) (txn_in db (volatile_of volatile.old) txn)) }
+    ensures store { StepsStore S.is_clean S.is_sound S.kept S.refused store.old store.new kept result (λ out. out.kept) ((db : Database) → AreDistinct db.sites → Fits db (S.kept store.old) (volatile_of volatile.old) → CallsStore {L = language db} site.now (replied db site.now reply.now) (txn_in db (volatile_of volatile.old) txn)) }
     ensures ok { (db : Database) (choice : Choice (language db)) → AreDistinct db.sites → S.is_clean store.new → S.is_sound store.old → Fits db (S.kept store.old) (volatile_of volatile.old)
-        → IfOk result (λ out. Steps db (volatile_of volatile.old) (S.kept store.new) (volatile_of volatile.new) txn (on_desk_letter (txn_name txn) site.now out.kept choice (replied db reply.now) (txn_in db (volatile_of volatile.old) txn)) out.letters out.replies) }
+        → IfOk result (λ out. Steps db (volatile_of volatile.old) (S.kept store.new) (volatile_of volatile.new) txn (on_desk_letter (txn_name txn) site.now out.kept choice (replied db site.now reply.now) (txn_in db (volatile_of volatile.old) txn)) out.letters out.replies) }
     ensures own { IfErr result (λ told. told ≡ refusals.Memory) }
     ensures err { OnErr result (volatile_of volatile.new ≡ volatile_of volatile.old) }
 {
@@ -195,7 +194,7 @@ pub(crate) fn on_unknown(
     site: &Text,
     reply: &Reply,
 ) -> Result<Transition, Memory>
-    ensures turn { (db : Database) → IfOk result (λ turn. IsTransition db txn None turn (on_unknown (txn_name txn) site.now (replied db reply.now))) }
+    ensures turn { (db : Database) → IfOk result (λ turn. IsTransition db txn None turn (on_unknown (txn_name txn) site.now (replied db site.now reply.now))) }
     ensures leaves { LeavesStanding result }
 {
     match reply {
@@ -217,11 +216,11 @@ fn rows_come(
     site: &Text,
     rows: &Rows,
 ) -> Result<Progress, Refusal>
-    ensures does { (db : Database) → IsOfCatalogue db → db.catalogue ≡ catalogue_of catalog.now → AreParticipants db undecided.old.participants → IsIn db (standings.Undecided undecided.old)
-        → IfOk result (λ step. Does db txn undecided.new step (λ choice. on_known (txn_name txn) (undecided_of db undecided.old) site.now true choice (replied db (replies.Rows rows.now)))) }
+    ensures does { (db : Database) (n : ℕ) → IsOfCatalogue db → InForce db n catalog.now → AreParticipants db undecided.old.participants → IsIn db n (standings.Undecided undecided.old)
+        → IfOk result (λ step. Does db n txn undecided.new step (λ choice. on_known (txn_name txn) (undecided_of db undecided.old) site.now true choice (replied db site.now (replies.Rows rows.now)))) }
     ensures goes { GoesOnOrStays undecided.old undecided.new result }
-    ensures full { (db : Database) → IsOfCatalogue db → db.catalogue ≡ catalogue_of catalog.now → AreParticipants db undecided.old.participants → IsIn db (standings.Undecided undecided.old) → result ≡ Err refusals.Full
-        → IsLong db (λ choice. on_known (txn_name txn) (undecided_of db undecided.old) site.now true choice (replied db (replies.Rows rows.now))) }
+    ensures full { (db : Database) (n : ℕ) → IsOfCatalogue db → InForce db n catalog.now → AreParticipants db undecided.old.participants → IsIn db n (standings.Undecided undecided.old) → result ≡ Err refusals.Full
+        → IsLong db (λ choice. on_known (txn_name txn) (undecided_of db undecided.old) site.now true choice (replied db site.now (replies.Rows rows.now))) }
 {
     leaf_names_are_unique();
     if !gave_first(undecided.participants.as_slice(), site, &rows.ticket) {
@@ -256,11 +255,11 @@ fn resume_on(
     reply: &Reply,
 ) -> Result<Progress, Refusal>
     requires { goes_on (participant_in site.now undecided.old.participants).ticket reply.now ≡ true }
-    ensures does { (db : Database) → IsOfCatalogue db → db.catalogue ≡ catalogue_of catalog.now → list_any (is_at site.now) undecided.old.participants ≡ true → AreParticipants db undecided.old.participants → IsIn db (standings.Undecided undecided.old)
-        → IfOk result (λ step. Does db txn undecided.new step (λ choice. on_known (txn_name txn) (undecided_of db undecided.old) site.now true choice (replied db reply.now))) }
+    ensures does { (db : Database) (n : ℕ) → IsOfCatalogue db → InForce db n catalog.now → list_any (is_at site.now) undecided.old.participants ≡ true → AreParticipants db undecided.old.participants → IsIn db n (standings.Undecided undecided.old)
+        → IfOk result (λ step. Does db n txn undecided.new step (λ choice. on_known (txn_name txn) (undecided_of db undecided.old) site.now true choice (replied db site.now reply.now))) }
     ensures goes { GoesOnOrStays undecided.old undecided.new result }
-    ensures full { (db : Database) → IsOfCatalogue db → db.catalogue ≡ catalogue_of catalog.now → list_any (is_at site.now) undecided.old.participants ≡ true → AreParticipants db undecided.old.participants → IsIn db (standings.Undecided undecided.old) → result ≡ Err refusals.Full
-        → IsLong db (λ choice. on_known (txn_name txn) (undecided_of db undecided.old) site.now true choice (replied db reply.now)) }
+    ensures full { (db : Database) (n : ℕ) → IsOfCatalogue db → InForce db n catalog.now → list_any (is_at site.now) undecided.old.participants ≡ true → AreParticipants db undecided.old.participants → IsIn db n (standings.Undecided undecided.old) → result ≡ Err refusals.Full
+        → IsLong db (λ choice. on_known (txn_name txn) (undecided_of db undecided.old) site.now true choice (replied db site.now reply.now)) }
 {
     match reply {
         Reply::Ticket(ticket) => ticket_goes(alloc, txn, undecided, site, *ticket),
@@ -279,11 +278,11 @@ fn resume_in(
     reply: &Reply,
 ) -> Result<Progress, Refusal>
     requires { may_send (Some standing.old) site.now reply.now ≡ true }
-    ensures does { (db : Database) (old : UndecidedNow) → IsOfCatalogue db → db.catalogue ≡ catalogue_of catalog.now → standing.old ≡ standings.Undecided old → list_any (is_at site.now) old.participants ≡ true → AreParticipants db old.participants → IsIn db (standings.Undecided old)
-        → IfOk result (λ step. DoesIn db txn standing.new step (λ choice. on_known (txn_name txn) (undecided_of db old) site.now true choice (replied db reply.now))) }
+    ensures does { (db : Database) (n : ℕ) (old : UndecidedNow) → IsOfCatalogue db → InForce db n catalog.now → standing.old ≡ standings.Undecided old → list_any (is_at site.now) old.participants ≡ true → AreParticipants db old.participants → IsIn db n (standings.Undecided old)
+        → IfOk result (λ step. DoesIn db n txn standing.new step (λ choice. on_known (txn_name txn) (undecided_of db old) site.now true choice (replied db site.now reply.now))) }
     ensures short { IsShort standing.old → OnOk result (IsShort standing.new) }
-    ensures full { (db : Database) (old : UndecidedNow) → IsOfCatalogue db → db.catalogue ≡ catalogue_of catalog.now → standing.old ≡ standings.Undecided old → list_any (is_at site.now) old.participants ≡ true → AreParticipants db old.participants → IsIn db (standings.Undecided old) → result ≡ Err refusals.Full
-        → IsLong db (λ choice. on_known (txn_name txn) (undecided_of db old) site.now true choice (replied db reply.now)) }
+    ensures full { (db : Database) (n : ℕ) (old : UndecidedNow) → IsOfCatalogue db → InForce db n catalog.now → standing.old ≡ standings.Undecided old → list_any (is_at site.now) old.participants ≡ true → AreParticipants db old.participants → IsIn db n (standings.Undecided old) → result ≡ Err refusals.Full
+        → IsLong db (λ choice. on_known (txn_name txn) (undecided_of db old) site.now true choice (replied db site.now reply.now)) }
     ensures same { OnErr result (standing.new ≡ standing.old) }
 {
     match standing {
@@ -301,12 +300,12 @@ fn resume(
     reply: &Reply,
 ) -> Result<Progress, Refusal>
     requires { may_send ((volatile_of volatile.old).standing txn) site.now reply.now ≡ true }
-    ensures resume_on { (db : Database) (kept : DeskContent) (old : UndecidedNow) → IsOfCatalogue db → db.catalogue ≡ catalogue_of catalog.now → Fits db kept (volatile_of volatile.old)
+    ensures resume_on { (db : Database) (kept : DeskContent) (old : UndecidedNow) → IsOfCatalogue db → InForce db volatile.old.version catalog.now → Fits db kept (volatile_of volatile.old)
         → (volatile_of volatile.old).standing txn ≡ Some (standings.Undecided old) → list_any (is_at site.now) old.participants ≡ true
-        → IfOk result (λ step. GoesOn db volatile.old (volatile_of volatile.new) txn step (λ choice. on_desk_letter (txn_name txn) site.now true choice (replied db reply.now) (txn_in db (volatile_of volatile.old) txn))) }
-    ensures full { (db : Database) (kept : DeskContent) (old : UndecidedNow) → IsOfCatalogue db → db.catalogue ≡ catalogue_of catalog.now → Fits db kept (volatile_of volatile.old)
+        → IfOk result (λ step. GoesOn db volatile.old (volatile_of volatile.new) txn step (λ choice. on_desk_letter (txn_name txn) site.now true choice (replied db site.now reply.now) (txn_in db (volatile_of volatile.old) txn))) }
+    ensures full { (db : Database) (kept : DeskContent) (old : UndecidedNow) → IsOfCatalogue db → InForce db volatile.old.version catalog.now → Fits db kept (volatile_of volatile.old)
         → (volatile_of volatile.old).standing txn ≡ Some (standings.Undecided old) → list_any (is_at site.now) old.participants ≡ true → result ≡ Err refusals.Full
-        → IsLong db (λ choice. on_desk_letter (txn_name txn) site.now true choice (replied db reply.now) (txn_in db (volatile_of volatile.old) txn)) }
+        → IsLong db (λ choice. on_desk_letter (txn_name txn) site.now true choice (replied db site.now reply.now) (txn_in db (volatile_of volatile.old) txn)) }
     ensures err { OnErr result (volatile_of volatile.new ≡ volatile_of volatile.old) }
     ensures ordered { IsOrdered txn_cmp volatile.old.standings }
 {
@@ -338,11 +337,11 @@ pub(crate) fn on_reply(
     reply: &Reply,
 ) -> Result<Out, Refusal>
     requires { may_send ((volatile_of volatile.old).standing txn) site.now reply.now ≡ true }
-    ensures ok { (db : Database) (kept : DeskContent) → IsOfCatalogue db → db.catalogue ≡ catalogue_of catalog.now → Fits db kept (volatile_of volatile.old) → list_any (λ other. pointwise nat_eq other site.now) db.sites ≡ true
-        → IfOk result (λ out. Takes db (volatile_of volatile.old) kept (volatile_of volatile.new) txn (λ choice. on_desk_letter (txn_name txn) site.now true choice (replied db reply.now) (txn_in db (volatile_of volatile.old) txn)) out.letters out.replies) }
+    ensures ok { (db : Database) (kept : DeskContent) → IsOfCatalogue db → InForce db volatile.old.version catalog.now → Fits db kept (volatile_of volatile.old) → list_any (λ other. pointwise nat_eq other site.now) db.sites ≡ true
+        → IfOk result (λ out. Takes db (volatile_of volatile.old) kept (volatile_of volatile.new) txn (λ choice. on_desk_letter (txn_name txn) site.now true choice (replied db site.now reply.now) (txn_in db (volatile_of volatile.old) txn)) out.letters out.replies) }
     ensures steps { StepsBelowLimits volatile.old volatile.new result }
-    ensures full { (db : Database) (kept : DeskContent) → IsOfCatalogue db → db.catalogue ≡ catalogue_of catalog.now → Fits db kept (volatile_of volatile.old) → list_any (λ other. pointwise nat_eq other site.now) db.sites ≡ true → result ≡ Err refusals.Full
-        → IsPastLimits db (volatile_of volatile.old) txn (λ choice. on_desk_letter (txn_name txn) site.now true choice (replied db reply.now) (txn_in db (volatile_of volatile.old) txn)) }
+    ensures full { (db : Database) (kept : DeskContent) → IsOfCatalogue db → InForce db volatile.old.version catalog.now → Fits db kept (volatile_of volatile.old) → list_any (λ other. pointwise nat_eq other site.now) db.sites ≡ true → result ≡ Err refusals.Full
+        → IsPastLimits db (volatile_of volatile.old) txn (λ choice. on_desk_letter (txn_name txn) site.now true choice (replied db site.now reply.now) (txn_in db (volatile_of volatile.old) txn)) }
 {
     let room = room(volatile.alloc)?;
     match resume(volatile, catalog, txn, site, reply) {

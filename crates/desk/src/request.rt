@@ -1,6 +1,6 @@
 //! What clients ask: a transaction begins, states a statement, and ends.
 
-ghost use Rattle.std.specs.Prelude.{◌≡◌, ◌<◌, ◌⊎◌, [], vec_len, false, None, Some, true, IfOk, IfErr, OnOk, OnErr, ◌≢◌, Err, map};
+ghost use Rattle.std.specs.Prelude.{◌≡◌, ℕ, ◌<◌, ◌⊎◌, [], vec_len, false, None, Some, true, IfOk, IfErr, OnOk, OnErr, ◌≢◌, Err, map};
 ghost use Rattle.std.specs.Vec.{vec_capacity};
 ghost use Rattle.std.specs.Option.{option_copied, option_map};
 ghost use Rattle.reader.specs.Printable.{AreDistinct};
@@ -28,7 +28,7 @@ ghost use Rattle.desk.specs.declared.transaction.TxnState.TheVariants as standin
 ghost use Rattle.desk.specs.declared.transaction.Stage.TheVariants as stages;
 ghost use Rattle.desk.specs.declared.transaction.Undecided.{Undecided as UndecidedNow};
 ghost use Rattle.desk.specs.Does.{Does, DoesIn, GoesOn, IsLong, IsShort, IsUnread, Runs, RunsPastLimits, States, StatesPastLimits};
-ghost use Rattle.desk.specs.OfCatalogue.{IsOfCatalogue};
+ghost use Rattle.desk.specs.OfCatalogue.{InForce, IsOfCatalogue};
 ghost use Rattle.desk.specs.Planned.{IsOfPlan, ask_from};
 ghost use Rattle.desk.specs.Transaction.{undecided_of};
 
@@ -209,13 +209,13 @@ fn run_at_once(
     plan: &Planned,
     asks: &[Ask],
 ) -> Result<Progress, Refusal>
-    ensures does { (db : Database) → IsOfCatalogue db → db.catalogue ≡ catalogue_of catalog.now → AreParticipants db undecided.old.participants → undecided.old.stage ≡ stages.Idle
-        → IsOfPlan db statement.now plan.now asks.now → asks.now ≡ map (ask_from db.catalogue) plan.now.fetches.items → asks.now ≡ []
-        → IfOk result (λ step. Does db txn undecided.new step (λ choice. on_request (txn_name txn) choice (State statement.now) (Known (undecided_of db undecided.old)))) }
+    ensures does { (db : Database) (n : ℕ) → IsOfCatalogue db → InForce db n catalog.now → AreParticipants db undecided.old.participants → undecided.old.stage ≡ stages.Idle
+        → IsOfPlan db n statement.now plan.now asks.now → asks.now ≡ map (ask_from (db.catalogue n)) plan.now.fetches.items → asks.now ≡ []
+        → IfOk result (λ step. Does db n txn undecided.new step (λ choice. on_request (txn_name txn) choice (State (n, statement.now)) (Known (undecided_of db undecided.old)))) }
     ensures goes { GoesOnOrStays undecided.old undecided.new result }
-    ensures full { (db : Database) → IsOfCatalogue db → db.catalogue ≡ catalogue_of catalog.now → AreParticipants db undecided.old.participants → undecided.old.stage ≡ stages.Idle
-        → IsOfPlan db statement.now plan.now asks.now → asks.now ≡ map (ask_from db.catalogue) plan.now.fetches.items → asks.now ≡ [] → result ≡ Err refusals.Full
-        → IsLong db (λ choice. on_request (txn_name txn) choice (State statement.now) (Known (undecided_of db undecided.old))) }
+    ensures full { (db : Database) (n : ℕ) → IsOfCatalogue db → InForce db n catalog.now → AreParticipants db undecided.old.participants → undecided.old.stage ≡ stages.Idle
+        → IsOfPlan db n statement.now plan.now asks.now → asks.now ≡ map (ask_from (db.catalogue n)) plan.now.fetches.items → asks.now ≡ [] → result ≡ Err refusals.Full
+        → IsLong db (λ choice. on_request (txn_name txn) choice (State (n, statement.now)) (Known (undecided_of db undecided.old))) }
 {
     let worked = evaluate(alloc, catalog, statement, plan, asks)?;
     let Worked { answer, unsent } = worked;
@@ -231,21 +231,22 @@ fn start_reading(
     statement: Statement,
     plan: Planned,
     asks: Vec<Ask>,
+    version: u64,
 ) -> Result<Progress, Refusal>
-    ensures does { (db : Database) → IsOfCatalogue db → db.catalogue ≡ catalogue_of catalog.now → AreParticipants db undecided.old.participants → undecided.old.stage ≡ stages.Idle
-        → IsOfPlan db statement plan asks.items → asks.items ≡ map (ask_from db.catalogue) plan.fetches.items
-        → IfOk result (λ step. Does db txn undecided.new step (λ choice. on_request (txn_name txn) choice (State statement) (Known (undecided_of db undecided.old)))) }
+    ensures does { (db : Database) → IsOfCatalogue db → InForce db version catalog.now → AreParticipants db undecided.old.participants → undecided.old.stage ≡ stages.Idle
+        → IsOfPlan db version statement plan asks.items → asks.items ≡ map (ask_from (db.catalogue version)) plan.fetches.items
+        → IfOk result (λ step. Does db version txn undecided.new step (λ choice. on_request (txn_name txn) choice (State (version, statement)) (Known (undecided_of db undecided.old)))) }
     ensures goes { GoesOnOrStays undecided.old undecided.new result }
-    ensures full { (db : Database) → IsOfCatalogue db → db.catalogue ≡ catalogue_of catalog.now → AreParticipants db undecided.old.participants → undecided.old.stage ≡ stages.Idle
-        → IsOfPlan db statement plan asks.items → asks.items ≡ map (ask_from db.catalogue) plan.fetches.items → result ≡ Err refusals.Full
-        → IsLong db (λ choice. on_request (txn_name txn) choice (State statement) (Known (undecided_of db undecided.old))) }
+    ensures full { (db : Database) → IsOfCatalogue db → InForce db version catalog.now → AreParticipants db undecided.old.participants → undecided.old.stage ≡ stages.Idle
+        → IsOfPlan db version statement plan asks.items → asks.items ≡ map (ask_from (db.catalogue version)) plan.fetches.items → result ≡ Err refusals.Full
+        → IsLong db (λ choice. on_request (txn_name txn) choice (State (version, statement)) (Known (undecided_of db undecided.old))) }
 {
     leaf_names_are_unique();
     if asks.is_empty() {
         let none = asks.as_slice();
         return run_at_once(alloc, catalog, txn, undecided, &statement, &plan, none);
     }
-    reads(alloc, txn, undecided, statement, plan, asks)
+    reads(alloc, txn, undecided, statement, plan, asks, version)
 }
 
 /// What stands behind a transaction has a statement done.
@@ -257,19 +258,20 @@ fn start_in(
     statement: Statement,
     plan: Planned,
     asks: Vec<Ask>,
+    version: u64,
 ) -> Result<Progress, Refusal>
-    ensures does { (db : Database) (old : UndecidedNow) → IsOfCatalogue db → db.catalogue ≡ catalogue_of catalog.now → standing.old ≡ standings.Undecided old → AreParticipants db old.participants → old.stage ≡ stages.Idle
-        → IsOfPlan db statement plan asks.items → asks.items ≡ map (ask_from db.catalogue) plan.fetches.items
-        → IfOk result (λ step. DoesIn db txn standing.new step (λ choice. on_request (txn_name txn) choice (State statement) (Known (undecided_of db old)))) }
+    ensures does { (db : Database) (old : UndecidedNow) → IsOfCatalogue db → InForce db version catalog.now → standing.old ≡ standings.Undecided old → AreParticipants db old.participants → old.stage ≡ stages.Idle
+        → IsOfPlan db version statement plan asks.items → asks.items ≡ map (ask_from (db.catalogue version)) plan.fetches.items
+        → IfOk result (λ step. DoesIn db version txn standing.new step (λ choice. on_request (txn_name txn) choice (State (version, statement)) (Known (undecided_of db old)))) }
     ensures short { IsShort standing.old → OnOk result (IsShort standing.new) }
-    ensures full { (db : Database) (old : UndecidedNow) → IsOfCatalogue db → db.catalogue ≡ catalogue_of catalog.now → standing.old ≡ standings.Undecided old → AreParticipants db old.participants → old.stage ≡ stages.Idle
-        → IsOfPlan db statement plan asks.items → asks.items ≡ map (ask_from db.catalogue) plan.fetches.items → result ≡ Err refusals.Full
-        → IsLong db (λ choice. on_request (txn_name txn) choice (State statement) (Known (undecided_of db old))) }
+    ensures full { (db : Database) (old : UndecidedNow) → IsOfCatalogue db → InForce db version catalog.now → standing.old ≡ standings.Undecided old → AreParticipants db old.participants → old.stage ≡ stages.Idle
+        → IsOfPlan db version statement plan asks.items → asks.items ≡ map (ask_from (db.catalogue version)) plan.fetches.items → result ≡ Err refusals.Full
+        → IsLong db (λ choice. on_request (txn_name txn) choice (State (version, statement)) (Known (undecided_of db old))) }
     ensures same { OnErr result (standing.new ≡ standing.old) }
 {
     match standing {
         TxnState::Undecided(undecided) => {
-            start_reading(alloc, catalog, txn, undecided, statement, plan, asks)
+            start_reading(alloc, catalog, txn, undecided, statement, plan, asks, version)
         }
         TxnState::Committed(_) => Err(Refusal::NoTransaction),
     }
@@ -284,28 +286,28 @@ fn start(
     plan: Planned,
     asks: Vec<Ask>,
 ) -> Result<Progress, Refusal>
-    ensures goes { (db : Database) (kept : DeskContent) (old : UndecidedNow) → IsOfCatalogue db → db.catalogue ≡ catalogue_of catalog.now → Fits db kept (volatile_of volatile.old)
-        → (volatile_of volatile.old).standing txn ≡ Some (standings.Undecided old) → old.stage ≡ stages.Idle → IsOfPlan db statement plan asks.items → asks.items ≡ map (ask_from db.catalogue) plan.fetches.items
-        → IfOk result (λ step. GoesOn db volatile.old (volatile_of volatile.new) txn step (λ choice. on_request (txn_name txn) choice (State statement) (txn_in db (volatile_of volatile.old) txn))) }
-    ensures full { (db : Database) (kept : DeskContent) (old : UndecidedNow) → IsOfCatalogue db → db.catalogue ≡ catalogue_of catalog.now → Fits db kept (volatile_of volatile.old)
-        → (volatile_of volatile.old).standing txn ≡ Some (standings.Undecided old) → old.stage ≡ stages.Idle → IsOfPlan db statement plan asks.items → asks.items ≡ map (ask_from db.catalogue) plan.fetches.items → result ≡ Err refusals.Full
-        → IsLong db (λ choice. on_request (txn_name txn) choice (State statement) (txn_in db (volatile_of volatile.old) txn)) }
+    ensures goes { (db : Database) (kept : DeskContent) (old : UndecidedNow) → IsOfCatalogue db → InForce db volatile.old.version catalog.now → Fits db kept (volatile_of volatile.old)
+        → (volatile_of volatile.old).standing txn ≡ Some (standings.Undecided old) → old.stage ≡ stages.Idle → IsOfPlan db volatile.old.version statement plan asks.items → asks.items ≡ map (ask_from (db.catalogue volatile.old.version)) plan.fetches.items
+        → IfOk result (λ step. GoesOn db volatile.old (volatile_of volatile.new) txn step (λ choice. on_request (txn_name txn) choice (State (volatile.old.version, statement)) (txn_in db (volatile_of volatile.old) txn))) }
+    ensures full { (db : Database) (kept : DeskContent) (old : UndecidedNow) → IsOfCatalogue db → InForce db volatile.old.version catalog.now → Fits db kept (volatile_of volatile.old)
+        → (volatile_of volatile.old).standing txn ≡ Some (standings.Undecided old) → old.stage ≡ stages.Idle → IsOfPlan db volatile.old.version statement plan asks.items → asks.items ≡ map (ask_from (db.catalogue volatile.old.version)) plan.fetches.items → result ≡ Err refusals.Full
+        → IsLong db (λ choice. on_request (txn_name txn) choice (State (volatile.old.version, statement)) (txn_in db (volatile_of volatile.old) txn)) }
     ensures err { OnErr result (volatile_of volatile.new ≡ volatile_of volatile.old) }
     ensures ordered { IsOrdered txn_cmp volatile.old.standings }
 {
-    let alloc = volatile.alloc;
+    let (alloc, version) = (volatile.alloc, volatile.version);
     let _count = volatile.standings.len();
     match volatile.standings.get_mut(&txn) {
-        Some(standing) => start_in(alloc, catalog, txn, standing, statement, plan, asks),
+        Some(standing) => start_in(alloc, catalog, txn, standing, statement, plan, asks, version),
         None => Err(Refusal::NoTransaction),
     }
 }
 
 /// Whether a transaction may state something: it is undecided, and between two statements.
 fn may_state(volatile: &Volatile, txn: &Txn) -> Result<(), Refusal>
-    ensures accepted { (db : Database) (statement : StatementNow) → OnOk result (refusal (State statement) (txn_in db (volatile_of volatile.now) txn.now) ≡ None) }
+    ensures accepted { (db : Database) (stated : ℕ × StatementNow) → OnOk result (refusal (State stated) (txn_in db (volatile_of volatile.now) txn.now) ≡ None) }
     ensures idle { OnOk result (option_map (λ found. found.stage) (open_in ((volatile_of volatile.now).standing txn.now)) ≡ Some stages.Idle) }
-    ensures told { (db : Database) (statement : StatementNow) → IfErr result (λ told. option_map refused_as (refusal (State statement) (txn_in db (volatile_of volatile.now) txn.now)) ≡ Some told) }
+    ensures told { (db : Database) (stated : ℕ × StatementNow) → IfErr result (λ told. option_map refused_as (refusal (State stated) (txn_in db (volatile_of volatile.now) txn.now)) ≡ Some told) }
     ensures own { result ≢ Err refusals.Full }
 {
     let Some(undecided) = undecided_of(volatile, txn) else {
@@ -388,12 +390,12 @@ pub(crate) fn call_run(
     statement: &Statement,
 ) -> Result<Out, Refusal>
     requires { IsStatementOf (schemas_of (catalogue_of catalog.now)) statement.now }
-    ensures ok { (db : Database) (kept : DeskContent) → IsOfCatalogue db → db.catalogue ≡ catalogue_of catalog.now → Fits db kept (volatile_of volatile.old)
+    ensures ok { (db : Database) (kept : DeskContent) → IsOfCatalogue db → InForce db volatile.old.version catalog.now → Fits db kept (volatile_of volatile.old)
         → IfOk result (λ out. Runs db (volatile_of volatile.old) kept (volatile_of volatile.new) txn statement.now out.letters out.replies) }
     ensures states { StatesInMemory volatile.old volatile.new txn result }
-    ensures told { (db : Database) → IfErr result (λ told. (told ≡ refusals.Memory) ⊎ (option_map refused_as (refusal (State statement.now) (txn_in db (volatile_of volatile.old) txn)) ≡ Some told)
-        ⊎ ((refusal (State statement.now) (txn_in db (volatile_of volatile.old) txn) ≡ None) × (told ≡ refusals.Full))) }
-    ensures full { (db : Database) (kept : DeskContent) → IsOfCatalogue db → db.catalogue ≡ catalogue_of catalog.now → Fits db kept (volatile_of volatile.old) → result ≡ Err refusals.Full
+    ensures told { (db : Database) → IfErr result (λ told. (told ≡ refusals.Memory) ⊎ (option_map refused_as (refusal (State (volatile.old.version, statement.now)) (txn_in db (volatile_of volatile.old) txn)) ≡ Some told)
+        ⊎ ((refusal (State (volatile.old.version, statement.now)) (txn_in db (volatile_of volatile.old) txn) ≡ None) × (told ≡ refusals.Full))) }
+    ensures full { (db : Database) (kept : DeskContent) → IsOfCatalogue db → InForce db volatile.old.version catalog.now → Fits db kept (volatile_of volatile.old) → result ≡ Err refusals.Full
         → RunsPastLimits db (volatile_of volatile.old) txn statement.now }
 {
     let room = room(volatile.alloc)?;
@@ -414,12 +416,12 @@ pub(crate) fn call_statement(
     txn: Txn,
     text: &str,
 ) -> Result<Out, Refusal>
-    ensures ok { (db : Database) (kept : DeskContent) → IsOfCatalogue db → db.catalogue ≡ catalogue_of catalog.now → Fits db kept (volatile_of volatile.old)
+    ensures ok { (db : Database) (kept : DeskContent) → IsOfCatalogue db → InForce db volatile.old.version catalog.now → Fits db kept (volatile_of volatile.old)
         → IfOk result (λ out. States db (volatile_of volatile.old) kept (volatile_of volatile.new) txn text.now out.letters out.replies) }
     ensures states { StatesInMemory volatile.old volatile.new txn result }
-    ensures told { (db : Database) (statement : StatementNow) → IfErr result (λ told. (told ≡ refusals.Memory) ⊎ (option_map refused_as (refusal (State statement) (txn_in db (volatile_of volatile.old) txn)) ≡ Some told)
-        ⊎ ((refusal (State statement) (txn_in db (volatile_of volatile.old) txn) ≡ None) × (IsUnread (schemas_of (catalogue_of catalog.now)) text.now told ⊎ (told ≡ refusals.Full)))) }
-    ensures full { (db : Database) (kept : DeskContent) → IsOfCatalogue db → db.catalogue ≡ catalogue_of catalog.now → Fits db kept (volatile_of volatile.old) → result ≡ Err refusals.Full
+    ensures told { (db : Database) (statement : StatementNow) → IfErr result (λ told. (told ≡ refusals.Memory) ⊎ (option_map refused_as (refusal (State (volatile.old.version, statement)) (txn_in db (volatile_of volatile.old) txn)) ≡ Some told)
+        ⊎ ((refusal (State (volatile.old.version, statement)) (txn_in db (volatile_of volatile.old) txn) ≡ None) × (IsUnread (schemas_of (catalogue_of catalog.now)) text.now told ⊎ (told ≡ refusals.Full)))) }
+    ensures full { (db : Database) (kept : DeskContent) → IsOfCatalogue db → InForce db volatile.old.version catalog.now → Fits db kept (volatile_of volatile.old) → result ≡ Err refusals.Full
         → StatesPastLimits db (volatile_of volatile.old) txn text.now }
 {
     may_state(volatile, &txn)?;

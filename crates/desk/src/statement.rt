@@ -1,6 +1,6 @@
 //! A statement: it starts, goes on as tickets and rows come, and is evaluated.
 
-ghost use Rattle.std.specs.Prelude.{◌≡◌, ◌∷◌, ◌++◌, Err, List, map, IfOk, OnErr, OnOk, [], true, None, Some, nat_eq, length, if◌then◌else◌};
+ghost use Rattle.std.specs.Prelude.{◌≡◌, ℕ, ◌∷◌, ◌++◌, Err, List, map, IfOk, OnErr, OnOk, [], true, None, Some, nat_eq, length, if◌then◌else◌};
 ghost use Rattle.protocol.specs.Desk.{Choice, states, ticket_goes, Worked as WorkedDeed, Ask as ProtocolAsk, works};
 ghost use Rattle.protocol.specs.Letters.{txn_name};
 ghost use Rattle.desk.specs.declared.fetches.Ask.{Ask as AskNow};
@@ -21,11 +21,10 @@ ghost use Rattle.desk.specs.Transition.{AreParticipants};
 ghost use Rattle.std.specs.List.{list_any};
 ghost use Rattle.meaning.specs.declared.answer.Answer.{Answer as AnswerNow};
 ghost use Rattle.desk.specs.declared.reply.Reply.TheVariants.{Answer as Answers};
-ghost use Rattle.catalog.specs.Relation.{catalogue_of};
 ghost use Rattle.protocol.specs.Language.{Name};
 ghost use Rattle.protocol.specs.Serial.{Explained};
 ghost use Rattle.desk.specs.declared.participant.Participant.{Participant};
-ghost use Rattle.desk.specs.OfCatalogue.{IsOfCatalogue};
+ghost use Rattle.desk.specs.OfCatalogue.{InForce, IsOfCatalogue};
 ghost use Rattle.meaning.specs.declared.statement.Statement.{Statement};
 ghost use Rattle.desk.specs.declared.transaction.Unsent.{Unsent as UnsentNow};
 
@@ -101,10 +100,11 @@ pub(crate) fn reads(
     statement: Statement,
     plan: Planned,
     asks: Vec<Ask>,
+    version: u64,
 ) -> Result<Progress, Refusal>
     ensures step { (db : Database) (choice : Choice (language db)) (first : AskNow) (rest : List AskNow) → asks.items ≡ first ∷ rest → AreParticipants db undecided.old.participants → HaveParticipants undecided.old.participants (ask_sites asks.items) → AsksAtHome db asks.items
-        → IfOk result (λ step. IsProgress db txn undecided.new step (states (txn_name txn) (undecided_of db undecided.old) statement (map (ask_of db) asks.items) choice)) }
-    ensures within { (db : Database) → sites_of undecided.old.participants ≡ db.sites → AsksAtHome db asks.items → IsOfPlan db statement plan asks.items → OnOk result (IsIn db (standings.Undecided undecided.new)) }
+        → IfOk result (λ step. IsProgress db txn undecided.new step (states (txn_name txn) (undecided_of db undecided.old) (version, statement) (map (ask_of db) asks.items) choice)) }
+    ensures within { (db : Database) → sites_of undecided.old.participants ≡ db.sites → AsksAtHome db asks.items → IsOfPlan db version statement plan asks.items → OnOk result (IsIn db version (standings.Undecided undecided.new)) }
     ensures sends { SendsOrStays undecided.old undecided.new (asks_go txn asks.items (visits (ask_sites asks.items) undecided.old.participants)).participants result }
 {
     let mut asks = asks;
@@ -113,6 +113,7 @@ pub(crate) fn reads(
         undecided,
         going.participants,
         Reading {
+            version,
             statement,
             plan,
             asks,
@@ -230,7 +231,7 @@ pub(crate) fn ticket_goes(
     ensures step { (db : Database) (choice : Choice (language db)) → list_any (is_at site.now) undecided.old.participants ≡ true → IsAtHome db undecided.old.stage
         → IfOk result (λ step. IsProgress db txn undecided.new step
         (ticket_goes (txn_name txn) (ticketed db undecided.old site.now ticket) choice (stage_of db undecided.old.participants undecided.old.stage))) }
-    ensures within { (db : Database) → IsIn db (standings.Undecided undecided.old) → OnOk result (IsIn db (standings.Undecided undecided.new)) }
+    ensures within { (db : Database) (n : ℕ) → IsIn db n (standings.Undecided undecided.old) → OnOk result (IsIn db n (standings.Undecided undecided.new)) }
     ensures sends { SendsOrStays undecided.old undecided.new (goes_to txn (map (changed_at site.now (with_ticket (Some ticket))) undecided.old.participants) undecided.old.stage) result }
 {
     let participants = with_ticket(alloc, undecided.participants.as_slice(), site, ticket)?;
@@ -269,10 +270,10 @@ pub(crate) fn evaluate(
     plan: &Planned,
     asks: &[Ask],
 ) -> Result<Worked, Memory>
-    ensures home { (db : Database) → IsOfCatalogue db → db.catalogue ≡ catalogue_of catalog.now → IfOk result (λ worked. UnsentAtHome db worked.unsent.items) }
-    ensures participants { (db : Database) (participants : List Participant) → IsOfCatalogue db → db.catalogue ≡ catalogue_of catalog.now → sites_of participants ≡ db.sites → IfOk result (λ worked. HaveParticipants participants (write_sites worked.unsent.items)) }
-    ensures explained { (db : Database) (t : Name) → IsOfCatalogue db → db.catalogue ≡ catalogue_of catalog.now → IsOfPlan db statement.now plan.now asks.now
-        → IfOk result (λ worked. Explained {L = language db} (WorkedDeed t statement.now (map (ask_of db) asks.now) (worked.answer, map write_of worked.unsent.items))) }
+    ensures home { (db : Database) (n : ℕ) → IsOfCatalogue db → InForce db n catalog.now → IfOk result (λ worked. UnsentAtHome db worked.unsent.items) }
+    ensures participants { (db : Database) (n : ℕ) (participants : List Participant) → IsOfCatalogue db → InForce db n catalog.now → sites_of participants ≡ db.sites → IfOk result (λ worked. HaveParticipants participants (write_sites worked.unsent.items)) }
+    ensures explained { (db : Database) (n : ℕ) (t : Name) → IsOfCatalogue db → InForce db n catalog.now → IsOfPlan db n statement.now plan.now asks.now
+        → IfOk result (λ worked. Explained {L = language db} (WorkedDeed t (n, statement.now) (map (ask_of db) asks.now) (worked.answer, map write_of worked.unsent.items))) }
 {
     leaf_names_are_unique();
     let fetched = brought(alloc, asks)?;
@@ -341,9 +342,9 @@ pub(crate) fn works(
     answer: Answer,
     unsent: Vec<Unsent>,
 ) -> Result<Progress, Refusal>
-    ensures step { (db : Database) (statement : Statement) (asks : List (ProtocolAsk (language db))) → AreParticipants db undecided.old.participants → HaveParticipants undecided.old.participants (write_sites unsent.items) → UnsentAtHome db unsent.items
-        → IfOk result (λ step. IsProgress db txn undecided.new step (works (txn_name txn) (undecided_of db undecided.old) statement asks (answer, map write_of unsent.items))) }
-    ensures within { (db : Database) → sites_of undecided.old.participants ≡ db.sites → UnsentAtHome db unsent.items → OnOk result (IsIn db (standings.Undecided undecided.new)) }
+    ensures step { (db : Database) (stated : ℕ × Statement) (asks : List (ProtocolAsk (language db))) → AreParticipants db undecided.old.participants → HaveParticipants undecided.old.participants (write_sites unsent.items) → UnsentAtHome db unsent.items
+        → IfOk result (λ step. IsProgress db txn undecided.new step (works (txn_name txn) (undecided_of db undecided.old) stated asks (answer, map write_of unsent.items))) }
+    ensures within { (db : Database) (n : ℕ) → sites_of undecided.old.participants ≡ db.sites → UnsentAtHome db unsent.items → OnOk result (IsIn db n (standings.Undecided undecided.new)) }
     ensures sends { SendsOrStays undecided.old undecided.new (writes_go txn unsent.items (visits (write_sites unsent.items) undecided.old.participants)).participants result }
 {
     let mut unsent = unsent;

@@ -30,6 +30,8 @@ use terms::write::Write;
 /// A statement whose fetches were sent, or wait for a ticket.
 #[derive(Debug, Drop)]
 pub(crate) struct Reading {
+    /// The number of the catalogue that the statement was made for.
+    pub(crate) version: u64,
     pub(crate) statement: Statement,
     pub(crate) plan: Planned,
     pub(crate) asks: Vec<Ask>,
