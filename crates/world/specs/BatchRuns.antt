@@ -1,12 +1,13 @@
 -- What transactions that a client hands over come to: the serial law holds of them, and unless something is refused each ends as it was asked for.
 use Rattle.std.specs.Prelude.{◌≡◌, Bool, true, false, List, [], ◌∷◌, ◌++◌, length, None}
-use Rattle.terms.specs.declared.leaf.Leaf.{Leaf}
 use Rattle.meaning.specs.Whole.{Relations}
 use Rattle.store.specs.Content.{Content}
 use Rattle.protocol.specs.Desk.{Deed, desk_began, is_desk_within}
-use Rattle.protocol.specs.Serial.{IsSerial}
+use Rattle.protocol.specs.Catalogues.{IsSerialList}
+use Rattle.protocol.specs.Local.{local}
 use Rattle.desk.specs.declared.refusal.Refusal.TheVariants.{Full}
-use Rattle.desk.specs.Database.{Database, language}
+use Rattle.desk.specs.Database.{Database, language, statements}
+use Rattle.desk.specs.Place.{Place}
 use Rattle.desk.specs.State.{desk_of}
 use Rattle.world.specs.declared.event.Entry.{Entry}
 use Rattle.world.specs.declared.transaction.End as ends
@@ -27,7 +28,7 @@ abbrev pub is_to_commit : ends.End → Bool
 is_to_commit end.Commit = true
 is_to_commit end.Rollback = false
 
-module _ (db : Database) (fits : Leaf → Content → Bool) where
+module _ (db : Database) (fits : Place → Content → Bool) where
   -- What a transaction comes to that begins where all is quiet: it is committed just where its client asked for that, unless it can't
   -- begin within the limits, or something was refused on the way of one of its moves.
   pub data Fares (transaction : Transaction) (outcome : outcomes.Outcome) (before after : Machines) (past : List (Deed (language db))) (moves : List Move) (made : Made db moves before after) : Type 0 where
@@ -69,4 +70,4 @@ module _ (db : Database) (fits : Leaf → Content → Bool) where
     pub ran : HasRun whole front done before middle entries past
     pub deeds : List (Deed (language db))
     pub served : IsServed db whole after ((past ++ deeds_in db ran.moves before middle ran.made) ++ deeds)
-    pub serial : IsSerial whole (world_of db after [] ((past ++ deeds_in db ran.moves before middle ran.made) ++ deeds))
+    pub serial : IsSerialList local (statements db) whole (world_of db after [] ((past ++ deeds_in db ran.moves before middle ran.made) ++ deeds))

@@ -6,26 +6,28 @@ use Rattle.meaning.specs.Whole.{Relations}
 use Rattle.reader.specs.declared.command.Command.TheVariants.{Run}
 use Rattle.reader.specs.Command.{IsTextOf}
 use Rattle.store.specs.declared.name.Txn.{Txn}
+use Rattle.protocol.specs.Catalogues.{IsSerialList}
 use Rattle.protocol.specs.Client.{IsReached}
 use Rattle.protocol.specs.Desk as protocol
 use Rattle.protocol.specs.Letters.{txn_name}
-use Rattle.protocol.specs.Serial.{IsSerial}
+use Rattle.protocol.specs.Local.{local}
 use Rattle.desk.specs.declared.reply.Notice.{Notice}
 pub use Rattle.desk.specs.Reply.{is_answer, is_commit, is_end, tells}
 use Rattle.desk.specs.Request.{txn_in}
-use Rattle.desk.specs.Database.{Database, language}
+use Rattle.desk.specs.Database.{Database, language, statements}
 use Rattle.desk.specs.State.{desk_of}
 use Rattle.world.specs.Mailbox.{Serves, To_begin, To_do}
 use Rattle.world.specs.Machines.{AreFit, Machines, world_of}
 
--- after some list of events, of which one client forgets the letters that have gone, the world is that of these machines and deeds
+-- after some list of events, of which one client forgets the letters that have gone, the world is that of these machines and deeds. version: the number of the catalogue in force as it opened
 pub record IsServed (db : Database) (whole : Relations) (machines : Machines) (past : List (protocol.Deed (language db))) : Type 0 where
-  pub reached : IsReached whole (world_of db machines [] past)
+  pub version : ℕ
+  pub reached : IsReached (version, whole) (world_of db machines [] past)
   pub fit : AreFit db machines
 
 -- the serial law of the machines at hand
 abbrev pub ServedIsSerial : Database → Type 0
-ServedIsSerial db = (whole : Relations) (machines : Machines) (past : List (protocol.Deed (language db))) → IsServed db whole machines past → IsSerial whole (world_of db machines [] past)
+ServedIsSerial db = (whole : Relations) (machines : Machines) (past : List (protocol.Deed (language db))) → IsServed db whole machines past → IsSerialList local (statements db) whole (world_of db machines [] past)
 
 -- so once more has been done
 pub record IsServedOn (db : Database) (whole : Relations) (machines : Machines) (past : List (protocol.Deed (language db))) : Type 0 where
@@ -53,9 +55,9 @@ pub record DoesAsk (db : Database) (request : protocol.Request (language db)) (t
 abbrev pub autocommit_reply : List Notice → List Notice
 autocommit_reply heard = if tells is_commit heard then filter (λ notice. is_answer notice.reply) heard else filter (λ notice. is_end notice.reply) heard
 
--- a statement of this text is stated
+-- a statement of this text is stated, for the catalogue in force
 pub record DoesState (db : Database) (text : List ℕ) (txn : Txn) (before after : Machines) (heard : List Notice) : Type 0 where
   pub statement : Statement
   pub spelled : IsTextOf db.schemas text (Run statement)
   pub fits : IsStatementOf db.schemas statement
-  pub asks : DoesAsk db (protocol.State statement) txn before after heard
+  pub asks : DoesAsk db (protocol.State (before.table.version, statement)) txn before after heard

@@ -4,7 +4,6 @@ use Rattle.meaning.specs.declared.answer.Answer.{Answer as AnswerNow}
 use Rattle.meaning.specs.declared.schema.RelationSchema.{RelationSchema}
 use Rattle.meaning.specs.declared.statement.Statement.{Statement}
 use Rattle.meaning.specs.Whole.{Relations}
-use Rattle.terms.specs.declared.leaf.Leaf.{Leaf}
 use Rattle.reader.specs.declared.command.Command as commands
 use Rattle.reader.specs.declared.command.Command.TheVariants as command
 use Rattle.reader.specs.Breaks.{TextBreaks}
@@ -20,6 +19,7 @@ use Rattle.desk.specs.declared.refusal.Refusal.TheVariants as refusal
 use Rattle.desk.specs.declared.reply.Notice.{Notice}
 use Rattle.desk.specs.declared.reply.Reply.TheVariants.{Answer, Begun, Committed, RolledBack}
 use Rattle.desk.specs.Database.{Database, language}
+use Rattle.desk.specs.Place.{Place}
 use Rattle.desk.specs.Does.{StatesPastLimits}
 use Rattle.desk.specs.State.{notice_of}
 use Rattle.world.specs.declared.event.Call as calls
@@ -123,7 +123,7 @@ pub data Outcome (db : Database) (text : List ℕ) (current later : Option Txn) 
 -- it: with all that was before, the committed transactions, one after another over the whole relations, give the answers that were heard and what the settled
 -- fragments rebuild. Where it is refused nothing is committed. A database that stood stands again, and the command comes to its outcome. entries, past: what was
 -- asked for and heard, and what had happened, before it
-pub record Executes (db : Database) (fits : Leaf → Content → Bool) (whole : Relations) (text : List ℕ) (current : Option Txn) (before : Machines) (later : Option Txn) (after : Machines) (past : List (Deed (language db))) (reply : Result (List Notice) refusals.Refusal) : Type 0 where
+pub record Executes (db : Database) (fits : Place → Content → Bool) (whole : Relations) (text : List ℕ) (current : Option Txn) (before : Machines) (later : Option Txn) (after : Machines) (past : List (Deed (language db))) (reply : Result (List Notice) refusals.Refusal) : Type 0 where
   pub moves : List Move
   pub made : Made db moves before after
   pub command : IsCommand db.schemas text current later moves reply
@@ -147,6 +147,6 @@ pub record MovesFollow (db : Database) : Type 0 where
   pub serial : (whole : Relations) (machines : Machines) (entries : List Entry) (past : List (Deed (language db))) → Tells db entries past → IsServed db whole machines past → IsSerialRun db whole machines entries
 
 -- commands of a client's database that is served
-abbrev pub CommandsFollow : (db : Database) → (Leaf → Content → Bool) → Type 0
+abbrev pub CommandsFollow : (db : Database) → (Place → Content → Bool) → Type 0
 CommandsFollow db fits = (whole : Relations) (text : List ℕ) (current later : Option Txn) (before after : Machines) (past : List (Deed (language db))) (reply : Result (List Notice) refusals.Refusal) (moves : List Move) → IsServed db whole before past → Made db moves before after →
     IsCommand db.schemas text current later moves reply → Executes db fits whole text current before later after past reply

@@ -3,11 +3,10 @@ use Rattle.std.specs.Prelude.{◌≡◌, List, [], ◌∷◌, map}
 use Rattle.meaning.specs.declared.statement.Statement.{Statement}
 use Rattle.meaning.specs.Whole.{Relations}
 use Rattle.store.specs.declared.name.Txn.{Txn}
-use Rattle.protocol.specs.Serial.{serial_answers}
-use Rattle.desk.specs.Database.{Database, language}
+use Rattle.desk.specs.Database.{Database}
 use Rattle.world.specs.declared.event.Entry.{Entry}
 use Rattle.world.specs.declared.committed.Committed.{Committed}
-use Rattle.world.specs.Runs.{AreTexts}
+use Rattle.world.specs.Runs.{AreTexts, answers_after}
 use Rattle.world.specs.Replies.{answers_to, texts_of}
 
 -- what entries tell of a transaction
@@ -25,4 +24,4 @@ AreStatedBy db (one ∷ all) (ss ∷ rest) = AreTexts db one.texts ss × AreStat
 pub record AnswerInTurn (db : Database) (whole : Relations) (all : List Committed) : Type 0 where
   pub statements : List (List Statement)
   pub stated : AreStatedBy db all statements
-  pub answers : map (λ one. one.answers) all ≡ serial_answers (language db) statements whole
+  pub answers : map (λ one. one.answers) all ≡ answers_after db statements whole

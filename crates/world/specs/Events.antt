@@ -16,18 +16,18 @@ use Rattle.world.specs.declared.event.Event as events
 use Rattle.world.specs.declared.event.Event.TheVariants as event
 use Rattle.world.specs.Posted.{letters_in}
 
--- an event; a statement's text is that of the statement. kept: whether the store did not refuse
-abbrev pub IsEvent : (db : Database) → events.Event → Bool → world.Event (language db) → Type 0
-IsEvent db (event.Call call.Begin) kept e = e ≡ world.Begin
-IsEvent db (event.Call (call.State txn text)) kept e = (statement : Statement) × (choice : protocol.Choice (language db)) × (IsTextOf db.schemas text (command.Run statement) × (e ≡ world.Call (txn_name txn) (protocol.State statement) choice))
-IsEvent db (event.Call (call.Commit txn)) kept e = (choice : protocol.Choice (language db)) × (e ≡ world.Call (txn_name txn) protocol.Commit_call choice)
-IsEvent db (event.Call (call.Rollback txn)) kept e = (choice : protocol.Choice (language db)) × (e ≡ world.Call (txn_name txn) protocol.Rollback choice)
-IsEvent db (event.Call (call.GiveUp txn)) kept e = (choice : protocol.Choice (language db)) × (e ≡ world.Call (txn_name txn) protocol.Give_up choice)
-IsEvent db (event.Deliver number whether) kept e = (choice : protocol.Choice (language db)) × (e ≡ world.Deliver number kept choice)
-IsEvent db (event.SiteGivesUp site ticket) kept e = e ≡ world.Site_gives_up site (name_of ticket)
-IsEvent db (event.SiteInquires site) kept e = e ≡ world.Site_inquires site
-IsEvent db (event.SiteRestarts site whether) kept e = e ≡ world.Site_restarts site whether
-IsEvent db (event.DeskRestarts whether) kept e = e ≡ world.Desk_restarts whether
+-- an event; a statement's text is that of the statement, and it is for the catalogue in force. n: the number of that; kept: whether the store did not refuse
+abbrev pub IsEvent : (db : Database) → ℕ → events.Event → Bool → world.Event (language db) → Type 0
+IsEvent db n (event.Call call.Begin) kept e = e ≡ world.Begin
+IsEvent db n (event.Call (call.State txn text)) kept e = (statement : Statement) × (choice : protocol.Choice (language db)) × (IsTextOf db.schemas text (command.Run statement) × (e ≡ world.Call (txn_name txn) (protocol.State (n, statement)) choice))
+IsEvent db n (event.Call (call.Commit txn)) kept e = (choice : protocol.Choice (language db)) × (e ≡ world.Call (txn_name txn) protocol.Commit_call choice)
+IsEvent db n (event.Call (call.Rollback txn)) kept e = (choice : protocol.Choice (language db)) × (e ≡ world.Call (txn_name txn) protocol.Rollback choice)
+IsEvent db n (event.Call (call.GiveUp txn)) kept e = (choice : protocol.Choice (language db)) × (e ≡ world.Call (txn_name txn) protocol.Give_up choice)
+IsEvent db n (event.Deliver number whether) kept e = (choice : protocol.Choice (language db)) × (e ≡ world.Deliver number kept choice)
+IsEvent db n (event.SiteGivesUp site ticket) kept e = e ≡ world.Site_gives_up site (name_of ticket)
+IsEvent db n (event.SiteInquires site) kept e = e ≡ world.Site_inquires site
+IsEvent db n (event.SiteRestarts site whether) kept e = e ≡ world.Site_restarts site whether
+IsEvent db n (event.DeskRestarts whether) kept e = e ≡ world.Desk_restarts whether
 
 -- whether no site has the name
 abbrev pub is_nowhere : List (List ℕ) → List ℕ → Bool

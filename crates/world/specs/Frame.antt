@@ -1,12 +1,11 @@
 -- What a call leaves of the machines of a database, and of what its clauses speak.
 use Rattle.std.specs.Prelude.{◌≡◌, ◌≤◌, ◌⊎◌, ℕ, true, List, map, Result, Ok, Err, IfErr, IfOk, OnErr}
 use Rattle.std.specs.List.{AllByRecursion, AllZip}
-use Rattle.catalog.specs.Relation.{catalogue_of}
 use Rattle.meaning.specs.Whole.{Relations}
 use Rattle.protocol.specs.Client.{ReachedLaw}
 use Rattle.protocol.specs.Desk.{Deed}
 use Rattle.desk.specs.Database.{Database, language}
-use Rattle.desk.specs.OfCatalogue.{IsOfCatalogue}
+use Rattle.desk.specs.OfCatalogue.{InForce, IsOfCatalogue}
 use Rattle.world.specs.declared.machines.Machines as code
 use Rattle.site.specs.declared.site.Site.{Site}
 use Rattle.desk.specs.declared.refusal.Refusal.{Refusal}
@@ -36,14 +35,14 @@ pub record CallsNoStore {D S : Type 0} (old new : code.Machines D S) : Type 0 wh
   pub desk : new.desk.store ≡ old.desk.store
   pub sites : map (λ site. site.store) new.sites.items ≡ map (λ site. site.store) old.sites.items
 
--- something holds of each database of the catalogue, of the machines before a call and after it, where stores are clean now and were sound, and memory fitted them.
+-- something holds of each database in which the catalogue is in force, of the machines before a call and after it, where stores are clean now and were sound, and memory fitted them.
 -- clean, sound: of the stores; view: the machines as the protocol sees them
 abbrev pub OverDatabase : {D S : Type 0} → (code.Machines D S → Type 0) → (code.Machines D S → Type 0) → (code.Machines D S → Machines) → code.Machines D S → code.Machines D S → (Database → Machines → Machines → Type 0) → Type 0
-OverDatabase clean sound view old new P = (db : Database) → IsOfCatalogue db → db.catalogue ≡ catalogue_of old.desk.catalog → clean new → sound old → AreFit db (view old) → P db (view old) (view new)
+OverDatabase clean sound view old new P = (db : Database) → IsOfCatalogue db → InForce db old.desk.volatile.version old.desk.catalog → clean new → sound old → AreFit db (view old) → P db (view old) (view new)
 
 -- machines that one client was served by go on to be such
 abbrev pub StaysServed : {D S : Type 0} → (code.Machines D S → Type 0) → (code.Machines D S → Type 0) → (code.Machines D S → Machines) → code.Machines D S → code.Machines D S → Type 0
-StaysServed clean sound view old new = (db : Database) (whole : Relations) (past : List (Deed (language db))) → IsOfCatalogue db → ReachedLaw (language db) → db.catalogue ≡ catalogue_of old.desk.catalog → clean new → sound old
+StaysServed clean sound view old new = (db : Database) (whole : Relations) (past : List (Deed (language db))) → IsOfCatalogue db → ReachedLaw (language db) → InForce db old.desk.volatile.version old.desk.catalog → clean new → sound old
     → IsServed db whole (view old) past → IsServedOn db whole (view new) past
 
 -- a call that stops the database has a reason among its stores, where these are clean now and were sound. refused: how often each has refused

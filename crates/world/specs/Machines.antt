@@ -16,13 +16,14 @@ use Rattle.store.specs.declared.name.Txn.{Txn}
 use Rattle.store.specs.DeskContent.{DeskContent}
 use Rattle.protocol.specs.StatementCourse.{passes}
 use Rattle.protocol.specs.Desk.{Choice, Deed, Request, State, desk_after, is_desk_within, on_request, refusal}
+use Rattle.protocol.specs.Home.{AreHomed}
 use Rattle.protocol.specs.Letter.{Letter}
 use Rattle.protocol.specs.Serial.{AllExplained}
 use Rattle.protocol.specs.Letters.{name_of, txn_name}
 use Rattle.protocol.specs.World.{World, called, comes, gives_up, inquires, restarts}
 use Rattle.desk.specs.declared.reply.Notice.{Notice}
 use Rattle.desk.specs.Request.{txn_in}
-use Rattle.desk.specs.Database.{Database, language, sent, statements}
+use Rattle.desk.specs.Database.{Database, IsPlace, language, sent, statements}
 use Rattle.desk.specs.State.{Fits, VolatileState, desk_of, notice_of}
 use Rattle.desk.specs.Transition.{told}
 use Rattle.world.specs.declared.sites.SiteAction as doing
@@ -37,17 +38,21 @@ pub record Machines : Type 0 where
   pub seats : List Seat
   pub refused : List ℕ
 
--- the world of the machines, with the one catalogue in force; letters: those that wait, or all that were sent, past: what happened to transactions
+-- the world of the machines, with the catalogue in force whose number the coordinator's store keeps; letters: those that wait, or all that were sent, past: what happened to transactions
 abbrev pub world_of : (db : Database) → Machines → List (Letter (language db)) → List (Deed (language db)) → World (language db)
-world_of db machines letters past = record { desk = desk_of db machines.table; sites = states_of (statements db) machines.seats; letters = letters; past = past; version = 1 }
+world_of db machines letters past = record { desk = desk_of db machines.table; sites = states_of (statements db) machines.seats; letters = letters; past = past; version = machines.table.version }
 
--- what is in memory fits what the stores keep, and the sites are those of the database, each with the leaves that are at home there
+-- what is in memory fits what the stores keep, and the sites are those of the database, each with the leaves that some catalogue puts there
 pub record AreFit (db : Database) (machines : Machines) : Type 0 where
   pub names : map (λ seat. seat.name) machines.seats ≡ db.sites
-  pub leaves : AllByRecursion (λ seat. (leaf : Leaf) → db.home leaf ≡ seat.name → list_any (λ other. is_eq (leaf_cmp leaf other)) seat.leaves ≡ true) machines.seats
+  pub leaves : AllByRecursion (λ seat. (leaf : Leaf) → IsPlace db (seat.name, leaf) → list_any (λ other. is_eq (leaf_cmp leaf other)) seat.leaves ≡ true) machines.seats
   pub desk : Fits db machines.desk machines.table
   pub within : is_desk_within (desk_of db machines.table) ≡ true
   pub sites : AllByRecursion IsSeated machines.seats
+
+-- operations that are sent are of leaves at their sites
+abbrev pub AreOfPlaces : (db : Database) → List letters.Letter → Type 0
+AreOfPlaces db out = AreHomed (language db) (IsPlace db) (map (sent db) out)
 
 -- whether a letter is for a site
 abbrev pub is_order : bodies.Body → Bool
@@ -76,11 +81,13 @@ happens_at db (Inquire site) kept choice w = inquires w site
 happens_at db (Restart site) kept choice w = restarts w site
 
 -- a step of the machines is one of the protocol's world, whatever letters wait and whatever happened before: these
--- letters are put out, deeds are done, among them no statement that isn't explained, and clients hear of them
+-- letters are put out, their operations of leaves at their sites, deeds are done, among them no statement that isn't explained, and clients hear of them; the same catalogue is in force
 pub record Leads (db : Database) (step : World (language db) → World (language db)) (before after : Machines) (out : List letters.Letter) (notices : List Notice) : Type 0 where
   pub deeds : List (Deed (language db))
   pub fit : AreFit db after
   pub is : (waiting : List (Letter (language db))) (past : List (Deed (language db))) → step (world_of db before waiting past) ≡ world_of db after (waiting ++ map (sent db) out) (past ++ deeds)
+  pub version : after.table.version ≡ before.table.version
+  pub placed : AreOfPlaces db out
   pub explained : AllExplained deeds
   pub replies : map notice_of notices ≡ filter_map (told db) deeds
 
@@ -91,13 +98,13 @@ pub record Asked (db : Database) (txn : Txn) (choice : Choice (language db)) (re
   pub within : is_desk_within (desk_after (desk_of db before.table) (txn_name txn) (on_request (txn_name txn) choice request (txn_in db before.table txn)).txn) ≡ true
   pub all : leads.deeds ≡ (on_request (txn_name txn) choice request (txn_in db before.table txn)).deeds
 
--- a statement of a transaction is stated: the text is its text, and it is one over the relations of the database
+-- a statement of a transaction is stated, for the catalogue in force: the text is its text, and it is one over the relations of the database
 pub record Stated (db : Database) (txn : Txn) (text : List ℕ) (before after : Machines) (out : List letters.Letter) (notices : List Notice) : Type 0 where
   pub statement : Statement
   pub choice : Choice (language db)
   pub spelled : IsTextOf db.schemas text (command.Run statement)
   pub fits : IsStatementOf db.schemas statement
-  pub asked : Asked db txn choice (State statement) before after out notices
+  pub asked : Asked db txn choice (State (before.table.version, statement)) before after out notices
 
 -- a letter comes to the machine that it is for, and its step is within the limits; kept: whether the store call that it makes is kept
 pub record Came (db : Database) (letter : letters.Letter) (kept : Bool) (before after : Machines) (out : List letters.Letter) (notices : List Notice) : Type 0 where

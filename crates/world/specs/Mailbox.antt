@@ -5,7 +5,6 @@ use Rattle.store.specs.declared.letter.Letter as letters
 pub use Rattle.protocol.specs.Delivery.{AllFounded, AllKept, Ask, Coming, Passed_over, Taken, To_begin, To_do, Turned_away, all_come, asked, come, done_with, first_comes}
 use Rattle.protocol.specs.Delivery.{SomeHinder}
 use Rattle.protocol.specs.Desk.{Deed}
-use Rattle.protocol.specs.Home.{AreHomed}
 use Rattle.protocol.specs.Letter.{Letter}
 use Rattle.protocol.specs.Serial.{AllExplained}
 use Rattle.protocol.specs.World.{World}
@@ -14,7 +13,7 @@ use Rattle.desk.specs.Database.{Database, language, sent}
 use Rattle.desk.specs.State.{notice_of}
 use Rattle.desk.specs.Transition.{told}
 use Rattle.world.specs.Counted.{HaveRefused, KeptUnless, NoFewer}
-use Rattle.world.specs.Machines.{AreFit, Machines, world_of}
+use Rattle.world.specs.Machines.{AreFit, AreOfPlaces, Machines, world_of}
 
 -- machines, the letters that wait, oldest first, and what the client has heard
 pub record Scene : Type 0 where
@@ -22,14 +21,15 @@ pub record Scene : Type 0 where
   pub waiting : List letters.Letter
   pub heard : List Notice
 
--- a step of the machines, after which some letters come, and each store call is kept unless a store refuses: deeds are done, among them no statement that isn't explained, and the client hears of them. Where operations that wait are for the sites that keep their leaves, so they are later, and what becomes of each letter has its reason
+-- a step of the machines, after which some letters come, and each store call is kept unless a store refuses: deeds are done, among them no statement that isn't explained, and the client hears of them. Where operations that wait are of leaves at their sites, so they are later, and what becomes of each letter has its reason. The same catalogue is in force
 pub record Goes (db : Database) (step : World (language db) → World (language db)) (before after : Scene) : Type 0 where
   pub comings : List (Coming (language db))
   pub deeds : List (Deed (language db))
   pub fit : AreFit db after.machines
   pub is : (past : List (Deed (language db))) → all_come comings (step (world_of db before.machines (map (sent db) before.waiting) past)) ≡ world_of db after.machines (map (sent db) after.waiting) (past ++ deeds)
-  pub homed : AreHomed (map (sent db) before.waiting) → AreHomed (map (sent db) after.waiting)
-  pub founded : AreHomed (map (sent db) before.waiting) → (past : List (Deed (language db))) → AllFounded comings (step (world_of db before.machines (map (sent db) before.waiting) past))
+  pub version : after.machines.table.version ≡ before.machines.table.version
+  pub placed : AreOfPlaces db before.waiting → AreOfPlaces db after.waiting
+  pub founded : AreOfPlaces db before.waiting → (past : List (Deed (language db))) → AllFounded comings (step (world_of db before.machines (map (sent db) before.waiting) past))
   pub counts : NoFewer before.machines.refused after.machines.refused
   pub kept : KeptUnless comings before.machines.refused after.machines.refused
   pub explained : AllExplained deeds
@@ -42,6 +42,7 @@ pub record Breaks (db : Database) (step : World (language db) → World (languag
   pub left : List (Letter (language db))
   pub fit : AreFit db after
   pub is : (past : List (Deed (language db))) → all_come comings (step (world_of db before.machines (map (sent db) before.waiting) past)) ≡ world_of db after left (past ++ deeds)
+  pub version : after.table.version ≡ before.machines.table.version
   pub explained : AllExplained deeds
 
 -- machines at rest: nothing waits, and nothing was heard
@@ -53,12 +54,13 @@ abbrev pub settled : Machines → List Notice → Scene
 settled machines notices = record { machines = machines; waiting = []; heard = notices }
 
 -- a call of the client, after which all letters come, each once, the oldest first, until none waits; each for its reason, and each store call is kept unless a store refuses.
--- Deeds are done, among them no statement that isn't explained, and the client hears of them
+-- Deeds are done, among them no statement that isn't explained, and the client hears of them; the same catalogue is in force
 pub record Serves (db : Database) (ask : Ask (language db)) (before after : Machines) (heard : List Notice) : Type 0 where
   pub comings : List (Coming (language db))
   pub deeds : List (Deed (language db))
   pub fit : AreFit db after
   pub is : (past : List (Deed (language db))) → all_come comings (asked ask (world_of db before [] past)) ≡ world_of db after [] (past ++ deeds)
+  pub version : after.table.version ≡ before.table.version
   pub founded : (past : List (Deed (language db))) → AllFounded comings (asked ask (world_of db before [] past))
   pub counts : AllZip (λ (count now : ℕ). count ≤ now) before.refused after.refused
   pub kept : AllKept comings ⊎ HaveRefused before.refused after.refused

@@ -1,4 +1,4 @@
--- Why a letter isn't taken: its step leads past a limit, its site doesn't have the leaf that it is for, or there is no such site.
+-- Why a letter isn't taken: its step leads past a limit, no catalogue has the leaf at its site, or there is no such site.
 pub use Rattle.site.specs.Seat.{SiteTells}
 use Rattle.std.specs.Prelude.{◌≡◌, ◌⊎◌, true, false, [], Some}
 use Rattle.store.specs.declared.letter.Letter as letters
@@ -6,7 +6,7 @@ use Rattle.protocol.specs.Delivery.{CallKept, Coming, IsAtLimit, Passed_over, Ta
 use Rattle.protocol.specs.Home.{IsHomed}
 use Rattle.protocol.specs.StatementCourse.{passes}
 use Rattle.desk.specs.declared.refusal.Refusal.TheVariants as refusal
-use Rattle.desk.specs.Database.{Database, language, sent}
+use Rattle.desk.specs.Database.{Database, IsPlace, language, sent}
 use Rattle.world.specs.declared.fault.Fault as faults
 use Rattle.world.specs.declared.fault.Fault.TheVariants as fault
 use Rattle.world.specs.Machines.{Machines, is_of_site, world_of}
@@ -20,9 +20,9 @@ Tells db machines letter (fault.Site told) = (seat : Seat) × ((seat_of letter.s
 Tells db machines letter fault.Unsent = is_of_site db letter ≡ false
 
 -- ---- what becomes of a letter
--- a letter is turned away: its step leads past a limit, or it is for a site that doesn't keep its leaf
+-- a letter is turned away: its step leads past a limit, or its operation is of a leaf that no catalogue has at its site
 abbrev pub TurnsAway : Database → Machines → letters.Letter → Type 0
-TurnsAway db machines letter = IsAtLimit (world_of db machines [] []) (sent db letter) ⊎ (IsHomed (sent db letter) → ⊥)
+TurnsAway db machines letter = IsAtLimit (world_of db machines [] []) (sent db letter) ⊎ (IsHomed (language db) (IsPlace db) (sent db letter) → ⊥)
 
 -- what becomes of any letter has its reason
 abbrev pub HasReason : (db : Database) → Machines → letters.Letter → Coming (language db) → Type 0

@@ -37,8 +37,8 @@ use Rattle.world.specs.Taking.{stop_of}
 -- want of memory aside: as the protocol refuses it of this coordinator, the limits on beginnings among that, or a statement's text is read as no statement's, or leads past a limit
 abbrev pub IsRefused : (db : Database) → VolatileState → calls.Call → refusals.Refusal → Type 0
 IsRefused db table call.Begin told = (told ≡ Full) × (is_desk_within (desk_began (desk_of db table)) ≡ false)
-IsRefused db table (call.State txn text) told = (statement : Statement) → (option_map refused_as (refusal (State statement) (txn_in db table txn)) ≡ Some told) ⊎
-    ((refusal (State statement) (txn_in db table txn) ≡ None) × (IsUnread (schemas_of db.catalogue) text told ⊎ ((told ≡ Full) × StatesPastLimits db table txn text)))
+IsRefused db table (call.State txn text) told = (statement : Statement) → (option_map refused_as (refusal (State (table.version, statement)) (txn_in db table txn)) ≡ Some told) ⊎
+    ((refusal (State (table.version, statement)) (txn_in db table txn) ≡ None) × (IsUnread db.schemas text told ⊎ ((told ≡ Full) × StatesPastLimits db table txn text)))
 IsRefused db table (call.Commit txn) told = option_map refused_as (refusal Commit_call (txn_in db table txn)) ≡ Some told
 IsRefused db table (call.Rollback txn) told = option_map refused_as (refusal Rollback (txn_in db table txn)) ≡ Some told
 IsRefused db table (call.GiveUp txn) told = ⊥

@@ -64,8 +64,8 @@ abbrev pub texts_of : List Entry → Txn → List (List ℕ)
 texts_of entries txn = flat_map (λ text. if same (txn_name text.0) (txn_name txn) then text.1 ∷ [] else []) (flat_map (λ entry. text_by entry.event) entries)
 
 -- texts of transactions are those of statements, one by one
-abbrev pub AreStated : (db : Database) → List (Txn × List ℕ) → List (Name × Statement) → Type 0
-AreStated db texts statements = AllZip (λ (text : Txn × List ℕ) (stated : Name × Statement). (txn_name text.0 ≡ stated.0) × IsTextOf db.schemas text.1 (command.Run stated.1)) texts statements
+abbrev pub AreStated : (db : Database) → List (Txn × List ℕ) → List (Name × (ℕ × Statement)) → Type 0
+AreStated db texts statements = AllZip (λ (text : Txn × List ℕ) (stated : Name × (ℕ × Statement)). (txn_name text.0 ≡ stated.0) × IsTextOf db.schemas text.1 (command.Run stated.1.1)) texts statements
 
 -- the deeds that an event did: the first phase and the statement that it brings, and no others
 pub record Shows (db : Database) (what : events.Event) (deeds : List (protocol.Deed (language db))) : Type 0 where
@@ -75,5 +75,5 @@ pub record Shows (db : Database) (what : events.Event) (deeds : List (protocol.D
 -- entries tell what happened to transactions: their first phases, their statements, and what their clients heard
 pub record Tells (db : Database) (entries : List Entry) (past : List (protocol.Deed (language db))) : Type 0 where
   pub phased : map txn_name (flat_map (λ entry. phased_by entry.event) entries) ≡ phases_of past
-  pub stated : AllZip (λ (text : Txn × List ℕ) (stated : Name × Statement). (txn_name text.0 ≡ stated.0) × IsTextOf db.schemas text.1 (command.Run stated.1)) (flat_map (λ entry. text_by entry.event) entries) (stated_of past)
+  pub stated : AllZip (λ (text : Txn × List ℕ) (stated : Name × (ℕ × Statement)). (txn_name text.0 ≡ stated.0) × IsTextOf db.schemas text.1 (command.Run stated.1.1)) (flat_map (λ entry. text_by entry.event) entries) (stated_of past)
   pub heard : map notice_of (notices_in entries) ≡ filter_map (told db) past

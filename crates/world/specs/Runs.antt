@@ -1,7 +1,7 @@
 -- The machines and the entries of a world are those of a run of the protocol.
 use Rattle.std.specs.List.{AllZip}
 use Rattle.std.specs.Prelude.{◌≡◌, ◌⊎◌, ⊤, ℕ, Bool, true, false, List, ◌++◌, ◌∷◌, [], map}
-use Rattle.terms.specs.declared.leaf.Leaf.{Leaf}
+use Rattle.meaning.specs.declared.answer.Answer.{Answer}
 use Rattle.meaning.specs.declared.statement.Statement.{Statement}
 use Rattle.reader.specs.declared.command.Command.TheVariants as command
 use Rattle.reader.specs.Command.{IsTextOf}
@@ -9,26 +9,38 @@ use Rattle.store.specs.declared.name.Txn.{Txn}
 use Rattle.meaning.specs.Whole.{Relations}
 use Rattle.protocol.specs.Accepted.{Holds, IsAccepted}
 use Rattle.protocol.specs.Desk.{Choice, Deed}
-use Rattle.protocol.specs.Serial.{AllExplained, IsOpening, serial_answers, serial_whole, settled}
+use Rattle.protocol.specs.Catalogues.{serial_answers_then, serial_then}
+use Rattle.protocol.specs.Local.{local}
+use Rattle.protocol.specs.Serial.{AllExplained, IsOpening, settled}
 use Rattle.protocol.specs.World as world
 use Rattle.protocol.specs.World.{Event, World, happens, run}
 use Rattle.desk.specs.declared.reply.Out.{Out}
-use Rattle.desk.specs.Database.{Database, language, sent}
+use Rattle.desk.specs.Database.{Database, language, sent, statements}
+use Rattle.desk.specs.Place.{Place}
 use Rattle.world.specs.declared.event.Entry.{Entry}
 use Rattle.world.specs.declared.event.Event as events
 use Rattle.world.specs.declared.event.Event.TheVariants as event
 use Rattle.world.specs.Events.{IsEvent}
-use Rattle.world.specs.Machines.{AreFit, Machines, world_of}
+use Rattle.world.specs.Machines.{AreFit, AreOfPlaces, Machines, world_of}
 use Rattle.world.specs.Posted.{letters_in}
 use Rattle.world.specs.Replies.{Tells, answers_to, committed_in, texts_of}
 
--- from an opening over whole relations the events of the entries lead to the world of these machines, of the letters that the entries put out, and of deeds that they tell
+-- events are those of entries, each for the catalogue in force in the world in which it comes
+abbrev pub AreEvents : (db : Database) → World (language db) → List Entry → List (Event (language db)) → Type 0
+AreEvents db w [] [] = ⊤
+AreEvents db w [] (e ∷ events) = ⊥
+AreEvents db w (entry ∷ entries) [] = ⊥
+AreEvents db w (entry ∷ entries) (e ∷ events) = IsEvent db w.version entry.event entry.out.kept e × AreEvents db (happens w e) entries events
+
+-- from an opening over whole relations, under the catalogue of this version, the events of the entries lead to the world of these machines, of the letters that the entries put out, and of deeds that they tell; each operation that was ever sent is of a leaf at its site
 pub record IsRun (db : Database) (whole : Relations) (machines : Machines) (entries : List Entry) (past : List (Deed (language db))) : Type 0 where
+  pub version : ℕ
   pub opening : World (language db)
-  pub opens : IsOpening whole opening
+  pub opens : IsOpening (version, whole) opening
   pub events : List (Event (language db))
-  pub are : AllZip (λ (entry : Entry) (e : Event (language db)). IsEvent db entry.event entry.out.kept e) entries events
+  pub are : AreEvents db opening entries events
   pub is : run events opening ≡ world_of db machines (map (sent db) (letters_in entries)) past
+  pub placed : AreOfPlaces db (letters_in entries)
   pub explained : AllExplained past
   pub tells : Tells db entries past
   pub fit : AreFit db machines
@@ -43,7 +55,7 @@ pub record StepsOn (db : Database) (whole : Relations) (before after : Machines)
   pub entry : Entry
   pub added : more ≡ entries ++ entry ∷ []
   pub step : Event (language db)
-  pub is_event : IsEvent db entry.event entry.out.kept step
+  pub is_event : IsEvent db before.table.version entry.event entry.out.kept step
   pub accepted : IsAccepted (world_of db before (map (sent db) (letters_in entries)) past) step
   pub deeds : List (Deed (language db))
   pub is : happens (world_of db before (map (sent db) (letters_in entries)) past) step ≡ world_of db after (map (sent db) (letters_in more)) (past ++ deeds)
@@ -64,7 +76,7 @@ Spares Refused db before after entries more past other = ⊤
 
 -- the law of it, of the machines at hand
 abbrev pub RunsHold : Database → Type 0
-RunsHold db = (whole : Relations) (machines : Machines) (entries : List Entry) (past : List (Deed (language db))) → IsRun db whole machines entries past → Holds whole (world_of db machines (map (sent db) (letters_in entries)) past)
+RunsHold db = (whole : Relations) (machines : Machines) (entries : List Entry) (past : List (Deed (language db))) → (runs : IsRun db whole machines entries past) → Holds (runs.version, whole) (world_of db machines (map (sent db) (letters_in entries)) past)
 
 -- an event that has happened
 abbrev pub entry_of : events.Event → Out → Entry
@@ -74,12 +86,19 @@ entry_of what out = record { event = what; out = out }
 abbrev pub AreTexts : Database → List (List ℕ) → List Statement → Type 0
 AreTexts db texts statements = AllZip (λ (text : List ℕ) (statement : Statement). IsTextOf db.schemas text (command.Run statement)) texts statements
 
--- the committed transactions, run one after another over whole relations in the order in which their commits were asked for, give the answers that their clients heard and what the settled fragments rebuild; statements: those of the texts that they stated
+-- transactions one after another over whole relations: what they make of these, and what they answer
+abbrev pub relations_after : Database → List (List Statement) → Relations → Relations
+relations_after db txns whole = serial_then local (statements db) txns whole
+
+abbrev pub answers_after : Database → List (List Statement) → Relations → List (List Answer)
+answers_after db txns whole = serial_answers_then local (statements db) txns whole
+
+-- the committed transactions, run one after another over whole relations in the order in which their commits were asked for, give the answers that their clients heard and, under the catalogue in force, what the settled fragments rebuild, so that every other place is empty; statements: those of the texts that they stated
 pub record IsSerialRun (db : Database) (whole : Relations) (machines : Machines) (entries : List Entry) : Type 0 where
   pub statements : Txn → List Statement
   pub spelled : (txn : Txn) → AllZip (λ (text : List ℕ) (statement : Statement). IsTextOf db.schemas text (command.Run statement)) (texts_of entries txn) (statements txn)
-  pub answers : map (answers_to entries) (committed_in entries) ≡ serial_answers (language db) (map statements (committed_in entries)) whole
-  pub rebuilt : (leaf : Leaf) → settled (world_of db machines [] []) leaf ≡ db.content leaf (serial_whole (language db) (map statements (committed_in entries)) whole)
+  pub answers : map (answers_to entries) (committed_in entries) ≡ answers_after db (map statements (committed_in entries)) whole
+  pub rebuilt : (place : Place) → settled (world_of db machines [] []) place ≡ db.content machines.table.version place (relations_after db (map statements (committed_in entries)) whole)
 
 -- the serial law of the machines at hand: each run of them is serial
 abbrev pub RunsAreSerial : Database → Type 0

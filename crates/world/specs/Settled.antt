@@ -15,15 +15,17 @@ use Rattle.answers.specs.declared.table.FetchRows.{FetchRows}
 use Rattle.store.specs.declared.name.Txn.{Txn}
 use Rattle.store.specs.Content.{Content, parts}
 use Rattle.protocol.specs.Desk.{Deed}
-use Rattle.protocol.specs.Serial.{committed, serial_whole, settled, statements_of}
+use Rattle.protocol.specs.Catalogues.{stated}
+use Rattle.protocol.specs.Local.{local}
+use Rattle.protocol.specs.Serial.{committed, settled}
 use Rattle.site.specs.Settled.{is_among, with_all}
 use Rattle.desk.specs.Database.{Database, language, statements}
-use Rattle.desk.specs.Planned.{site_in}
+use Rattle.desk.specs.Place.{Place, placed_in, site_in}
 use Rattle.desk.specs.State.{VolatileState}
 use Rattle.desk.specs.Acknowledge.{kept_voters}
 use Rattle.world.specs.declared.event.Entry.{Entry}
 use Rattle.world.specs.Machines.{Machines, world_of}
-use Rattle.world.specs.Runs.{AreTexts}
+use Rattle.world.specs.Runs.{AreTexts, relations_after}
 use Rattle.world.specs.Sites.{Seat, seat_of, states_of}
 use Rattle.world.specs.Replies.{committed_in, texts_of}
 
@@ -39,17 +41,17 @@ settled_at decided leaf seats place = option_map (settled_in decided leaf) (seat
 abbrev pub AreDecided : VolatileState → List Txn → Type 0
 AreDecided table decided = (txn : Txn) → is_among decided txn ≡ is_some (kept_voters (table.standing txn))
 
--- the parts that are kept of a leaf at its site, by key; none of a leaf that the catalogue doesn't have
+-- the parts that are kept of a leaf at its site in the catalogue in force, by key; none of a leaf that it doesn't have
 abbrev pub parts_kept : Database → Machines → Leaf → Option (List (List Value))
-parts_kept db machines leaf = option_map (λ site. fin.values ((states_of (statements db) machines.seats site).kept leaf)) (site_in db.catalogue leaf)
+parts_kept db machines leaf = option_map (λ site. fin.values ((states_of (statements db) machines.seats site).kept (site, leaf))) (site_in (db.catalogue machines.table.version) leaf)
 
--- the settled fragments are those of this whole database
+-- under the catalogue in force the settled fragments are those of this whole database, and there is nothing at any other place
 abbrev pub AreThoseOf : Database → Machines → Relations → Type 0
-AreThoseOf db machines whole = (leaf : Leaf) → settled (world_of db machines [] []) leaf ≡ db.content leaf whole
+AreThoseOf db machines whole = (place : Place) → settled (world_of db machines [] []) place ≡ db.content machines.table.version place whole
 
--- what a fetch brings of a whole database
-abbrev pub brought_of : Database → Relations → Fetch → FetchRows
-brought_of db whole fetch = record { leaf = fetch.leaf; parts = parts fetch.conds (db.content fetch.leaf whole) }
+-- what a fetch brings of a whole database under the catalogue of this number
+abbrev pub brought_of : Database → ℕ → Relations → Fetch → FetchRows
+brought_of db n whole fetch = record { leaf = fetch.leaf; parts = parts fetch.conds (db.content n (placed_in (db.catalogue n) fetch.leaf) whole) }
 
 -- the SELECT of all columns of a relation
 abbrev pub everything : RelationSchema → Select
@@ -61,10 +63,10 @@ rows_shown db whole name = option_map (λ relation. rows_of whole name) (relatio
 
 -- the whole database after the committed transactions, one after another; whole: the one at the opening
 abbrev pub after_committed : (db : Database) → List (Deed (language db)) → Relations → Relations
-after_committed db past whole = serial_whole (language db) (map (statements_of past) (committed past)) whole
+after_committed db past whole = relations_after db (map (stated local (statements db) past) (committed past)) whole
 
 -- rows are those of a relation after the committed transactions, one after another over whole relations; statements: those of the texts that they stated
 pub record ShowsSerial (db : Database) (whole : Relations) (entries : List Entry) (name : List ℕ) (shown : Option (List (List Value))) : Type 0 where
   pub statements : Txn → List Statement
   pub spelled : (txn : Txn) → AreTexts db (texts_of entries txn) (statements txn)
-  pub rows : shown ≡ rows_shown db (serial_whole (language db) (map statements (committed_in entries)) whole) name
+  pub rows : shown ≡ rows_shown db (relations_after db (map statements (committed_in entries)) whole) name

@@ -4,32 +4,31 @@ use Rattle.meaning.specs.declared.answer.Answer.{Answer as AnswerNow}
 use Rattle.meaning.specs.declared.statement.Statement.{Statement}
 use Rattle.meaning.specs.Statement.{IsStatementOf}
 use Rattle.meaning.specs.Whole.{Relations}
-use Rattle.terms.specs.declared.leaf.Leaf.{Leaf}
 use Rattle.store.specs.Content.{Content}
 use Rattle.protocol.specs.Client.{IsQuiet}
 use Rattle.protocol.specs.Desk.{Choice, Commit_call, Deed, Rollback, State, desk_after, is_desk_within, on_request}
 use Rattle.protocol.specs.Language.{Name}
-use Rattle.protocol.specs.WithoutRefusal.{Ready}
 use Rattle.desk.specs.declared.reply.Notice.{Notice}
 use Rattle.desk.specs.declared.reply.Reply.TheVariants.{Answer}
 use Rattle.desk.specs.Database.{Database, language}
+use Rattle.desk.specs.Place.{Place}
 use Rattle.desk.specs.State.{desk_of, notice_of}
 use Rattle.world.specs.Mailbox.{Serves, To_do}
 use Rattle.world.specs.Machines.{Machines}
 use Rattle.world.specs.Client.{IsServed, is_end, tells}
-use Rattle.world.specs.Smoothly.{rests}
+use Rattle.world.specs.Smoothly.{IsReady, rests}
 
 -- served machines, call by call, whatever is refused on the way: a statement is answered and its transaction ready for more,
 -- or the transaction has ended, its client hears so, and all is quiet; and after a commit or a rollback all is quiet
-pub record GrowsQuiet (db : Database) (fits : Leaf → Content → Bool) : Type 0 where
+pub record GrowsQuiet (db : Database) (fits : Place → Content → Bool) : Type 0 where
   pub states : (whole : Relations) (before after : Machines) (past : List (Deed (language db))) (txn : Name) (statement : Statement) (choice : Choice (language db)) (heard : List Notice) → IsServed db whole before past →
-      Ready (language db) 1 fits txn (rests db before past) → IsStatementOf db.schemas statement →
-      is_desk_within (desk_after (desk_of db before.table) txn (on_request txn choice (State statement) ((desk_of db before.table).txn txn)).txn) ≡ true →
-      (serves : Serves db (To_do txn (State statement) choice) before after heard) →
-      (Ready (language db) 1 fits txn (rests db after (past ++ serves.deeds)) × ((answer : AnswerNow) × (map notice_of heard ≡ (txn, Answer answer) ∷ []))) ⊎ (IsQuiet (rests db after (past ++ serves.deeds)) × (tells is_end heard ≡ true))
+      IsReady db fits txn before past → IsStatementOf db.schemas statement →
+      is_desk_within (desk_after (desk_of db before.table) txn (on_request txn choice (State (before.table.version, statement)) ((desk_of db before.table).txn txn)).txn) ≡ true →
+      (serves : Serves db (To_do txn (State (before.table.version, statement)) choice) before after heard) →
+      (IsReady db fits txn after (past ++ serves.deeds) × ((answer : AnswerNow) × (map notice_of heard ≡ (txn, Answer answer) ∷ []))) ⊎ (IsQuiet (rests db after (past ++ serves.deeds)) × (tells is_end heard ≡ true))
   pub commits : (whole : Relations) (before after : Machines) (past : List (Deed (language db))) (txn : Name) (choice : Choice (language db)) (heard : List Notice) → IsServed db whole before past →
-      Ready (language db) 1 fits txn (rests db before past) → (serves : Serves db (To_do txn Commit_call choice) before after heard) →
+      IsReady db fits txn before past → (serves : Serves db (To_do txn Commit_call choice) before after heard) →
       IsQuiet (rests db after (past ++ serves.deeds))
   pub rolls_back : (whole : Relations) (before after : Machines) (past : List (Deed (language db))) (txn : Name) (choice : Choice (language db)) (heard : List Notice) → IsServed db whole before past →
-      Ready (language db) 1 fits txn (rests db before past) → (serves : Serves db (To_do txn Rollback choice) before after heard) →
+      IsReady db fits txn before past → (serves : Serves db (To_do txn Rollback choice) before after heard) →
       IsQuiet (rests db after (past ++ serves.deeds))

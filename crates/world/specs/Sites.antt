@@ -1,9 +1,9 @@
 -- The sites of a database, each under its name, as the protocol's world has them.
 pub use Rattle.site.specs.Seat.{IsSeated, Seat, is_called, nobody, seat_from, state_at}
 use Rattle.std.specs.Prelude.{◌≡◌, ℕ, List, [], ◌∷◌, Option, Some, None, if◌then◌else◌}
+use Rattle.protocol.specs.Catalogues.{Catalogues, listed}
 use Rattle.protocol.specs.Local.{local}
 use Rattle.protocol.specs.Site.{SiteState}
-use Rattle.protocol.specs.Statements.{Statements, with_statements}
 
 -- the first site of a name, if there is one
 abbrev pub seat_of : List ℕ → List Seat → Option Seat
@@ -23,8 +23,9 @@ pub record Moves (name : List ℕ) (seat new : Seat) (before after : List Seat) 
   pub leaves : new.leaves ≡ seat.leaves
   pub seated : IsSeated new
 
-module _ (S : Statements local) where
+-- S: the statements over a list of catalogues
+module _ (S : Catalogues local) where
   -- the states of the sites
-  abbrev pub states_of : List Seat → List ℕ → SiteState (with_statements local S)
+  abbrev pub states_of : List Seat → List ℕ → SiteState (listed local S)
   states_of [] name = nobody S
   states_of (seat ∷ seats) name = if is_called name seat then state_at S seat else states_of seats name

@@ -40,7 +40,7 @@ pub record Steps {D S : Type 0} (db : Database) (IsClean IsSound : code.Machines
   pub entry : IfOk answer (λ entry. (entry.event ≡ what) × (new.entries.items ≡ old.entries.items ++ entry ∷ []))
   pub goes_on : (whole : Relations) (past : List (Deed (language db))) → IsClean new.machines → IsSound old.machines
       → IsRun db whole (hold old.machines) old.entries.items past → OnOk answer ((on : StepsOn db whole (hold old.machines) (hold new.machines) old.entries.items new.entries.items past)
-      × Holds whole (world_of db (hold new.machines) (map (sent db) (letters_in new.entries.items)) (past ++ on.deeds)))
+      × Holds (on.run_on.version, whole) (world_of db (hold new.machines) (map (sent db) (letters_in new.entries.items)) (past ++ on.deeds)))
   pub spared : (whole : Relations) (past : List (Deed (language db))) → IsClean new.machines → IsSound old.machines
       → IsRun db whole (hold old.machines) old.entries.items past → OnOk answer ((number : ℕ) (whether : Bool) → what ≡ event.Deliver number whether → IsSpared (HaveRefused (count old.machines).refused (count new.machines).refused) db (hold old.machines) (hold new.machines) old.entries.items new.entries.items past number whether)
   pub uncalled : may_call what ≡ false → CallsNoStore old.machines new.machines

@@ -4,16 +4,18 @@
 ghost use Rattle.catalog.specs.Catalogue.{Catalogue};
 ghost use Rattle.catalog.specs.Relation.{catalogue_of};
 ghost use Rattle.protocol.specs.Applied.{AppliedWholeAndOnce};
+ghost use Rattle.protocol.specs.Catalogues.{IsLawfulList, ListLaw};
 ghost use Rattle.protocol.specs.Client.{ReachedLaw, RoundsLaw};
 ghost use Rattle.protocol.specs.ClientLaw.{LetterByLetter};
 ghost use Rattle.protocol.specs.Fitting.{StaysFitting};
 ghost use Rattle.protocol.specs.Language.{IsLawful};
+ghost use Rattle.protocol.specs.Local.{local};
 ghost use Rattle.protocol.specs.OneClient.{OneAtATime};
 ghost use Rattle.protocol.specs.Parts.{PartThree, PartsOneAndTwo};
 ghost use Rattle.protocol.specs.Recovery.{RecoveryLaw};
 ghost use Rattle.protocol.specs.Rounds.{RoundByLetter};
 ghost use Rattle.protocol.specs.Serial.{SerialLaw};
-ghost use Rattle.desk.specs.Database.{language};
+ghost use Rattle.desk.specs.Database.{language, statements};
 ghost use Rattle.desk.specs.CatalogueDatabase.{IsBase, database, fits};
 ghost use Rattle.world.specs.Commands.{CommandsFollow, MovesFollow};
 ghost use Rattle.world.specs.Executed.{ObeysUnlessRefused};
@@ -45,10 +47,11 @@ pub fn database_is_of_catalogue(catalog: &Catalog)
     fetches_are_told();
 }
 
-/// The language of this database is lawful: a statement leaves a whole database of the schema, and its
-/// writes lead from the contents of the leaves before it to those after it.
+/// The list of catalogues of this database is lawful, and so is its language: a statement leaves a whole
+/// database of the schema, and its writes lead from the contents of all places before it to those after it.
 pub fn language_is_lawful(catalog: &Catalog)
-    ensures { IsLawful (language (database (catalogue_of catalog.now))) }
+    ensures of_list { IsLawfulList local (statements (database (catalogue_of catalog.now))) }
+    ensures of_language { IsLawful (language (database (catalogue_of catalog.now))) }
 {
     catalog.relations();
     contents_ascend();
@@ -60,9 +63,10 @@ pub fn language_is_lawful(catalog: &Catalog)
 
 /// The serial law: of each catalogue and after each list of events the committed transactions, run one after
 /// another over whole relations in the order of their first phases, give the answers that were given and
-/// what the settled fragments rebuild.
+/// what the settled fragments rebuild; of the list, without the numbers of catalogues.
 pub fn serial_law(catalog: &Catalog)
-    ensures { SerialLaw (language (database (catalogue_of catalog.now))) }
+    ensures of_list { ListLaw local (statements (database (catalogue_of catalog.now))) }
+    ensures of_language { SerialLaw (language (database (catalogue_of catalog.now))) }
 {
     language_is_lawful(catalog);
 }

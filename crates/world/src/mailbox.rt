@@ -3,7 +3,7 @@
 ghost use Rattle.std.specs.Prelude.{◌≡◌, ◌++◌, ℕ, suc, true, IfErr, IfOk, IfSome, OnErr, OnOk};
 ghost use Rattle.catalog.specs.Relation.{catalogue_of};
 ghost use Rattle.desk.specs.Database.{Database};
-ghost use Rattle.desk.specs.OfCatalogue.{IsOfCatalogue};
+ghost use Rattle.desk.specs.OfCatalogue.{InForce, IsOfCatalogue};
 ghost use Rattle.protocol.specs.Rounds.{RanksUnder};
 ghost use Rattle.desk.specs.declared.refusal.Refusal.TheVariants as refusals;
 ghost use Rattle.world.specs.Counted.{counts};
@@ -54,7 +54,7 @@ fn take<D: DeskStore, S: SiteStore>(
     ensures blames { OfStores D.is_clean S.is_clean machines.new → OfStores D.is_sound S.is_sound machines.old → IfErr result (λ fault. IfSome (stop_of fault) (StopsFor (counts D.refused S.refused machines.old) (counts D.refused S.refused machines.new))) }
     ensures ok { OverDatabase (OfStores D.is_clean S.is_clean) (OfStores D.is_sound S.is_sound) (counted D.kept S.kept D.refused S.refused) machines.old machines.new
         (λ db before after. IfOk result (λ out. IsDone db letter before after out.letters out.replies)) }
-    ensures told { (db : Database) → IsOfCatalogue db → db.catalogue ≡ catalogue_of machines.old.desk.catalog → AreFit db (counted D.kept S.kept D.refused S.refused machines.old) → IfErr result (Tells db (counted D.kept S.kept D.refused S.refused machines.old) letter) }
+    ensures told { (db : Database) → IsOfCatalogue db → InForce db machines.old.desk.volatile.version machines.old.desk.catalog → AreFit db (counted D.kept S.kept D.refused S.refused machines.old) → IfErr result (Tells db (counted D.kept S.kept D.refused S.refused machines.old) letter) }
     ensures err { StaysOnErr (OfStores D.is_clean S.is_clean) (OfStores D.is_sound S.is_sound) (held D.kept S.kept) machines.old machines.new result }
 {
     if !has_site(machines.desk.catalog(), &letter.site) {
@@ -138,7 +138,7 @@ fn deliver_next<D: DeskStore, S: SiteStore>(
     ensures blames { Blames (OfStores D.is_clean S.is_clean) (OfStores D.is_sound S.is_sound) (counts D.refused S.refused) machines.old machines.new result }
     ensures ok { OverDatabase (OfStores D.is_clean S.is_clean) (OfStores D.is_sound S.is_sound) (counted D.kept S.kept D.refused S.refused) machines.old machines.new
         (λ db before after. OnOk result (Goes db (λ w. w) (scene before post.old) (scene after post.new))) }
-    ensures ranks { (db : Database) (n i : ℕ) → IsOfCatalogue db → db.catalogue ≡ catalogue_of machines.old.desk.catalog → OfStores D.is_clean S.is_clean machines.new → OfStores D.is_sound S.is_sound machines.old → AreFit db (counted D.kept S.kept D.refused S.refused machines.old)
+    ensures ranks { (db : Database) (n i : ℕ) → IsOfCatalogue db → InForce db machines.old.desk.volatile.version machines.old.desk.catalog → OfStores D.is_clean S.is_clean machines.new → OfStores D.is_sound S.is_sound machines.old → AreFit db (counted D.kept S.kept D.refused S.refused machines.old)
         → IsInRound db n (suc i) (scene (counted D.kept S.kept D.refused S.refused machines.old) post.old) → OnOk result (IsInRound db n i (scene (counted D.kept S.kept D.refused S.refused machines.new) post.new)) }
     ensures err { OverDatabase (OfStores D.is_clean S.is_clean) (OfStores D.is_sound S.is_sound) (counted D.kept S.kept D.refused S.refused) machines.old machines.new
         (λ db before after. OnErr result (Breaks db (λ w. w) (scene before post.old) after)) }
@@ -162,7 +162,7 @@ fn deliver_round<D: DeskStore, S: SiteStore>(
     ensures blames { Blames (OfStores D.is_clean S.is_clean) (OfStores D.is_sound S.is_sound) (counts D.refused S.refused) machines.old machines.new result }
     ensures ok { OverDatabase (OfStores D.is_clean S.is_clean) (OfStores D.is_sound S.is_sound) (counted D.kept S.kept D.refused S.refused) machines.old machines.new
         (λ db before after. OnOk result (Goes db (λ w. w) (scene before post.old) (scene after post.new))) }
-    ensures ranks { (db : Database) (n : ℕ) → IsOfCatalogue db → db.catalogue ≡ catalogue_of machines.old.desk.catalog → OfStores D.is_clean S.is_clean machines.new → OfStores D.is_sound S.is_sound machines.old → AreFit db (counted D.kept S.kept D.refused S.refused machines.old)
+    ensures ranks { (db : Database) (n : ℕ) → IsOfCatalogue db → InForce db machines.old.desk.volatile.version machines.old.desk.catalog → OfStores D.is_clean S.is_clean machines.new → OfStores D.is_sound S.is_sound machines.old → AreFit db (counted D.kept S.kept D.refused S.refused machines.old)
         → RanksUnder (suc n) (world_at db (scene (counted D.kept S.kept D.refused S.refused machines.old) post.old)) → OnOk result (RanksUnder n (world_at db (scene (counted D.kept S.kept D.refused S.refused machines.new) post.new))) }
     ensures err { OverDatabase (OfStores D.is_clean S.is_clean) (OfStores D.is_sound S.is_sound) (counted D.kept S.kept D.refused S.refused) machines.old machines.new
         (λ db before after. OnErr result (Breaks db (λ w. w) (scene before post.old) after)) }

@@ -6,7 +6,7 @@ ghost use Rattle.std.specs.List.{AllByRecursion, Contains, filter};
 ghost use Rattle.std.specs.Option.{option_and_then, option_copied, option_map};
 ghost use Rattle.catalog.specs.Relation.{catalogue_of};
 ghost use Rattle.desk.specs.Database.{Database};
-ghost use Rattle.desk.specs.Planned.{site_in};
+ghost use Rattle.desk.specs.Place.{site_in};
 ghost use Rattle.world.specs.declared.fault.Fault.TheVariants as faults;
 ghost use Rattle.desk.specs.CatalogueDatabase.{database};
 ghost use Rattle.world.specs.Counted.{counts, counts_of};
@@ -249,7 +249,7 @@ fn bring_one<D: DeskStore, S: SiteStore>(
     ensures same { StaysAsItIs (OfStores D.is_clean S.is_clean) (OfStores D.is_sound S.is_sound) (held D.kept S.kept) machines.old machines.new }
     ensures fails { OfStores D.is_clean S.is_clean machines.new → OfStores D.is_sound S.is_sound machines.old → AreFit (database (catalogue_of machines.old.desk.catalog)) (held D.kept S.kept machines.old) → IfErr result (FailsFor (counts D.refused S.refused machines.old) (counts D.refused S.refused machines.new)) }
     ensures brought { (whole : Relations) → OfStores D.is_clean S.is_clean machines.new → OfStores D.is_sound S.is_sound machines.old → AreFit (database (catalogue_of machines.old.desk.catalog)) (held D.kept S.kept machines.old) → AreThoseOf (database (catalogue_of machines.old.desk.catalog)) (held D.kept S.kept machines.old) whole → AreDecided (held D.kept S.kept machines.old).table decided.now
-        → IfOk result (λ rows. rows ≡ brought_of (database (catalogue_of machines.old.desk.catalog)) whole fetch.now) }
+        → IfOk result (λ rows. rows ≡ brought_of (database (catalogue_of machines.old.desk.catalog)) machines.old.desk.volatile.version whole fetch.now) }
 {
     database_is_of_catalogue(machines.desk.catalog());
     let found = settled_parts(machines, decided, &fetch.leaf)?;
@@ -271,7 +271,7 @@ fn bring<D: DeskStore, S: SiteStore>(
     ensures same { StaysAsItIs (OfStores D.is_clean S.is_clean) (OfStores D.is_sound S.is_sound) (held D.kept S.kept) machines.old machines.new }
     ensures fails { OfStores D.is_clean S.is_clean machines.new → OfStores D.is_sound S.is_sound machines.old → AreFit (database (catalogue_of machines.old.desk.catalog)) (held D.kept S.kept machines.old) → IfErr result (FailsFor (counts D.refused S.refused machines.old) (counts D.refused S.refused machines.new)) }
     ensures brought { (whole : Relations) → OfStores D.is_clean S.is_clean machines.new → OfStores D.is_sound S.is_sound machines.old → AreFit (database (catalogue_of machines.old.desk.catalog)) (held D.kept S.kept machines.old) → AreThoseOf (database (catalogue_of machines.old.desk.catalog)) (held D.kept S.kept machines.old) whole → AreDecided (held D.kept S.kept machines.old).table decided.now
-        → IfOk result (λ rows. rows.items ≡ map (brought_of (database (catalogue_of machines.old.desk.catalog)) whole) fetches.now) }
+        → IfOk result (λ rows. rows.items ≡ map (brought_of (database (catalogue_of machines.old.desk.catalog)) machines.old.desk.volatile.version whole) fetches.now) }
 {
     let mut brought = Vec::new(machines.alloc);
     for fetch in fetches {

@@ -97,7 +97,7 @@ pub(crate) fn start(
     catalog: &Catalog,
     whole: &Whole,
 ) -> Result<Machines<PlainDesk, PlainSite>, Fault>
-    ensures opens { IfOk result (λ machines. (db : Database) → IsPlaced db (catalogue_of catalog.now) whole.now → Opens db whole.now (held desk_kept kept_of machines)) }
+    ensures opens { IfOk result (λ machines. (db : Database) → IsPlaced db machines.desk.volatile.version (catalogue_of catalog.now) whole.now → Opens db whole.now (held desk_kept kept_of machines)) }
     ensures catalog { IfOk result (λ machines. catalogue_of machines.desk.catalog ≡ catalogue_of catalog.now) }
     ensures sound { IfOk result (λ machines. OfStores (λ _. Unit {0}) IsSound machines) }
     ensures err { IfErr result (λ fault. is_memory fault ≡ true) }
@@ -188,7 +188,7 @@ pub(crate) fn start_on<D: DeskStore + Drop, S: SiteStore + Drop>(
 ) -> Result<Machines<D, S>, Fault>
     requires { length sites.items ≡ length catalog.now.0 }
     ensures opens { IfOk result (λ machines. OfStores D.is_clean S.is_clean machines → AreNew D.is_sound D.kept S.is_sound S.kept (catalogue_of catalog.now) desk sites.items
-        → (db : Database) → IsPlaced db (catalogue_of catalog.now) whole.now → Opens db whole.now (held D.kept S.kept machines)) }
+        → (db : Database) → IsPlaced db machines.desk.volatile.version (catalogue_of catalog.now) whole.now → Opens db whole.now (held D.kept S.kept machines)) }
     ensures clean { IfOk result (λ machines. OfStores D.is_clean S.is_clean machines → OfGiven D.is_clean S.is_clean desk sites.items) }
     ensures sound { IfOk result (λ machines. OfStores D.is_clean S.is_clean machines → OfStores D.is_sound S.is_sound machines) }
     ensures catalog { IfOk result (λ machines. catalogue_of machines.desk.catalog ≡ catalogue_of catalog.now) }

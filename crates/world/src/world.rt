@@ -155,7 +155,7 @@ impl<D: DeskStore, S: SiteStore> World<D, S> {
             → OfStores D.is_clean S.is_clean self.new.machines → OfStores D.is_sound S.is_sound self.old.machines
             → IsRun (database (catalogue_of self.old.machines.desk.catalog)) whole (held D.kept S.kept self.old.machines) self.old.entries.items past
             → OnOk result ((on : StepsOn (database (catalogue_of self.old.machines.desk.catalog)) whole (held D.kept S.kept self.old.machines) (held D.kept S.kept self.new.machines) self.old.entries.items self.new.entries.items past)
-            × Holds whole (world_of (database (catalogue_of self.old.machines.desk.catalog)) (held D.kept S.kept self.new.machines) (map (sent (database (catalogue_of self.old.machines.desk.catalog))) (letters_in self.new.entries.items)) (past ++ on.deeds))) }
+            × Holds (on.run_on.version, whole) (world_of (database (catalogue_of self.old.machines.desk.catalog)) (held D.kept S.kept self.new.machines) (map (sent (database (catalogue_of self.old.machines.desk.catalog))) (letters_in self.new.entries.items)) (past ++ on.deeds))) }
         ensures spared { (whole : Relations) (past : List (Deed (language (database (catalogue_of self.old.machines.desk.catalog)))))
             → OfStores D.is_clean S.is_clean self.new.machines → OfStores D.is_sound S.is_sound self.old.machines
             → IsRun (database (catalogue_of self.old.machines.desk.catalog)) whole (held D.kept S.kept self.old.machines) self.old.entries.items past
