@@ -1,5 +1,5 @@
 -- The language of stores is lawful at a site: what changes do to contents, and what they touch, whatever is stated.
-use Rattle.std.proofs.Common.{◌≡◌, ◌↔◌, refl, sym, ap, ◌∙◌, subst, ℕ, Bool, true, false, ◌||◌, if◌then◌else◌, List, [], ◌∷◌, length, Option, None}
+use Rattle.std.proofs.Common.{◌≡◌, ◌↔◌, refl, sym, ap, ◌∙◌, subst, ℕ, Bool, true, false, ◌||◌, if◌then◌else◌, List, Option}
 use Rattle.std.specs.Cmp.Lexicographic.{pointwise}
 use Rattle.std.specs.FinMap as fin
 use Rattle.std.specs.Ordering.{is_eq}
@@ -9,9 +9,7 @@ use Rattle.std.proofs.lemmas.Slice.Eq.{bytes_eq-Decides}
 use Rattle.terms.specs.declared.leaf.Leaf.{Leaf}
 use Rattle.terms.specs.Leaf.{leaf_cmp}
 use Rattle.terms.specs.declared.value.Value.{Value}
-use Rattle.store.specs.declared.slot.Slot.{Slot}
 use Rattle.store.specs.Slot.{slot_of, slot_cmp}
-use Rattle.store.specs.Orders.{slot_cmp_total, slot_cmp-IsAntisymmetric}
 use Rattle.store.specs.Content.{Changes, changed, is_of, set_at, touches}
 use Rattle.store.proofs.Changing.{changed_none, changed_more, touches_none, touches_more}
 use Rattle.protocol.specs.Catalogues.{IsLawfulSite}
@@ -21,14 +19,9 @@ use Rattle.site.proofs.TicketOrder.{leaf_is, leaf_self, leaf_sym}
 bytes_same : (a b : List ℕ) → (pointwise nat_eq a b ≡ true) ↔ (a ≡ b)
 bytes_same a b = bytes_eq-Decides a b
 
-no_entry : (entries : List (Slot × Option (List Value))) (slot : Slot) → length entries ≡ 0 → fin.find slot_cmp slot entries ≡ None
-no_entry [] slot count = refl
-no_entry (entry ∷ entries) slot count = absurd cc
-
 -- changes of which there are none are the empty ones
 none_only : (changes : Changes) → nat_eq (fin.len changes) 0 ≡ true → changes ≡ fin.empty
-none_only changes none = fin.same_map slot_cmp_total slot_cmp-IsAntisymmetric changes fin.empty
-    (λ slot. fin.get-entries changes slot ∙ no_entry (fin.entries changes) slot (sym (fin.len-entries changes) ∙ eqb-true (fin.len changes) 0 none) ∙ sym (fin.get-empty slot_cmp slot))
+none_only changes none = fin.empty_of_len changes (eqb-true (fin.len changes) 0 none)
 
 or_if : (a b : Bool) → (a || b) ≡ (if a then true else b)
 or_if true b = refl
@@ -43,5 +36,5 @@ local_lawful = record {
   touches_none = touches_none;
   touches_add = λ g h x i. touches_more g (slot_of h x.0) x.1 i ∙ or_if (is_of g (slot_of h x.0)) (touches g i) ∙ ap (λ (b : Bool). if b then true else touches g i) (leaf_sym g h);
   only_none = none_only;
-  none_empty = refl;
+  none_empty = ap (λ n. nat_eq n 0) (fin.len-empty slot_cmp (Option (List Value)));
 }
