@@ -1,14 +1,14 @@
--- Whatever the coordinator and the sites put out, operations are of leaves that have a home, where those of statements and transactions are.
+-- Whatever the coordinator and the sites put out, operations are of leaves that have a home, where those of transactions and of what is chosen to be written are.
 use Rattle.std.proofs.Common.{subst, ℕ, suc, ◌==◌, Bool, true, false, List, [], ◌∷◌, map, Option, Some, None, ◌||◌, not}
-use Rattle.protocol.specs.Desk.{Aborted, Ask, By_refusal, By_store, By_vote, Choice, Deed, Given_up, Request, Rolled_back, Transition, Txn, Undecided, Voting, after_letters, are_all_in, ask_of, ask_out, asks_go, asks_out, commits, decides, desk_after, desk_began, ends_by, is_desk_within, opening, opens, phases, states, to_abort, to_prepare, visits, voters_of, votes_go, when, with_rows, works, write_out, writes_go, writes_out, writing}
-use Rattle.protocol.specs.Home.{AreHomed, AsksHomed, FetchesHomed, IsAtHome, IsHomed, StageHomed, TxnHomed, WritesHomed}
+use Rattle.std.specs.List.{flat_map}
+use Rattle.protocol.specs.Desk.{Aborted, Ask, By_refusal, By_store, By_vote, Choice, Deed, Given_up, Request, Rolled_back, Transition, Txn, Undecided, Voting, after_letters, are_all_in, ask_out, asks_go, asks_out, commits, decides, ends_by, opening, opens, phases, states, to_abort, to_prepare, visits, voters_of, votes_go, on_request, on_desk_letter, txn_restarted, Unknown, Known, Row, when, with_rows, works, write_out, writes_go, writes_out, writing}
+use Rattle.protocol.specs.Home.{AreHomed, IsAtHome, IsHomed, StageHomed, TxnHomed, WritesHomed}
 use Rattle.protocol.specs.Language.{Lang, Name, put}
 use Rattle.protocol.specs.Letter.{Body, Letter, Vote, No, Open, Fetch, Write, Prepare, Commit, Abort, Ticket, Rows, Refused, Voted, Ack, Inquire, letters_to}
-use Rattle.protocol.specs.Site.{Act, Active, Dead, Prepared, SiteState, Status, is_within, on_abort, on_commit, on_fetch, on_letter, on_prepare, on_write, others_exclusive, said, site_after}
-use Rattle.protocol.specs.World.{World, addressed, begins, begun, called, comes, comes_to, turned, turns, with_site}
-use Rattle.protocol.specs.Letter.{is_for_desk}
-use Rattle.protocol.proofs.Basics.{Every, either, every_append}
-use Rattle.protocol.proofs.DeskTable.{Cause, asked, came, Turned, ticketed, rests, accepts, begins_phase, rolls_back, is_given_up, takes_ticket, fetches, writes, turns_away, takes_rows, evaluates, is_refused, counts_no, counts_vote, presumes_abort, tells_abort, tells_commit, counts_ack, lets_row_go, request_turned, letter_turned}
+use Rattle.protocol.specs.Site.{Act, Active, Dead, Prepared, SiteState, Status, inquiries, inquiry_of, on_abort, on_commit, on_fetch, on_letter, on_prepare, on_write, others_exclusive, said}
+use Rattle.protocol.specs.World.{addressed}
+use Rattle.protocol.proofs.Basics.{Every, either, every_append, every_flat}
+use Rattle.protocol.proofs.DeskTable.{Cause, Turned, ticketed, rests, accepts, begins_phase, rolls_back, is_given_up, takes_ticket, fetches, writes, turns_away, takes_rows, evaluates, is_refused, counts_no, counts_vote, presumes_abort, tells_abort, tells_commit, counts_ack, lets_row_go, request_turned, letter_turned}
 use Rattle.protocol.proofs.Turns.{every_letter}
 
 module _ (L : Lang) (P : L.Leaf → Type 0) where
@@ -135,15 +135,23 @@ module _ (L : Lang) (P : L.Leaf → Type 0) where
         let leaves = map (λ (x : L.Leaf × L.Write). x.0) c.1 in
         behind (opens t u leaves) (writes_go t (visits u leaves) c.0 c.1) (opens_homed u leaves) (writes_homed (visits u leaves) c.0 c.1 chosen)
 
-    asks_at_home : (fetches : List (L.Leaf × L.Query)) → FetchesHomed L P fetches → Every (λ q. P q.leaf) (map (ask_of {L = L}) fetches)
-    asks_at_home [] all = tt
-    asks_at_home (f ∷ fs) all = (all.0, asks_at_home fs all.1)
+    -- what is left of fetches that went out are those fetches
+    left_homed : (ticket : L.Site → Option Name) (asks : List (Ask L)) (sent : L.Site → ℕ) → Every (λ q. P q.leaf) (asks_out t ticket asks sent).left → Every (λ q. P q.leaf) asks
+    left_homed ticket [] sent all = tt
+    left_homed ticket (q ∷ qs) sent all = go q.number (ticket (L.home q.leaf)) (λ sent. left_homed ticket qs sent) all
+      where
+        go : (m : Option ℕ) (k : Option Name) → ((sent : L.Site → ℕ) → Every (λ q. P q.leaf) (asks_out t ticket qs sent).left → Every (λ q. P q.leaf) qs) →
+            Every (λ q. P q.leaf) (ask_out t q m k sent (asks_out t ticket qs)).left → Every (λ q. P q.leaf) (q ∷ qs)
+        go None None more all = (all.0, more sent all.1)
+        go None (Some k) more all = (all.0, more (put L.same_site (L.home q.leaf) (suc (sent (L.home q.leaf))) sent) all.1)
+        go (Some n) None more all = (all.0, more sent all.1)
+        go (Some n) (Some k) more all = (all.0, more sent all.1)
 
-    states_homed : (u : Undecided L) (s : L.Statement) (asks : List (Ask L)) (c : Choice L) → Every (λ q. P q.leaf) asks → WritesHomed L P c.1 → PutsHomed (states t u s asks c)
-    states_homed u s [] c all chosen = works_homed u s [] c chosen
-    states_homed u s (q ∷ qs) c all chosen =
+    states_homed : (u : Undecided L) (s : L.Statement) (asks : List (Ask L)) (c : Choice L) → TxnHomed L P (states t u s asks c).txn → WritesHomed L P c.1 → PutsHomed (states t u s asks c)
+    states_homed u s [] c after chosen = works_homed u s [] c chosen
+    states_homed u s (q ∷ qs) c after chosen =
         let leaves = map (λ (x : Ask L). x.leaf) (q ∷ qs) in
-        behind (opens t u leaves) (asks_go t (visits u leaves) s (q ∷ qs)) (opens_homed u leaves) (asks_homed (visits u leaves) s (q ∷ qs) all)
+        behind (opens t u leaves) (asks_go t (visits u leaves) s (q ∷ qs)) (opens_homed u leaves) (asks_homed (visits u leaves) s (q ∷ qs) (left_homed u.ticket (q ∷ qs) u.sent after))
 
     ends_homed : (u : Undecided L) (d : Deed L) → PutsHomed (ends_by t u d)
     ends_homed u d = said_homed t _ L.sites (λ a. when_homed _ _ (to_abort_homed (u.ticket a)))
@@ -158,54 +166,52 @@ module _ (L : Lang) (P : L.Leaf → Type 0) where
     phases_homed : (u : Undecided L) → PutsHomed (phases t u)
     phases_homed u = said_homed t _ L.sites (λ a. when_homed _ _ (to_prepare_homed u a (u.ticket a)))
 
-    -- what a request asks for
-    abbrev CauseHomed : Cause L → Type 0
-    CauseHomed (asked request) = AsksHomed L P request
-    CauseHomed (came a kept body) = Unit {0}
+    -- whatever the turn, where what the transaction fetches has a home before it and after it, and so has what is chosen to be written
+    turned_homed : (choice : Choice L) (c : Cause L) (x : Txn L) (turn : Transition L) → WritesHomed L P choice.1 → TxnHomed L P x → TxnHomed L P turn.txn → Turned t choice c x turn → PutsHomed turn
+    turned_homed choice c x turn chosen home after (rests d y) = tt
+    turned_homed choice c x turn chosen home after (accepts u s idle) = states_homed u s _ choice after chosen
+    turned_homed choice c x turn chosen home after (begins_phase u idle) = phases_homed u
+    turned_homed choice c x turn chosen home after (rolls_back u calm) = ends_homed u (Rolled_back t)
+    turned_homed choice c x turn chosen home after (is_given_up u) = ends_homed u (Aborted t Given_up)
+    turned_homed choice c x turn chosen home after (takes_ticket u a kept k free) = tt
+    turned_homed choice c x turn chosen home after (fetches u a kept k s qs free stage) = asks_homed (ticketed u a k) s qs (subst (StageHomed L P) stage home)
+    turned_homed choice c x turn chosen home after (writes u a kept k answer ws free stage) = writes_homed (ticketed u a k) answer ws (subst (StageHomed L P) stage home)
+    turned_homed choice c x turn chosen home after (turns_away u a kept k j own other) = (tt, tt)
+    turned_homed choice c x turn chosen home after (takes_rows u a kept k n rows s qs own stage) = tt
+    turned_homed choice c x turn chosen home after (evaluates u a kept k n rows s qs own stage all) = works_homed u s (map (with_rows s a n rows) qs) choice chosen
+    turned_homed choice c x turn chosen home after (is_refused u a kept k reason own calm) = ends_homed u (Aborted t By_refusal)
+    turned_homed choice c x turn chosen home after (counts_no u a kept k votes own stage) = ends_homed (record u { stage = Voting (put L.same_site a (Some No) votes) }) (Aborted t By_vote)
+    turned_homed choice c x turn chosen home after (counts_vote u a kept k v votes own stage not_no) = votes_homed u _ kept
+    turned_homed choice c x turn chosen home after (presumes_abort a kept k) = (tt, tt)
+    turned_homed choice c x turn chosen home after (tells_abort a kept k) = (tt, tt)
+    turned_homed choice c x turn chosen home after (tells_commit voters acked a kept k) = (tt, tt)
+    turned_homed choice c x turn chosen home after (counts_ack voters acked a kept k) = tt
+    turned_homed choice c x turn chosen home after (lets_row_go voters acked a kept k all) = tt
 
-    -- whatever the turn
-    turned_homed : (choice : Choice L) (c : Cause L) (x : Txn L) (turn : Transition L) → CauseHomed c → WritesHomed L P choice.1 → TxnHomed L P x → Turned t choice c x turn → PutsHomed turn
-    turned_homed choice c x turn asks chosen home (rests d y) = tt
-    turned_homed choice c x turn asks chosen home (accepts u s idle) = states_homed u s _ choice (asks_at_home (L.fetches s) asks) chosen
-    turned_homed choice c x turn asks chosen home (begins_phase u idle) = phases_homed u
-    turned_homed choice c x turn asks chosen home (rolls_back u calm) = ends_homed u (Rolled_back t)
-    turned_homed choice c x turn asks chosen home (is_given_up u) = ends_homed u (Aborted t Given_up)
-    turned_homed choice c x turn asks chosen home (takes_ticket u a kept k free) = tt
-    turned_homed choice c x turn asks chosen home (fetches u a kept k s qs free stage) = asks_homed (ticketed u a k) s qs (subst (StageHomed L P) stage home)
-    turned_homed choice c x turn asks chosen home (writes u a kept k answer ws free stage) = writes_homed (ticketed u a k) answer ws (subst (StageHomed L P) stage home)
-    turned_homed choice c x turn asks chosen home (turns_away u a kept k j own other) = (tt, tt)
-    turned_homed choice c x turn asks chosen home (takes_rows u a kept k n rows s qs own stage) = tt
-    turned_homed choice c x turn asks chosen home (evaluates u a kept k n rows s qs own stage all) = works_homed u s (map (with_rows s a n rows) qs) choice chosen
-    turned_homed choice c x turn asks chosen home (is_refused u a kept k reason own calm) = ends_homed u (Aborted t By_refusal)
-    turned_homed choice c x turn asks chosen home (counts_no u a kept k votes own stage) = ends_homed (record u { stage = Voting (put L.same_site a (Some No) votes) }) (Aborted t By_vote)
-    turned_homed choice c x turn asks chosen home (counts_vote u a kept k v votes own stage not_no) = votes_homed u _ kept
-    turned_homed choice c x turn asks chosen home (presumes_abort a kept k) = (tt, tt)
-    turned_homed choice c x turn asks chosen home (tells_abort a kept k) = (tt, tt)
-    turned_homed choice c x turn asks chosen home (tells_commit voters acked a kept k) = (tt, tt)
-    turned_homed choice c x turn asks chosen home (counts_ack voters acked a kept k) = tt
-    turned_homed choice c x turn asks chosen home (lets_row_go voters acked a kept k all) = tt
+    -- the turn of a request, and of a letter
+    pub request_homed : (choice : Choice L) (request : Request L) (x : Txn L) → WritesHomed L P choice.1 → TxnHomed L P x → TxnHomed L P (on_request t choice request x).txn → AreHomed L P (on_request t choice request x).letters
+    request_homed choice request x chosen home after = turned_homed choice _ x _ chosen home after (request_turned t choice request x)
 
-  -- ---- worlds
-  turns_homed : (w : World L) (t : Name) (turn : Transition L) → PutsHomed turn → AreHomed L P w.letters → AreHomed L P (turns w t turn).letters
-  turns_homed w t turn more so_far = either (λ (x : World L). AreHomed L P x.letters) (is_desk_within (desk_after w.desk t turn.txn)) (turned w t turn) w (every_append (IsHomed L P) w.letters turn.letters so_far more) so_far
+    pub turn_homed : (choice : Choice L) (a : L.Site) (kept : Bool) (body : Body L) (x : Txn L) → WritesHomed L P choice.1 → TxnHomed L P x → TxnHomed L P (on_desk_letter t a kept choice body x).txn → AreHomed L P (on_desk_letter t a kept choice body x).letters
+    turn_homed choice a kept body x chosen home after = turned_homed choice _ x _ chosen home after (letter_turned t choice a kept body x)
 
-  -- a call of a client
-  pub called_homed : (w : World L) (t : Name) (c : Choice L) (request : Request L) → AsksHomed L P request → WritesHomed L P c.1 → TxnHomed L P (w.desk.txn t) → AreHomed L P w.letters → AreHomed L P (called w t c request).letters
-  called_homed w t c request asks chosen home so_far = turns_homed w t _ (turned_homed t c _ _ _ asks chosen home (request_turned t c request (w.desk.txn t))) so_far
+    -- a restart of the coordinator
+    pub restart_homed : (x : Txn L) → AreHomed L P (txn_restarted t x).letters
+    restart_homed Unknown = tt
+    restart_homed (Known u) = tt
+    restart_homed (Row voters acked) = commits_homed t voters
 
-  -- a transaction begins
-  pub begins_homed : (w : World L) → AreHomed L P w.letters → AreHomed L P (begins w).letters
-  begins_homed w so_far = either (λ (x : World L). AreHomed L P x.letters) (is_desk_within (desk_began w.desk)) (begun false w) w so_far so_far
+  pub restarts_homed : (txn : Name → Txn L) (names : List Name) → AreHomed L P (flat_map (λ t. (txn_restarted t (txn t)).letters) names)
+  restarts_homed txn names = every_flat (IsHomed L P) (λ t. (txn_restarted t (txn t)).letters) names (λ t. restart_homed t (txn t))
 
-  comes_to_homed : (b : Bool) (w : World L) (kept : Bool) (c : Choice L) (l : Letter L) → WritesHomed L P c.1 → TxnHomed L P (w.desk.txn l.txn) → AreHomed L P w.letters → AreHomed L P (comes_to b w kept c l).letters
-  comes_to_homed true w kept c l chosen home so_far = turns_homed w l.txn _ (turned_homed l.txn c _ _ _ tt chosen home (letter_turned l.txn c l.site kept l.body (w.desk.txn l.txn))) so_far
-  comes_to_homed false w kept c l chosen home so_far =
-      let s = w.sites l.site in
-      let act = on_letter s l.txn kept l.body in
-      let out = addressed l.site l.txn (said s act) in
-      either (λ (x : World L). AreHomed L P x.letters) (is_within (site_after s act)) (with_site w l.site (site_after s act) out) w
-      (every_append (IsHomed L P) w.letters out so_far (all_addressed l.site l.txn (said s act) (letter_homed s l.txn kept l.body))) so_far
+  -- ---- what a site puts out
+  pub site_homed : (s : SiteState L) (a : L.Site) (t : Name) (kept : Bool) (c : Body L) → AreHomed L P (addressed a t (said s (on_letter s t kept c)))
+  site_homed s a t kept c = all_addressed a t (said s (on_letter s t kept c)) (letter_homed s t kept c)
 
-  -- a letter comes
-  pub comes_homed : (w : World L) (kept : Bool) (c : Choice L) (l : Letter L) → WritesHomed L P c.1 → TxnHomed L P (w.desk.txn l.txn) → AreHomed L P w.letters → AreHomed L P (comes w kept c l).letters
-  comes_homed w kept c l chosen home so_far = comes_to_homed (is_for_desk l.body) w kept c l chosen home so_far
+  inquiry_homed : (a : L.Site) (k : Name) (st : Status L) → AreHomed L P (inquiry_of a k st)
+  inquiry_homed a k Dead = tt
+  inquiry_homed a k (Active v) = tt
+  inquiry_homed a k (Prepared t i) = (tt, tt)
+
+  pub inquiries_homed : (a : L.Site) (s : SiteState L) → AreHomed L P (inquiries a s)
+  inquiries_homed a s = every_flat (IsHomed L P) (λ k. inquiry_of a k (s.status k)) s.known (λ k. inquiry_homed a k (s.status k))

@@ -1,7 +1,7 @@
 -- Operations of leaves that have a home.
 use Rattle.std.specs.Prelude.{List, ⊤}
 use Rattle.std.specs.List.{AllByRecursion}
-use Rattle.protocol.specs.Desk.{Idle, Known, Reading, Request, Row, Stage, State, Commit_call, Give_up, Rollback, Txn, Unknown, Voting, Writing}
+use Rattle.protocol.specs.Desk.{Idle, Known, Reading, Row, Stage, Txn, Unknown, Voting, Writing}
 use Rattle.protocol.specs.Language.{Lang}
 use Rattle.protocol.specs.Letter.{Body, Fetch, Write, Letter}
 
@@ -20,21 +20,11 @@ module _ (L : Lang) (P : L.Leaf → Type 0) where
   abbrev pub AreHomed : List (Letter L) → Type 0
   AreHomed letters = AllByRecursion IsHomed letters
 
-  -- what is fetched, and what is written, is of such leaves
-  abbrev pub FetchesHomed : List (L.Leaf × L.Query) → Type 0
-  FetchesHomed fetches = AllByRecursion (λ fetch. P fetch.0) fetches
-
+  -- what is written is of such leaves
   abbrev pub WritesHomed : List (L.Leaf × L.Write) → Type 0
   WritesHomed writes = AllByRecursion (λ write. P write.0) writes
 
-  -- so is what the statement of a request fetches
-  abbrev pub AsksHomed : Request L → Type 0
-  AsksHomed (State s) = FetchesHomed (L.fetches s)
-  AsksHomed Commit_call = ⊤
-  AsksHomed Rollback = ⊤
-  AsksHomed Give_up = ⊤
-
-  -- and what a transaction still fetches or writes
+  -- so is what a transaction fetches, or still writes
   abbrev pub StageHomed : Stage L → Type 0
   StageHomed Idle = ⊤
   StageHomed (Reading s asks) = AllByRecursion (λ ask. P ask.leaf) asks
