@@ -2,13 +2,13 @@
 use Rattle.std.proofs.Common.{subst, ℕ, suc, ◌==◌, Bool, true, false, List, [], ◌∷◌, map, Option, Some, None, ◌||◌, not}
 use Rattle.std.specs.List.{flat_map}
 use Rattle.protocol.specs.Desk.{Aborted, Ask, By_refusal, By_store, By_vote, Choice, Deed, Given_up, Request, Rolled_back, Transition, Txn, Undecided, Voting, after_letters, are_all_in, ask_out, asks_go, asks_out, commits, decides, ends_by, opening, opens, phases, states, to_abort, to_prepare, visits, voters_of, votes_go, on_request, on_desk_letter, txn_restarted, Unknown, Known, Row, when, with_rows, works, write_out, writes_go, writes_out, writing}
-use Rattle.protocol.specs.Home.{AreHomed, IsAtHome, IsHomed, StageHomed, TxnHomed, WritesHomed}
+use Rattle.protocol.specs.Home.{AreHomed, AsksHomed, IsAtHome, IsHomed, StageHomed, TxnHomed, WritesHomed}
 use Rattle.protocol.specs.Language.{Lang, Name, put}
 use Rattle.protocol.specs.Letter.{Body, Letter, Vote, No, Open, Fetch, Write, Prepare, Commit, Abort, Ticket, Rows, Refused, Voted, Ack, Inquire, letters_to}
 use Rattle.protocol.specs.Site.{Act, Active, Dead, Prepared, SiteState, Status, inquiries, inquiry_of, on_abort, on_commit, on_fetch, on_letter, on_prepare, on_write, others_exclusive, said}
 use Rattle.protocol.specs.World.{addressed}
 use Rattle.protocol.proofs.Basics.{Every, either, every_append, every_flat}
-use Rattle.protocol.proofs.DeskTable.{Cause, Turned, ticketed, rests, accepts, begins_phase, rolls_back, is_given_up, takes_ticket, fetches, writes, turns_away, takes_rows, evaluates, is_refused, counts_no, counts_vote, presumes_abort, tells_abort, tells_commit, counts_ack, lets_row_go, request_turned, letter_turned}
+use Rattle.protocol.proofs.DeskTable.{Cause, asked, came, Turned, ticketed, rests, accepts, begins_phase, rolls_back, is_given_up, takes_ticket, fetches, writes, turns_away, takes_rows, evaluates, is_refused, counts_no, counts_vote, presumes_abort, tells_abort, tells_commit, counts_ack, lets_row_go, request_turned, letter_turned}
 use Rattle.protocol.proofs.Turns.{every_letter}
 
 module _ (L : Lang) (P : L.Leaf → Type 0) where
@@ -166,8 +166,12 @@ module _ (L : Lang) (P : L.Leaf → Type 0) where
     phases_homed : (u : Undecided L) → PutsHomed (phases t u)
     phases_homed u = said_homed t _ L.sites (λ a. when_homed _ _ (to_prepare_homed u a (u.ticket a)))
 
+    abbrev CauseHomed : Choice L → Cause L → Type 0
+    CauseHomed choice (asked request) = AsksHomed L P request choice
+    CauseHomed choice (came a kept body) = WritesHomed L P choice.1
+
     -- whatever the turn, where what the transaction fetches has a home before it and after it, and so has what is chosen to be written
-    turned_homed : (choice : Choice L) (c : Cause L) (x : Txn L) (turn : Transition L) → WritesHomed L P choice.1 → TxnHomed L P x → TxnHomed L P turn.txn → Turned t choice c x turn → PutsHomed turn
+    turned_homed : (choice : Choice L) (c : Cause L) (x : Txn L) (turn : Transition L) → CauseHomed choice c → TxnHomed L P x → TxnHomed L P turn.txn → Turned t choice c x turn → PutsHomed turn
     turned_homed choice c x turn chosen home after (rests d y) = tt
     turned_homed choice c x turn chosen home after (accepts u s idle) = states_homed u s _ choice after chosen
     turned_homed choice c x turn chosen home after (begins_phase u idle) = phases_homed u
@@ -189,7 +193,7 @@ module _ (L : Lang) (P : L.Leaf → Type 0) where
     turned_homed choice c x turn chosen home after (lets_row_go voters acked a kept k all) = tt
 
     -- the turn of a request, and of a letter
-    pub request_homed : (choice : Choice L) (request : Request L) (x : Txn L) → WritesHomed L P choice.1 → TxnHomed L P x → TxnHomed L P (on_request t choice request x).txn → AreHomed L P (on_request t choice request x).letters
+    pub request_homed : (choice : Choice L) (request : Request L) (x : Txn L) → AsksHomed L P request choice → TxnHomed L P x → TxnHomed L P (on_request t choice request x).txn → AreHomed L P (on_request t choice request x).letters
     request_homed choice request x chosen home after = turned_homed choice _ x _ chosen home after (request_turned t choice request x)
 
     pub turn_homed : (choice : Choice L) (a : L.Site) (kept : Bool) (body : Body L) (x : Txn L) → WritesHomed L P choice.1 → TxnHomed L P x → TxnHomed L P (on_desk_letter t a kept choice body x).txn → AreHomed L P (on_desk_letter t a kept choice body x).letters

@@ -2,11 +2,40 @@
 use Rattle.std.proofs.Common.{◌≡◌, refl, sym, ap, ap₂, ◌∙◌, subst, ◌↔◌, ℕ, ◌&&◌, true, false, List, [], ◌∷◌, map, if◌then◌else◌, ⊎_elim}
 use Rattle.protocol.specs.Language.{Lang, IsLawful, Name, put, written}
 use Rattle.protocol.specs.Desk.{Deed}
-use Rattle.protocol.specs.World.{run}
-use Rattle.protocol.specs.Serial.{committed, statements_of, whole_after, answers_in_turn, serial_whole, serial_answers}
-use Rattle.protocol.specs.Catalogues.{Catalogues, Intended_at, Nothing, Some_at, same_place, add_at, is_nothing, touches_at, changed_at, then_in_force, listed, whole_then, answers_then, serial_then, serial_answers_then, stated, ListLaw, IsLawfulList}
+use Rattle.protocol.specs.World.{World, run}
+use Rattle.protocol.specs.Serial.{IsSerial, committed, statements_of, whole_after, answers_in_turn, serial_whole, serial_answers}
+use Rattle.protocol.specs.Catalogues.{Catalogues, Intended_at, Nothing, Some_at, same_place, add_at, is_nothing, touches_at, changed_at, then_in_force, listed, whole_then, answers_then, serial_then, serial_answers_then, stated, IsSerialList, ListLaw, IsLawfulList}
 use Rattle.protocol.proofs.Basics.{left_true, right_true, both_true, by_test, put_all, clash}
 use Rattle.protocol.proofs.SerialLaw.{serial_law}
+
+-- ---- the serial run, without numbers
+module _ (M : Lang) (C : Catalogues M) where
+  abbrev plain : List (ℕ × C.Statement) → List C.Statement
+  plain ss = map (λ (s : ℕ × C.Statement). s.1) ss
+
+  whole_is : (ss : List (ℕ × C.Statement)) (whole : ℕ × C.Whole) → (whole_after (listed M C) ss whole).1 ≡ whole_then M C (plain ss) whole.1
+  whole_is [] whole = refl
+  whole_is (s ∷ ss) whole = whole_is ss ((listed M C).meaning s whole).1
+
+  answers_are : (ss : List (ℕ × C.Statement)) (whole : ℕ × C.Whole) → answers_in_turn (listed M C) ss whole ≡ answers_then M C (plain ss) whole.1
+  answers_are [] whole = refl
+  answers_are (s ∷ ss) whole = ap (λ l. (C.meaning s.1 whole.1).0 ∷ l) (answers_are ss ((listed M C).meaning s whole).1)
+
+  pub serial_whole_is : (past : List (Deed (listed M C))) (ts : List Name) (whole : ℕ × C.Whole) → (serial_whole (listed M C) (map (statements_of past) ts) whole).1 ≡ serial_then M C (map (stated M C past) ts) whole.1
+  serial_whole_is past [] whole = refl
+  serial_whole_is past (t ∷ ts) whole = serial_whole_is past ts (whole_after (listed M C) (statements_of past t) whole) ∙ ap (serial_then M C (map (stated M C past) ts)) (whole_is (statements_of past t) whole)
+
+  serial_answers_are : (past : List (Deed (listed M C))) (ts : List Name) (whole : ℕ × C.Whole) → serial_answers (listed M C) (map (statements_of past) ts) whole ≡ serial_answers_then M C (map (stated M C past) ts) whole.1
+  serial_answers_are past [] whole = refl
+  serial_answers_are past (t ∷ ts) whole = ap₂ (λ a l. a ∷ l) (answers_are (statements_of past t) whole)
+      (serial_answers_are past ts (whole_after (listed M C) (statements_of past t) whole) ∙ ap (serial_answers_then M C (map (stated M C past) ts)) (whole_is (statements_of past t) whole))
+
+  -- a serial world is so without them
+  pub serial_list : (whole : ℕ × C.Whole) (w : World (listed M C)) → IsSerial whole w → IsSerialList M C whole.1 w
+  serial_list whole w serial = record {
+    answers = serial.answers ∙ serial_answers_are w.past (committed w.past) whole;
+    rebuilt = λ p. serial.rebuilt p ∙ ap₂ (λ m x. C.content m p x) serial.in_force (serial_whole_is w.past (committed w.past) whole);
+  }
 
 module _ (M : Lang) (C : Catalogues M) (law : IsLawfulList M C) where
   abbrev L : Lang
@@ -78,33 +107,6 @@ module _ (M : Lang) (C : Catalogues M) (law : IsLawfulList M C) where
     counts = λ s whole is fits tag. refl;
   }
 
-  -- ---- the serial run, without numbers
-  abbrev plain : List (ℕ × C.Statement) → List C.Statement
-  plain ss = map (λ (s : ℕ × C.Statement). s.1) ss
-
-  whole_is : (ss : List (ℕ × C.Statement)) (whole : ℕ × C.Whole) → (whole_after L ss whole).1 ≡ whole_then M C (plain ss) whole.1
-  whole_is [] whole = refl
-  whole_is (s ∷ ss) whole = whole_is ss (L.meaning s whole).1
-
-  answers_are : (ss : List (ℕ × C.Statement)) (whole : ℕ × C.Whole) → answers_in_turn L ss whole ≡ answers_then M C (plain ss) whole.1
-  answers_are [] whole = refl
-  answers_are (s ∷ ss) whole = ap (λ l. (C.meaning s.1 whole.1).0 ∷ l) (answers_are ss (L.meaning s whole).1)
-
-  serial_whole_is : (past : List (Deed L)) (ts : List Name) (whole : ℕ × C.Whole) → (serial_whole L (map (statements_of past) ts) whole).1 ≡ serial_then M C (map (stated M C past) ts) whole.1
-  serial_whole_is past [] whole = refl
-  serial_whole_is past (t ∷ ts) whole = serial_whole_is past ts (whole_after L (statements_of past t) whole) ∙ ap (serial_then M C (map (stated M C past) ts)) (whole_is (statements_of past t) whole)
-
-  serial_answers_are : (past : List (Deed L)) (ts : List Name) (whole : ℕ × C.Whole) → serial_answers L (map (statements_of past) ts) whole ≡ serial_answers_then M C (map (stated M C past) ts) whole.1
-  serial_answers_are past [] whole = refl
-  serial_answers_are past (t ∷ ts) whole = ap₂ (λ a l. a ∷ l) (answers_are (statements_of past t) whole)
-      (serial_answers_are past ts (whole_after L (statements_of past t) whole) ∙ ap (serial_answers_then M C (map (stated M C past) ts)) (whole_is (statements_of past t) whole))
-
   -- the law over the list
   pub list_law : ListLaw M C
-  list_law n whole w events opening explained =
-      let v = run events w in
-      let serial = serial_law list_lawful (n, whole) w events opening explained in
-      record {
-        answers = serial.answers ∙ serial_answers_are v.past (committed v.past) (n, whole);
-        rebuilt = λ p. serial.rebuilt p ∙ ap₂ (λ m x. C.content m p x) serial.in_force (serial_whole_is v.past (committed v.past) (n, whole));
-      }
+  list_law n whole w events opening explained = serial_list M C (n, whole) (run events w) (serial_law list_lawful (n, whole) w events opening explained)

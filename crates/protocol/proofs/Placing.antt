@@ -71,6 +71,9 @@ module _ (M : Lang) (C : Catalogues M) (law : IsLawfulSite M) (a : M.Site) where
       either_way true = refl
       either_way false = refl
 
+  pub changed_here : (g : M.Leaf) (i : M.Intentions) (content : M.Content) → changed_at M (a, g) (intended_at M C a i) content ≡ M.changed g i content
+  changed_here g i content = changed_placed (a, g) i content ∙ if_true (M.same_site a a) _ _ (here a)
+
   full_placed : (g : M.Leaf) (x : M.Write) (i : M.Intentions) → is_full_at M (a, g) x (intended_at M C a i) ≡ M.is_full g x i
   full_placed g x i = by_empty (λ j. is_full_at M (a, g) x j ≡ M.is_full g x i) i (λ e. ap (M.is_full g x) (sym e)) (ap (M.is_full g x) (own_at i))
 
@@ -133,7 +136,7 @@ module _ (M : Lang) (C : Catalogues M) (law : IsLawfulSite M) (a : M.Site) where
   put_placed : (g : M.Leaf) (test : M.Leaf → Bool) → (let whole : M.Site × M.Leaf → Bool = λ p. M.same_site p.0 a && put M.same_leaf g true test p.1 in whole ≡ put (same_place M) (a, g) true (λ p. M.same_site p.0 a && test p.1))
   put_placed g test i p = both_and (M.same_site p.0 a) (M.same_leaf p.1 g) (test p.1) i
 
-  kept_here : (s : SiteState M) (g : M.Leaf) → (site_at M C a s).kept (a, g) ≡ s.kept g
+  pub kept_here : (s : SiteState M) (g : M.Leaf) → (site_at M C a s).kept (a, g) ≡ s.kept g
   kept_here s g = if_true (M.same_site a a) (s.kept g) C.nothing (here a)
 
   -- ---- the table

@@ -1,7 +1,7 @@
 -- Operations of leaves that have a home.
 use Rattle.std.specs.Prelude.{List, ⊤}
 use Rattle.std.specs.List.{AllByRecursion}
-use Rattle.protocol.specs.Desk.{Idle, Known, Reading, Row, Stage, Txn, Unknown, Voting, Writing}
+use Rattle.protocol.specs.Desk.{Choice, Commit_call, Give_up, Idle, Known, Reading, Request, Rollback, Row, Stage, State, Txn, Unknown, Voting, Writing}
 use Rattle.protocol.specs.Language.{Lang}
 use Rattle.protocol.specs.Letter.{Body, Fetch, Write, Letter}
 
@@ -23,6 +23,13 @@ module _ (L : Lang) (P : L.Leaf → Type 0) where
   -- what is written is of such leaves
   abbrev pub WritesHomed : List (L.Leaf × L.Write) → Type 0
   WritesHomed writes = AllByRecursion (λ write. P write.0) writes
+
+  -- so is what is chosen where a statement is asked for
+  abbrev pub AsksHomed : Request L → Choice L → Type 0
+  AsksHomed (State s) choice = WritesHomed choice.1
+  AsksHomed Commit_call choice = ⊤
+  AsksHomed Rollback choice = ⊤
+  AsksHomed Give_up choice = ⊤
 
   -- so is what a transaction fetches, or still writes
   abbrev pub StageHomed : Stage L → Type 0

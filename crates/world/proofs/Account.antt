@@ -107,9 +107,9 @@ module _ (db : Database) where
 
   state_shown : (text : List ℕ) (before after : Machines) (txn : Txn) (heard : List Notice) (does : DoesState db text txn before after heard) → Shows db (event.Call (call.State txn text)) does.asks.serves.deeds
   state_shown text before after txn heard does =
-      let turn = on_request (txn_name txn) does.asks.choice (State does.statement) (txn_in db before.table txn) in
-      let shown = state_shows (txn_name txn) does.statement does.asks.choice (txn_in db before.table txn) does.asks.accepted in
-      with_letters (To_do (txn_name txn) (State does.statement) does.asks.choice) (call.State txn text) before after heard does.asks.serves turn.deeds (turned_past before (txn_name txn) turn does.asks.within) (sym shown.0)
+      let turn = on_request (txn_name txn) does.asks.choice (State (before.table.version, does.statement)) (txn_in db before.table txn) in
+      let shown = state_shows (txn_name txn) (before.table.version, does.statement) does.asks.choice (txn_in db before.table txn) does.asks.accepted in
+      with_letters (To_do (txn_name txn) (State (before.table.version, does.statement)) does.asks.choice) (call.State txn text) before after heard does.asks.serves turn.deeds (turned_past before (txn_name txn) turn does.asks.within) (sym shown.0)
       (subst (AreStated db ((txn, text) ∷ [])) (sym shown.1) ((refl, does.spelled), tt))
 
   -- a call more is told
@@ -126,7 +126,7 @@ module _ (db : Database) where
   pub state_told : (text : List ℕ) (before after : Machines) (txn : Txn) (heard : List Notice) (entries : List Entry) (past : List (Deed (language db))) → Tells db entries past → (does : DoesState db text txn before after heard) →
       Tells db (entries ++ said (call.State txn text) heard ∷ []) (past ++ does.asks.serves.deeds)
   state_told text before after txn heard entries past so does =
-      told_more entries past so (call.State txn text) (To_do (txn_name txn) (State does.statement) does.asks.choice) before after heard does.asks.serves (state_shown text before after txn heard does)
+      told_more entries past so (call.State txn text) (To_do (txn_name txn) (State (before.table.version, does.statement)) does.asks.choice) before after heard does.asks.serves (state_shown text before after txn heard does)
 
   pub rollback_told : (before after : Machines) (txn : Txn) (heard : List Notice) (entries : List Entry) (past : List (Deed (language db))) → Tells db entries past → (does : DoesAsk db Rollback txn before after heard) →
       Tells db (entries ++ said (call.Rollback txn) heard ∷ []) (past ++ does.serves.deeds)
@@ -157,5 +157,5 @@ moves_follow db reached law = record {
   tells = λ moves before after entries past so made. made_told db moves before after entries past so made;
   serial = λ whole machines entries past so served.
       let serial = law whole machines past served in
-      serial_run db whole machines entries past so (record { answers = serial.answers; rebuilt = serial.rebuilt; in_force = serial.in_force });
+      serial_run db whole machines entries past so (record { answers = serial.answers; rebuilt = serial.rebuilt });
 }

@@ -4,7 +4,7 @@ use Rattle.std.proofs.Math.Path.{fun_ext}
 use Rattle.std.specs.List.{AllByRecursion}
 use Rattle.std.specs.Option.{option_map}
 use Rattle.meaning.specs.declared.statement.Statement.{Statement}
-use Rattle.meaning.specs.Whole.{Relations}
+use Rattle.meaning.specs.Whole.{FitsSchema, Relations}
 use Rattle.store.specs.declared.name.Ticket.{Ticket}
 use Rattle.store.specs.declared.name.Txn as txns
 use Rattle.store.specs.declared.prepared.Prepared.{Prepared as Kept_row}
@@ -14,9 +14,10 @@ use Rattle.protocol.specs.Language.{Name}
 use Rattle.protocol.specs.Letters.{name_of, ticket_of, txn_name}
 use Rattle.protocol.specs.Local.{local}
 use Rattle.protocol.specs.Parts.{In}
-use Rattle.protocol.specs.Serial.{IsOpening, committed, serial_whole, statements_of, with_all_decided}
+use Rattle.protocol.specs.Serial.{IsOpening, committed, with_all_decided}
 use Rattle.protocol.specs.Site.{Dead}
-use Rattle.protocol.specs.Statements.{Statements, status_with}
+use Rattle.protocol.specs.Catalogues.{Catalogues, stated, status_at}
+use Rattle.protocol.proofs.ListLaw.{serial_list, serial_whole_is}
 use Rattle.protocol.proofs.StatementCourse.{opening_quiet}
 use Rattle.site.specs.State.{stands, txn_in, visiting}
 use Rattle.desk.specs.declared.transaction.TxnState.{TxnState}
@@ -28,13 +29,14 @@ use Rattle.desk.specs.Transaction.{txn_of}
 use Rattle.world.specs.Client.{IsServed}
 use Rattle.world.specs.Machines.{Machines, world_of}
 use Rattle.world.specs.Recovery.{BeginsAnewLaw, GoesOnFrom, HaveNoTicket, IsBeginning, NothingStands}
+use Rattle.world.specs.Runs.{relations_after}
 use Rattle.world.specs.Settled.{AreDecided, after_committed}
 use Rattle.world.specs.Sites.{IsSeated, Seat, state_at, states_of}
 use Rattle.world.proofs.Counting.{fit_counted, fit_uncounted, with_counts}
 use Rattle.world.proofs.Openings.{at_each}
 
 -- ---- a site of which no ticket stands
-module _ (S : Statements local) (seat : Seat) (fits : IsSeated seat) (none : seat.table.tickets ≡ []) where
+module _ (S : Catalogues local) (seat : Seat) (fits : IsSeated seat) (none : seat.table.tickets ≡ []) where
   nobody_stands : (ticket : Ticket) → seat.table.standing ticket ≡ None
   nobody_stands ticket = go (seat.table.standing ticket) refl
     where
@@ -50,12 +52,12 @@ module _ (S : Statements local) (seat : Seat) (fits : IsSeated seat) (none : sea
       go (Some row) is = let some : None ≡ Some row.txn = sym (ap txn_in (nobody_stands ticket)) ∙ fits.prepared ticket ∙ ap (option_map (λ (row : Kept_row). row.txn)) is in absurd cc
 
   is_dead_there : (k : Name) → (state_at S seat).status k ≡ Dead
-  is_dead_there k = ap (status_with S) (ap (stands seat.table (ticket_of k)) (no_row (ticket_of k)) ∙ ap (visiting seat.table.locks (ticket_of k)) (nobody_stands (ticket_of k)))
+  is_dead_there k = ap (status_at local S seat.name) (ap (stands seat.table (ticket_of k)) (no_row (ticket_of k)) ∙ ap (visiting seat.table.locks (ticket_of k)) (nobody_stands (ticket_of k)))
 
   none_known_there : (state_at S seat).known ≡ []
   none_known_there = ap (map name_of) none
 
-module _ (S : Statements local) where
+module _ (S : Catalogues local) where
   all_dead : (seats : List Seat) → AllByRecursion IsSeated seats → HaveNoTicket seats → AllByRecursion (λ seat. (k : Name) → (state_at S seat).status k ≡ Dead) seats
   all_dead [] fits none = tt
   all_dead (seat ∷ seats) fits none = (is_dead_there S seat fits.0 none.0, all_dead seats fits.1 none.1)
@@ -76,27 +78,30 @@ module _ (db : Database) (law : ReachedLaw (language db)) (whole : Relations) (m
   known_is : (a : List ℕ) → (states_of (statements db) machines.seats a).known ≡ []
   known_is = at_each (statements db) (λ s. s.known ≡ []) machines.seats refl (all_unknown (statements db) machines.seats served.fit.sites still.tickets)
 
-  anew : IsOpening (after_committed db past whole) (world_of db machines [] [])
+  abbrev opened : (language db).Whole
+  opened = (served.version, whole)
+
+  anew : IsOpening (machines.table.version, after_committed db past whole) (world_of db machines [] [])
   anew = record {
-    is_whole = law.is_whole whole (world_of db machines [] past) served.reached;
+    is_whole = subst (FitsSchema db.schemas) (serial_whole_is local (statements db) past (committed past) opened) (law.is_whole opened (world_of db machines [] past) served.reached);
     letters = refl;
     past = refl;
     visits = at_each (statements db) (λ s. (k : Name) → s.status k ≡ Dead) machines.seats (λ k. refl) (all_dead (statements db) machines.seats served.fit.sites still.tickets);
     tickets = known_is;
     undecided = λ t. ap (txn_of db) (nobody_begun (txn_at t));
     names = ap (map txn_name) still.txns;
-    rebuilt = λ leaf.
-        let s = states_of (statements db) machines.seats (db.home leaf) in
-        sym (ap (λ names. with_all_decided (desk_of db machines.table) leaf s.status names (s.kept leaf)) (known_is (db.home leaf)))
-        ∙ (law.serial whole (world_of db machines [] past) served.reached).rebuilt leaf;
+    rebuilt = λ place.
+        let s = states_of (statements db) machines.seats place.0 in
+        sym (ap (λ names. with_all_decided (desk_of db machines.table) place s.status names (s.kept place)) (known_is place.0))
+        ∙ (serial_list local (statements db) opened (world_of db machines [] past) (law.serial opened (world_of db machines [] past) served.reached)).rebuilt place;
     in_force = refl;
   }
 
   pub begins_anew : IsBeginning db (after_committed db past whole) machines
   begins_anew = record {
     fits = anew.is_whole;
-    served = record { reached = record { opening = world_of db machines [] []; opens = anew; events = []; gone = []; is = refl; explained = tt }; fit = served.fit };
-    quiet = opening_quiet (after_committed db past whole) (world_of db machines [] []) anew;
+    served = record { version = machines.table.version; reached = record { opening = world_of db machines [] []; opens = anew; events = []; gone = []; is = refl; explained = tt }; fit = served.fit };
+    quiet = opening_quiet (machines.table.version, after_committed db past whole) (world_of db machines [] []) anew;
   }
 
 pub anew_law : (db : Database) → ReachedLaw (language db) → BeginsAnewLaw db
@@ -106,7 +111,7 @@ anew_law db law whole machines past served still = begins_anew db law whole mach
 pub going_on : (db : Database) (whole : Relations) (past : List (Deed (language db))) (first second : Machines) (a b : List ℕ) → second ≡ first → GoesOnFrom db whole past (with_counts first a) → GoesOnFrom db whole past (with_counts second b)
 going_on db whole past first second a b same goes = subst (λ (machines : Machines). GoesOnFrom db whole past (with_counts machines b)) (sym same) (record {
   more = goes.more;
-  served = record { reached = goes.served.reached; fit = fit_counted db first b (fit_uncounted db first a goes.served.fit) };
+  served = record { version = goes.served.version; reached = goes.served.reached; fit = fit_counted db first b (fit_uncounted db first a goes.served.fit) };
   quiet = goes.quiet;
   unvisited = goes.unvisited;
   unstated = goes.unstated;
@@ -133,8 +138,8 @@ module _ (db : Database) (law : BeginsAnewLaw db) (whole : Relations) (past : Li
 
   same_whole : after_committed db (past ++ goes.more) whole ≡ after_committed db past whole
   same_whole =
-      ap (λ ts. serial_whole (language db) (map (statements_of (past ++ goes.more)) ts) whole) goes.uncommitted
-      ∙ ap (λ (of : Name → List Statement). serial_whole (language db) (map of (committed past)) whole) (fun_ext goes.unstated)
+      ap (λ ts. relations_after db (map (stated local (statements db) (past ++ goes.more)) ts) whole) goes.uncommitted
+      ∙ ap (λ (of : Name → List Statement). relations_after db (map of (committed past)) whole) (fun_ext (λ t. ap (map (λ (s : ℕ × Statement). s.1)) (goes.unstated t)))
 
   pub begins_on : IsBeginning db (after_committed db past whole) machines
   begins_on = subst (λ w. IsBeginning db w machines) same_whole (law whole machines (past ++ goes.more) goes.served (record { txns = no_txns; tickets = goes.unvisited }))

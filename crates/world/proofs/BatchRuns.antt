@@ -1,7 +1,6 @@
 -- What transactions come to that are run one after another.
 use Rattle.std.proofs.Common.{◌≡◌, refl, sym, ap, ◌∙◌, subst, ℕ, Bool, true, false, ◌||◌, List, [], ◌∷◌, ◌++◌, map, ◌⊎◌, inl, inr, ⊎_elim, Some, None}
 use Rattle.std.specs.List.{list_any}
-use Rattle.terms.specs.declared.leaf.Leaf.{Leaf}
 use Rattle.meaning.specs.Whole.{Relations}
 use Rattle.store.specs.Content.{Content}
 use Rattle.store.specs.declared.name.Txn.{Txn}
@@ -15,6 +14,7 @@ use Rattle.desk.specs.declared.reply.Notice.{Notice}
 use Rattle.desk.specs.declared.reply.Reply as replies
 use Rattle.desk.specs.declared.reply.Reply.TheVariants.{Answer, Committed, RolledBack}
 use Rattle.desk.specs.Database.{Database, language}
+use Rattle.desk.specs.Place.{Place}
 use Rattle.desk.specs.State.{notice_of}
 use Rattle.world.specs.declared.event.Call as calls
 use Rattle.world.specs.declared.event.Call.TheVariants as call
@@ -53,7 +53,7 @@ goes_on (call.Commit txn) refusal = refl
 goes_on (call.Rollback txn) refusal = refl
 goes_on (call.GiveUp txn) refusal = refl
 
-module _ (db : Database) (fits : Leaf → Content → Bool) (reached : ReachedLaw (language db)) (obeys : ObeysUnlessRefused db fits) (quiet : GrowsQuiet db fits) (whole : Relations) where
+module _ (db : Database) (fits : Place → Content → Bool) (reached : ReachedLaw (language db)) (obeys : ObeysUnlessRefused db fits) (quiet : GrowsQuiet db fits) (whole : Relations) where
   -- all is quiet after no more moves
   at_end : (middle after : Machines) (past : List (Deed (language db))) (more : List Move) → more ≡ [] → Made db more middle after → Stands db fits None middle past → Stands db fits None after past
   at_end middle after past more none made stands = subst (λ (m : Machines). Stands db fits None m past) (sym (subst (λ (moves : List Move). Made db moves middle after) none made)) stands

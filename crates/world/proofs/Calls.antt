@@ -1,7 +1,6 @@
 -- What calls make of the machines that serve one client, one after another.
 use Rattle.std.proofs.Common.{◌≡◌, refl, sym, ap, subst, ◌∙◌, ℕ, true, false, List, [], ◌∷◌, ◌++◌, inl, inr, ⊎_elim, Option, None, Result, Ok, Err, IfErr, IfOk}
 use Rattle.meaning.specs.declared.statement.Statement.{Statement}
-use Rattle.catalog.specs.Relation.{catalogue_of}
 use Rattle.reader.specs.declared.command.Command.TheVariants.{Run}
 use Rattle.reader.specs.Command.{IsTextOf}
 use Rattle.store.specs.declared.name.Txn.{Txn}
@@ -13,7 +12,7 @@ use Rattle.desk.specs.declared.refusal.Refusal.TheVariants as told_as
 use Rattle.desk.specs.declared.refusal.Refusal.TheVariants.{Memory}
 use Rattle.desk.specs.declared.reply.Notice.{Notice}
 use Rattle.desk.specs.Database.{Database}
-use Rattle.desk.specs.OfCatalogue.{IsOfCatalogue}
+use Rattle.desk.specs.OfCatalogue.{InForce, IsOfCatalogue}
 use Rattle.world.specs.declared.event.Call as calls
 use Rattle.world.specs.declared.event.Call.TheVariants as call
 use Rattle.world.specs.declared.machines.Machines as code
@@ -25,7 +24,8 @@ use Rattle.world.specs.Frame.{Blames, ComesTo, HasMade, LeavesMachines, MakesMov
 use Rattle.world.specs.Machines.{Machines}
 use Rattle.world.specs.Stopping.{StopsFor, is_stop}
 use Rattle.world.proofs.Counting.{no_fewer, no_fewer_then}
-use Rattle.world.proofs.Deeds.{made_fit, made_then}
+use Rattle.world.proofs.Deeds.{made_fit, made_then, made_version}
+use Rattle.world.proofs.InForce.{in_force_on}
 use Rattle.world.proofs.Denials.{is_memory}
 use Rattle.world.proofs.Reaching.{same_on, then_on}
 use Rattle.world.proofs.Stops.{call_since, memory_only}
@@ -53,7 +53,7 @@ made_of db before after told K goes (inr made) = made
 module _ {D S : Type 0} (IsClean IsSound : code.Machines D S → Type 0) (view : code.Machines D S → Machines) where
   -- so each result of one call, as another's
   pub as_kind : {T U : Type 0} {K : Kind T} {M : Kind U} (old new : code.Machines D S) (first : Result T Refusal) (result : Result U Refusal) → (IfErr first (StopsFor (view old).refused (view new).refused) → IfErr result (StopsFor (view old).refused (view new).refused)) →
-      ((db : Database) → IsOfCatalogue db → db.catalogue ≡ catalogue_of old.desk.catalog → MakesMoves db (view old) (view new) first (K db) → MakesMoves db (view old) (view new) result (M db)) → ComesTo IsClean IsSound view old new first K → ComesTo IsClean IsSound view old new result M
+      ((db : Database) → IsOfCatalogue db → InForce db (view old).table.version old.desk.catalog → MakesMoves db (view old) (view new) first (K db) → MakesMoves db (view old) (view new) result (M db)) → ComesTo IsClean IsSound view old new first K → ComesTo IsClean IsSound view old new result M
   as_kind old new first result blames moves comes = record {
     clean = comes.clean;
     sound = comes.sound;
@@ -75,7 +75,7 @@ module _ {D S : Type 0} (IsClean IsSound : code.Machines D S → Type 0) (view :
   stops_as old new told stops comes = as_kind old new (Err told) (Err told) (λ blamed. blamed) (λ db of is made. inl stops) comes
 
   -- nothing is done
-  pub stays : {T : Type 0} {M : Kind T} (machines : code.Machines D S) (result : Result T Refusal) → IfErr result (StopsFor (view machines).refused (view machines).refused) → ((db : Database) → IsOfCatalogue db → db.catalogue ≡ catalogue_of machines.desk.catalog → MakesMoves db (view machines) (view machines) result (M db)) → ComesTo IsClean IsSound view machines machines result M
+  pub stays : {T : Type 0} {M : Kind T} (machines : code.Machines D S) (result : Result T Refusal) → IfErr result (StopsFor (view machines).refused (view machines).refused) → ((db : Database) → IsOfCatalogue db → InForce db (view machines).table.version machines.desk.catalog → MakesMoves db (view machines) (view machines) result (M db)) → ComesTo IsClean IsSound view machines machines result M
   stays machines result blames moves = record {
     clean = λ clean. clean;
     sound = λ clean sound. sound;
@@ -95,20 +95,23 @@ module _ {D S : Type 0} (IsClean IsSound : code.Machines D S → Type 0) (view :
   pub then_from : {T U : Type 0} {K : Kind T} {L M : Kind U} (old mid new : code.Machines D S) (first : Result T Refusal) (result : Result U Refusal) →
       ((db : Database) → MakesMoves db (view old) (view mid) first (K db) → HasMade db (view old) (view mid) (K db first)) → ((db : Database) (one more : List Move) → K db first one → L db result more → M db result (one ++ more)) →
       ComesTo IsClean IsSound view old mid first K → ComesTo IsClean IsSound view mid new result L → ComesTo IsClean IsSound view old new result M
-  then_from {K = K} {L = L} {M = M} old mid new first result done join one two = record {
-    clean = λ clean. one.clean (two.clean clean);
-    sound = λ clean sound. two.sound clean (one.sound (two.clean clean) sound);
-    counts = no_fewer_then (view old).refused (view mid).refused (view new).refused one.counts two.counts;
-    catalog = two.catalog ∙ one.catalog;
-    blames = λ clean sound. call_since result (view old).refused (view mid).refused (view new).refused one.counts (two.blames clean (one.sound (two.clean clean) sound));
-    served = λ db whole past of law is clean sound served.
-        then_on db law whole (view old) (view mid) (view new) past (one.served db whole past of law is (two.clean clean) sound served)
-        (λ more so. two.served db whole more of law (is ∙ ap catalogue_of (sym one.catalog)) clean (one.sound (two.clean clean) sound) so);
-    moves = λ db of is clean sound fit.
-        let made = done db (one.moves db of is (two.clean clean) sound fit) in
-        moves_then db (L db) (M db) (K db first) (view old) (view mid) (view new) result made (join db)
-        (two.moves db of (is ∙ ap catalogue_of (sym one.catalog)) clean (one.sound (two.clean clean) sound) (made_fit db made.moves (view old) (view mid) fit made.made));
-  }
+  then_from {K = K} {L = L} {M = M} old mid new first result done join one two =
+      let here : (db : Database) → InForce db (view old).table.version old.desk.catalog → HasMade db (view old) (view mid) (K db first) → InForce db (view mid).table.version mid.desk.catalog =
+      λ db is made. in_force_on db (view old).table.version (view mid).table.version old.desk.catalog mid.desk.catalog (made_version db made.moves (view old) (view mid) made.made) one.catalog is in
+      record {
+        clean = λ clean. one.clean (two.clean clean);
+        sound = λ clean sound. two.sound clean (one.sound (two.clean clean) sound);
+        counts = no_fewer_then (view old).refused (view mid).refused (view new).refused one.counts two.counts;
+        catalog = two.catalog ∙ one.catalog;
+        blames = λ clean sound. call_since result (view old).refused (view mid).refused (view new).refused one.counts (two.blames clean (one.sound (two.clean clean) sound));
+        served = λ db whole past of law is clean sound served.
+            then_on db law whole (view old) (view mid) (view new) past (one.served db whole past of law is (two.clean clean) sound served)
+            (λ more so. two.served db whole more of law (here db is (done db (one.moves db of is (two.clean clean) sound served.fit))) clean (one.sound (two.clean clean) sound) so);
+        moves = λ db of is clean sound fit.
+            let made = done db (one.moves db of is (two.clean clean) sound fit) in
+            moves_then db (L db) (M db) (K db first) (view old) (view mid) (view new) result made (join db)
+            (two.moves db of (here db is made) clean (one.sound (two.clean clean) sound) (made_fit db made.moves (view old) (view mid) fit made.made));
+      }
 
   -- so behind a call that went well
   pub then_too : {T U : Type 0} {K : Kind T} {L M : Kind U} (old mid new : code.Machines D S) (x : T) (result : Result U Refusal) → ((db : Database) (one more : List Move) → K db (Ok x) one → L db result more → M db result (one ++ more)) →
@@ -126,7 +129,7 @@ module _ {D S : Type 0} (IsClean IsSound : code.Machines D S → Type 0) (view :
   moves_narrowed db K M before after (Err told) so (inl stops) = inl stops
   moves_narrowed db K M before after (Err told) so (inr made) = inr (record { moves = made.moves; made = made.made; is = so made.moves made.is })
 
-  pub narrowed_of : {T : Type 0} {K M : Kind T} (old new : code.Machines D S) (result : Result T Refusal) → ((db : Database) → IsOfCatalogue db → db.catalogue ≡ catalogue_of old.desk.catalog → (moves : List Move) → K db result moves → M db result moves) →
+  pub narrowed_of : {T : Type 0} {K M : Kind T} (old new : code.Machines D S) (result : Result T Refusal) → ((db : Database) → IsOfCatalogue db → InForce db (view old).table.version old.desk.catalog → (moves : List Move) → K db result moves → M db result moves) →
       ComesTo IsClean IsSound view old new result K → ComesTo IsClean IsSound view old new result M
   narrowed_of {K = K} {M = M} old new result so comes = as_kind old new result result (λ blamed. blamed) (λ db of is made. moves_narrowed db (K db) (M db) (view old) (view new) result (so db of is) made) comes
 
@@ -147,7 +150,7 @@ module _ {D S : Type 0} (IsClean IsSound : code.Machines D S → Type 0) (view :
   lone_command old new result text current none comes = narrowed old new result (λ db moves lone statement spelled. is_lone statement spelled none none lone) comes
 
   -- a text is no command's
-  pub unread : {T : Type 0} {items : T → List Notice} (machines : code.Machines D S) (told : Refusal) (text : List ℕ) (current : Option Txn) → ((db : Database) → IsOfCatalogue db → db.catalogue ≡ catalogue_of machines.desk.catalog → IsUnreadable db.schemas text told) → StopsFor (view machines).refused (view machines).refused told →
+  pub unread : {T : Type 0} {items : T → List Notice} (machines : code.Machines D S) (told : Refusal) (text : List ℕ) (current : Option Txn) → ((db : Database) → IsOfCatalogue db → InForce db (view machines).table.version machines.desk.catalog → IsUnreadable db.schemas text told) → StopsFor (view machines).refused (view machines).refused told →
       ComesTo IsClean IsSound view machines machines (Err told) (λ db done moves. IsCommand db.schemas text current current moves (heard_in items done))
   unread machines told text current none blames = stays machines (Err told) blames (λ db of is. ⊎_elim (λ memory. inl (is_memory told memory)) (λ no. inr (record { moves = []; made = refl; is = makes_none told refl (is_no_command no) refl refl })) (none db of is))
 

@@ -11,7 +11,7 @@ use Rattle.protocol.specs.Letter.{Body, Letter, Open, Fetch, Write, Prepare, Com
 use Rattle.protocol.specs.Letters.{body_of, kept_body, kept_in, letter_of, name_of}
 use Rattle.protocol.specs.Local.{local}
 use Rattle.protocol.specs.Site.{Act, Active, Dead, Prepared, SiteState, Status, on_abort, on_commit, on_fetch, on_letter, others_exclusive, said}
-use Rattle.protocol.specs.Statements.{body_with}
+use Rattle.protocol.specs.Catalogues.{body_at}
 use Rattle.protocol.specs.World.{addressed}
 use Rattle.protocol.proofs.Basics.{either}
 use Rattle.desk.specs.Database.{Database, language, statements}

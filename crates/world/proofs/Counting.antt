@@ -87,7 +87,7 @@ module _ (db : Database) where
   fit_counted machines counts fit = record { names = fit.names; leaves = fit.leaves; desk = fit.desk; within = fit.within; sites = fit.sites }
 
   pub leads_counted : (step : World (language db) → World (language db)) (before after : Machines) (a b : List ℕ) (out : List letters.Letter) (notices : List Notice) → Leads db step before after out notices → Leads db step (with_counts before a) (with_counts after b) out notices
-  leads_counted step before after a b out notices leads = record { deeds = leads.deeds; fit = fit_counted after b leads.fit; is = leads.is; explained = leads.explained; replies = leads.replies }
+  leads_counted step before after a b out notices leads = record { deeds = leads.deeds; fit = fit_counted after b leads.fit; is = leads.is; version = leads.version; placed = leads.placed; explained = leads.explained; replies = leads.replies }
 
   pub tells_counted : (machines : Machines) (counts : List ℕ) (letter : letters.Letter) (told : faults.Fault) → Tells db machines letter told → Tells db (with_counts machines counts) letter told
   tells_counted machines counts letter (fault.Desk refusal) why = why

@@ -24,7 +24,8 @@ module _ (db : Database) (whole : Relations) where
   -- machines that stand as they stood are served as they were
   pub still_served : (before after : Machines) (past : List (Deed (language db))) → IsServed db whole before past → IsStill db before after → IsServed db whole after past
   still_served before after past served still = record {
-    reached = subst (λ (w : World (language db)). IsReached whole (record w { past = past })) (sym still.same) served.reached;
+    version = served.version;
+    reached = subst (λ (w : World (language db)). IsReached (served.version, whole) (record w { past = past })) (sym still.same) served.reached;
     fit = still.fit;
   }
 
@@ -33,10 +34,10 @@ module _ (db : Database) (whole : Relations) where
 
   module _ (law : ReachedLaw (language db)) where
     pub move_served : (move : Move) (before after : Machines) (past : List (Deed (language db))) → IsServed db whole before past → (moves : Moves db move before after) → IsServed db whole after (past ++ deeds_of db move before after moves)
-    move_served (Begins txn heard) before after past served does = serves_past db law whole To_begin before after heard past served does.serves
-    move_served (States txn text heard) before after past served does = serves_past db law whole (To_do (txn_name txn) (State does.statement) does.asks.choice) before after heard past served does.asks.serves
-    move_served (Commits txn heard) before after past served does = serves_past db law whole (To_do (txn_name txn) Commit_call does.choice) before after heard past served does.serves
-    move_served (Rolls_back txn heard) before after past served does = serves_past db law whole (To_do (txn_name txn) Rollback does.choice) before after heard past served does.serves
+    move_served (Begins txn heard) before after past served does = serves_past db law whole To_begin before after heard past tt served does.serves
+    move_served (States txn text heard) before after past served does = serves_past db law whole (To_do (txn_name txn) (State (before.table.version, does.statement)) does.asks.choice) before after heard past refl served does.asks.serves
+    move_served (Commits txn heard) before after past served does = serves_past db law whole (To_do (txn_name txn) Commit_call does.choice) before after heard past tt served does.serves
+    move_served (Rolls_back txn heard) before after past served does = serves_past db law whole (To_do (txn_name txn) Rollback does.choice) before after heard past tt served does.serves
     move_served (Refuses asked told) before after past served refused = nothing_more after past (still_served before after past served refused.1)
 
     pub made_served : (moves : List Move) (before after : Machines) (past : List (Deed (language db))) → IsServed db whole before past → (made : Made db moves before after) → IsServed db whole after (past ++ deeds_in db moves before after made)
@@ -62,6 +63,19 @@ module _ (db : Database) where
   pub made_fit : (moves : List Move) (before after : Machines) → AreFit db before → Made db moves before after → AreFit db after
   made_fit [] before after fit same = subst (AreFit db) (sym same) fit
   made_fit (move ∷ moves) before after fit made = made_fit moves made.0 after (move_fit move before made.0 made.1) made.2
+
+-- the same catalogue is in force
+module _ (db : Database) where
+  move_version : (move : Move) (before after : Machines) → Moves db move before after → after.table.version ≡ before.table.version
+  move_version (Begins txn heard) before after does = does.serves.version
+  move_version (States txn text heard) before after does = does.asks.serves.version
+  move_version (Commits txn heard) before after does = does.serves.version
+  move_version (Rolls_back txn heard) before after does = does.serves.version
+  move_version (Refuses asked told) before after refused = ap (λ (w : World (language db)). w.version) refused.1.same
+
+  pub made_version : (moves : List Move) (before after : Machines) → Made db moves before after → after.table.version ≡ before.table.version
+  made_version [] before after same = ap (λ (m : Machines). m.table.version) same
+  made_version (move ∷ moves) before after made = made_version moves made.0 after made.2 ∙ move_version move before made.0 made.1
 
 -- ---- what is refused commits nothing
 module _ {L : Lang} where
@@ -99,7 +113,7 @@ module _ (db : Database) where
   made_vainly (States txn text heard ∷ moves) before after made none =
       let asks = made.1.asks in
       every_append (λ d. is_of_commit d ≡ false) asks.serves.deeds (deeds_in db moves made.0 after made.2)
-      (serves_vainly (To_do (txn_name txn) (State made.1.statement) asks.choice) before made.0 heard asks.serves (state_vainly (world_of db before [] []) tt (txn_name txn) asks.choice made.1.statement)) (made_vainly moves made.0 after made.2 none)
+      (serves_vainly (To_do (txn_name txn) (State (before.table.version, made.1.statement)) asks.choice) before made.0 heard asks.serves (state_vainly (world_of db before [] []) tt (txn_name txn) asks.choice (before.table.version, made.1.statement))) (made_vainly moves made.0 after made.2 none)
   made_vainly (Commits txn heard ∷ moves) before after made none = absurd none
   made_vainly (Rolls_back txn heard ∷ moves) before after made none =
       every_append (λ d. is_of_commit d ≡ false) made.1.serves.deeds (deeds_in db moves made.0 after made.2)

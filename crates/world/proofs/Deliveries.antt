@@ -5,7 +5,7 @@ use Rattle.std.proofs.lemmas.List.Elements.{filter_map-append}
 use Rattle.std.specs.List.{filter_map}
 use Rattle.store.specs.declared.letter.Letter as letters
 use Rattle.protocol.specs.Desk.{Choice, Deed, Give_up}
-use Rattle.protocol.specs.Home.{AreHomed, IsHomed}
+use Rattle.protocol.specs.Home.{IsHomed}
 use Rattle.protocol.specs.Language.{Lang}
 use Rattle.protocol.specs.Letter.{Letter, is_for_desk}
 use Rattle.protocol.specs.Rounds.{InRound, RanksUnder}
@@ -13,13 +13,12 @@ use Rattle.protocol.specs.Serial.{Explained}
 use Rattle.protocol.specs.Letters.{txn_name}
 use Rattle.protocol.specs.World.{World, called}
 use Rattle.protocol.proofs.Basics.{some_is}
-use Rattle.protocol.proofs.Homed.{begins_homed, called_homed, comes_homed}
 use Rattle.protocol.proofs.Rounds.{round_law}
 use Rattle.desk.specs.declared.refusal.Refusal.{Refusal}
 use Rattle.desk.specs.declared.refusal.Refusal.TheVariants as refusals
 use Rattle.desk.specs.declared.reply.Notice.{Notice}
 use Rattle.desk.specs.declared.reply.Out.{Out}
-use Rattle.desk.specs.Database.{Database, language, sent}
+use Rattle.desk.specs.Database.{Database, IsPlace, language, sent}
 use Rattle.desk.specs.State.{desk_of, notice_of}
 use Rattle.desk.specs.Transition.{told}
 use Rattle.site.specs.declared.fault.SiteFault.TheVariants as site_faults
@@ -27,13 +26,14 @@ use Rattle.protocol.specs.Delivery.{AllFounded, FirstIsFounded, IsFounded, IsKep
 use Rattle.world.specs.declared.fault.Fault.{Fault}
 use Rattle.world.specs.declared.fault.Fault.TheVariants as faults
 use Rattle.world.specs.Counted.{HaveRefused, KeptUnless, NoFewer}
-use Rattle.world.specs.Mailbox.{Ask, To_begin, To_do, Breaks, Coming, Fails, Goes, Passed_over, Scene, Serves, Taken, Turned_away, all_come, asked, at_rest, come, done_with, settled}
-use Rattle.world.specs.Machines.{AreFit, Leads, Machines, is_of_site, world_of}
+use Rattle.world.specs.Mailbox.{Ask, AsksForNow, Breaks, Coming, Fails, Goes, Passed_over, Scene, Serves, Taken, Turned_away, all_come, asked, at_rest, come, done_with, settled}
+use Rattle.world.specs.Machines.{AreFit, AreOfPlaces, Leads, Machines, is_of_site, world_of}
 use Rattle.world.specs.Taking.{CameUnless, IsDone, IsInRound, put_out_by, stop_of, world_at}
 use Rattle.world.specs.Reasons.{HasReason, TurnsAway}
 use Rattle.world.specs.Stopping.{is_stop}
 use Rattle.world.proofs.Reasoned.{same_passes, turned_ranks}
 use Rattle.world.proofs.Counting.{fit_counted, kept_then, leads_counted, no_fewer, no_fewer_then, with_counts}
+use Rattle.world.proofs.Placed.{placed_both}
 use Rattle.world.proofs.Running.{all_both}
 
 pub all_come_append : {L : Lang} (one other : List (Coming L)) (w : World L) → all_come (one ++ other) w ≡ all_come other (all_come one w)
@@ -51,8 +51,9 @@ nothing_goes db here fit = record {
   deeds = [];
   fit = fit;
   is = λ past. ap (world_of db here.machines (map (sent db) here.waiting)) (sym (append-nil past));
-  homed = λ homes. homes;
-  founded = λ homes past. tt;
+  version = refl;
+  placed = λ placed. placed;
+  founded = λ placed past. tt;
   counts = no_fewer here.machines.refused;
   kept = inl tt;
   explained = tt;
@@ -67,6 +68,7 @@ nothing_breaks db before after a b waiting heard same fit = record {
   left = map (sent db) waiting;
   fit = fit_counted db after b (subst (AreFit db) (sym same) fit);
   is = λ past i. world_of db (sym same i) (map (sent db) waiting) (sym (append-nil past) i);
+  version = ap (λ (m : Machines). m.table.version) same;
   explained = tt;
 }
 
@@ -82,8 +84,9 @@ module _ (db : Database) (step : World (language db) → World (language db)) (f
         ∙ ap (all_come other.comings) (one.is past)
         ∙ other.is (past ++ one.deeds)
         ∙ ap (world_of db third.machines (map (sent db) third.waiting)) (append_assoc past one.deeds other.deeds);
-    homed = λ homes. other.homed (one.homed homes);
-    founded = λ homes past. founded_append db one.comings other.comings (step (world_of db first.machines (map (sent db) first.waiting) past)) (one.founded homes past) (subst (AllFounded other.comings) (sym (one.is past)) (other.founded (one.homed homes) (past ++ one.deeds)));
+    version = other.version ∙ one.version;
+    placed = λ placed. other.placed (one.placed placed);
+    founded = λ placed past. founded_append db one.comings other.comings (step (world_of db first.machines (map (sent db) first.waiting) past)) (one.founded placed past) (subst (AllFounded other.comings) (sym (one.is past)) (other.founded (one.placed placed) (past ++ one.deeds)));
     counts = no_fewer_then first.machines.refused second.machines.refused third.machines.refused one.counts other.counts;
     kept = kept_then one.comings other.comings first.machines.refused second.machines.refused third.machines.refused one.counts other.counts one.kept other.kept;
     explained = all_both Explained one.deeds other.deeds one.explained other.explained;
@@ -104,6 +107,7 @@ module _ (db : Database) (step : World (language db) → World (language db)) (f
         ∙ ap (all_come other.comings) (one.is past)
         ∙ other.is (past ++ one.deeds)
         ∙ ap (world_of db after other.left) (append_assoc past one.deeds other.deeds);
+    version = other.version ∙ one.version;
     explained = all_both Explained one.deeds other.deeds one.explained other.explained;
   }
 
@@ -115,6 +119,7 @@ module _ (db : Database) (step : World (language db) → World (language db)) (f
     left = map (sent db) second.waiting;
     fit = one.fit;
     is = one.is;
+    version = one.version;
     explained = one.explained;
   }
 
@@ -122,22 +127,12 @@ module _ (db : Database) (step : World (language db) → World (language db)) (f
 one_left : (rank n : ℕ) → 2 ≤ rank → rank ≤ suc n → 1 ≤ n
 one_left rank n two few = omega arith
 
--- what becomes of a letter whose operation is for the site that keeps the leaf has its reason in the protocol's world
-founded_here : (db : Database) (machines : Machines) (letter : letters.Letter) (waiting : List (Letter (language db))) (past : List (Deed (language db))) (coming : Coming (language db)) → IsHomed (sent db letter) → HasReason db machines letter coming → IsFounded (world_of db machines waiting past) coming (sent db letter)
+-- what becomes of a letter whose operation is of a leaf at its site has its reason in the protocol's world
+founded_here : (db : Database) (machines : Machines) (letter : letters.Letter) (waiting : List (Letter (language db))) (past : List (Deed (language db))) (coming : Coming (language db)) → IsHomed (language db) (IsPlace db) (sent db letter) → HasReason db machines letter coming → IsFounded (world_of db machines waiting past) coming (sent db letter)
 founded_here db machines letter waiting past (Taken kept choice) home reason = (same_passes db (is_for_desk (sent db letter).body) machines waiting past kept choice (sent db letter) ∙ reason.0, reason.1)
 founded_here db machines letter waiting past (Turned_away choice) home (inl limit) = record { choice = limit.choice; explained = limit.explained; past = same_passes db (is_for_desk (sent db letter).body) machines waiting past true limit.choice (sent db letter) ∙ limit.past }
 founded_here db machines letter waiting past (Turned_away choice) home (inr astray) = absurd (astray home)
 founded_here db machines letter waiting past Passed_over home reason = reason
-
--- ---- operations go to the sites that keep their leaves
-done_homed : {L : Lang} (l : Letter L) (coming : Coming L) (w : World L) → AreHomed w.letters → AreHomed (done_with l coming w).letters
-done_homed l (Taken kept choice) w homes = comes_homed w kept choice l homes
-done_homed l (Turned_away choice) w homes = called_homed w l.txn choice Give_up homes
-done_homed l Passed_over w homes = homes
-
-asked_homed : {L : Lang} (ask : Ask L) (w : World L) → AreHomed w.letters → AreHomed (asked ask w).letters
-asked_homed To_begin w homes = begins_homed w homes
-asked_homed (To_do txn request choice) w homes = called_homed w txn choice request homes
 
 -- a letter that is in front comes
 module _ (db : Database) (letter : letters.Letter) (here : Scene) (after : Machines) (rest out : List letters.Letter) (notices : List Notice) (in_front : here.waiting ≡ letter ∷ rest) (done : IsDone db letter here.machines after out notices) where
@@ -147,8 +142,8 @@ module _ (db : Database) (letter : letters.Letter) (here : Scene) (after : Machi
       ∙ done.leads.is (map (sent db) rest) past
       ∙ ap (λ waiting. world_of db after waiting (past ++ done.leads.deeds)) (sym (map-append (sent db) rest out))
 
-  homed_in_front : AreHomed (map (sent db) here.waiting) → AreHomed (map (sent db) (letter ∷ rest))
-  homed_in_front homes = subst (λ (all : List letters.Letter). AreHomed (map (sent db) all)) in_front homes
+  placed_in_front : AreOfPlaces db here.waiting → AreOfPlaces db (letter ∷ rest)
+  placed_in_front placed = subst (AreOfPlaces db) in_front placed
 
   pub comes_goes : (there : Scene) → there.machines ≡ after → there.waiting ≡ rest ++ out → there.heard ≡ here.heard ++ notices → Goes db (λ w. w) here there
   comes_goes there machines waiting heard = record {
@@ -156,12 +151,11 @@ module _ (db : Database) (letter : letters.Letter) (here : Scene) (after : Machi
     deeds = done.leads.deeds;
     fit = subst (AreFit db) (sym machines) done.leads.fit;
     is = λ past. is_next past ∙ (λ i. world_of db (sym machines i) (map (sent db) (sym waiting i)) (past ++ done.leads.deeds));
-    homed = λ homes. subst (λ (all : List letters.Letter). AreHomed (map (sent db) all)) (sym waiting)
-        (subst (λ (w : World (language db)). AreHomed w.letters) (done.leads.is (map (sent db) rest) [] ∙ ap (λ all. world_of db after all ([] ++ done.leads.deeds)) (sym (map-append (sent db) rest out)))
-        (done_homed (sent db letter) done.coming (world_of db here.machines (map (sent db) rest) []) (homed_in_front homes).1));
-    founded = λ homes past. (
+    version = ap (λ (m : Machines). m.table.version) machines ∙ done.leads.version;
+    placed = λ placed. subst (AreOfPlaces db) (sym waiting) (placed_both db rest out (placed_in_front placed).1 done.leads.placed);
+    founded = λ placed past. (
       subst (λ (waiting : List letters.Letter). FirstIsFounded (world_of db here.machines (map (sent db) waiting) past) done.coming (map (sent db) waiting)) (sym in_front)
-          (founded_here db here.machines letter (map (sent db) (letter ∷ rest)) past done.coming (homed_in_front homes).0 done.reason),
+          (founded_here db here.machines letter (map (sent db) (letter ∷ rest)) past done.coming (placed_in_front placed).0 done.reason),
       tt,
     );
     counts = subst (λ (m : Machines). NoFewer here.machines.refused m.refused) (sym machines) done.counts;
@@ -177,6 +171,7 @@ module _ (db : Database) (letter : letters.Letter) (here : Scene) (after : Machi
     left = map (sent db) (rest ++ out);
     fit = done.leads.fit;
     is = is_next;
+    version = done.leads.version;
     explained = done.leads.explained;
   }
 
@@ -208,8 +203,9 @@ module _ (db : Database) (ask : Ask (language db)) (before mid : Machines) (out 
     deeds = leads.deeds;
     fit = leads.fit;
     is = λ past. leads.is [] past;
-    homed = λ homes. subst (λ (w : World (language db)). AreHomed w.letters) (leads.is [] []) (asked_homed ask (world_of db before [] []) tt);
-    founded = λ homes past. tt;
+    version = leads.version;
+    placed = λ placed. leads.placed;
+    founded = λ placed past. tt;
     counts = counts;
     kept = inl tt;
     explained = leads.explained;
@@ -219,14 +215,14 @@ module _ (db : Database) (ask : Ask (language db)) (before mid : Machines) (out 
   pub call_serves : (after : Machines) (heard : List Notice) → Goes db (λ w. w) (put_out_by mid out) (settled after heard) → Serves db ask before after heard
   call_serves after heard goes =
       let all = then_goes db (asked ask) (at_rest before) (put_out_by mid out) called_goes (settled after heard) goes in
-      record { comings = all.comings; deeds = all.deeds; fit = all.fit; is = all.is; founded = all.founded tt; counts = all.counts; kept = all.kept; explained = all.explained; replies = all.replies }
+      record { comings = all.comings; deeds = all.deeds; fit = all.fit; is = all.is; version = all.version; founded = all.founded tt; counts = all.counts; kept = all.kept; explained = all.explained; replies = all.replies }
 
-  pub call_fails : (after : Machines) → Breaks db (λ w. w) (put_out_by mid out) after → Fails db before after
-  call_fails after breaks = inr (ask, then_breaks db (asked ask) (at_rest before) (put_out_by mid out) called_goes after breaks)
+  pub call_fails : AsksForNow db before.table.version ask → (after : Machines) → Breaks db (λ w. w) (put_out_by mid out) after → Fails db before after
+  call_fails now after breaks = inr (ask, now, then_breaks db (asked ask) (at_rest before) (put_out_by mid out) called_goes after breaks)
 
 -- a call that went well may be said of as one that failed
-pub serves_fails : (db : Database) (ask : Ask (language db)) (before after : Machines) (heard : List Notice) → Serves db ask before after heard → Fails db before after
-serves_fails db ask before after heard serves = inr (ask, record { comings = serves.comings; deeds = serves.deeds; left = []; fit = serves.fit; is = serves.is; explained = serves.explained })
+pub serves_fails : (db : Database) (ask : Ask (language db)) (before after : Machines) (heard : List Notice) → AsksForNow db before.table.version ask → Serves db ask before after heard → Fails db before after
+serves_fails db ask before after heard now serves = inr (ask, now, record { comings = serves.comings; deeds = serves.deeds; left = []; fit = serves.fit; is = serves.is; version = serves.version; explained = serves.explained })
 
 -- ---- rounds
 pub all_in_round : (db : Database) (n count : ℕ) (here : Scene) → count ≡ length here.waiting → RanksUnder (suc n) (world_at db here) → IsInRound db n count here
@@ -266,6 +262,8 @@ module _ (db : Database) (letter : letters.Letter) (before after : Machines) (ou
       deeds = [];
       fit = subst (AreFit db) (sym same) fit;
       is = λ waiting past i. world_of db (sym same i) ((sym (append-nil waiting) ∙ ap (λ (put : List letters.Letter). waiting ++ map (sent db) put) (sym none)) i) (sym (append-nil past) i);
+      version = ap (λ (m : Machines). m.table.version) same;
+      placed = subst (AreOfPlaces db) (sym none) tt;
       explained = tt;
       replies = ap (map notice_of) silent;
     });

@@ -3,7 +3,6 @@ use Rattle.std.proofs.Common.{◌≡◌, ◌≢◌, refl, sym, ap, ◌∙◌, su
 use Rattle.std.specs.Option.{option_map}
 use Rattle.meaning.specs.declared.schema.RelationSchema.{RelationSchema}
 use Rattle.meaning.specs.declared.statement.Statement.{Statement}
-use Rattle.terms.specs.declared.leaf.Leaf.{Leaf}
 use Rattle.catalog.specs.FragmentLeaf.{schemas_of}
 use Rattle.reader.specs.declared.command.Command.{Command}
 use Rattle.reader.specs.declared.command.Command.TheVariants.{Begin, Commit, Rollback as Rollback_command, Run}
@@ -20,6 +19,7 @@ use Rattle.desk.specs.declared.refusal.Refusal as refusals
 use Rattle.desk.specs.declared.refusal.Refusal.TheVariants as told_as
 use Rattle.desk.specs.Request.{refused_as, txn_in}
 use Rattle.desk.specs.Database.{Database, language}
+use Rattle.desk.specs.Place.{Place}
 use Rattle.desk.specs.Does.{IsUnread, StatesPastLimits}
 use Rattle.world.specs.declared.event.Call as calls
 use Rattle.world.specs.declared.event.Call.TheVariants as call
@@ -52,7 +52,7 @@ if_errs (Ok x) to p q = tt
 if_errs (Err e) to p q = to e p q
 
 -- ---- a ready transaction is refused nothing
-at_rest : (db : Database) (fits : Leaf → Content → Bool) (txn : Txn) (machines : Machines) (past : List (Deed (language db))) (request : Request (language db)) → refusal_at request Idle ≡ None → Ready (language db) 1 fits (txn_name txn) (rests db machines past) →
+at_rest : (db : Database) (fits : Place → Content → Bool) (txn : Txn) (machines : Machines) (past : List (Deed (language db))) (request : Request (language db)) → refusal_at request Idle ≡ None → IsReady db fits (txn_name txn) machines past →
     refusal request (txn_in db machines.table txn) ≡ None
 at_rest db fits txn machines past request none ready = ap (refusal request) ready.steady.known ∙ ap (refusal_at request) ready.steady.idle ∙ none
 
@@ -60,26 +60,23 @@ no_refusal : {A B : Type 0} (f : A → B) (found : Option A) (told : B) → foun
 no_refusal f None told none is = cc
 no_refusal f (Some x) told none is = cc
 
-module _ (db : Database) (fits : Leaf → Content → Bool) (txn : Txn) (machines : Machines) (past : List (Deed (language db))) (told : refusals.Refusal) (ready : Ready (language db) 1 fits (txn_name txn) (rests db machines past)) where
+module _ (db : Database) (fits : Place → Content → Bool) (txn : Txn) (machines : Machines) (past : List (Deed (language db))) (told : refusals.Refusal) (ready : IsReady db fits (txn_name txn) machines past) where
   pub no_commit : IsRefused db machines.table (call.Commit txn) told → ⊥
   no_commit refused = no_refusal refused_as (refusal Commit_call (txn_in db machines.table txn)) told (at_rest db fits txn machines past Commit_call refl ready) refused
 
   pub no_rollback : IsRefused db machines.table (call.Rollback txn) told → ⊥
   no_rollback refused = no_refusal refused_as (refusal Rollback (txn_in db machines.table txn)) told (at_rest db fits txn machines past Rollback refl ready) refused
 
-module _ (db : Database) (fits : Leaf → Content → Bool) (same_schemas : db.schemas ≡ schemas_of db.catalogue) (one : OneCommandOfText) (text : List ℕ) where
+module _ (db : Database) (fits : Place → Content → Bool) (one : OneCommandOfText) (text : List ℕ) where
   -- a statement's text is no other command's
-  is_read : (statement : Statement) → IsTextOf db.schemas text (Run statement) → (told : refusals.Refusal) → IsUnread (schemas_of db.catalogue) text told → ⊥
+  is_read : (statement : Statement) → IsTextOf db.schemas text (Run statement) → (told : refusals.Refusal) → IsUnread db.schemas text told → ⊥
   is_read statement spelled told unread = ⊎_elim
-      (λ none. none.1 (Run statement) here)
+      (λ none. none.1 (Run statement) spelled)
       (λ says. ⊎_elim (λ begins. not_begin (other Begin begins)) (λ ends. ⊎_elim (λ commits. not_commit (other Commit commits)) (λ rolls_back. not_rollback (other Rollback_command rolls_back)) ends) says.1)
       unread.why
     where
-      here : IsTextOf (schemas_of db.catalogue) text (Run statement)
-      here = subst (λ (schemas : List RelationSchema). IsTextOf schemas text (Run statement)) same_schemas spelled
-
-      other : (command : Command) → IsTextOf (schemas_of db.catalogue) text command → Run statement ≡ command
-      other command is = one (schemas_of db.catalogue) text (Run statement) command here is
+      other : (command : Command) → IsTextOf db.schemas text command → Run statement ≡ command
+      other command is = one db.schemas text (Run statement) command spelled is
 
       not_begin : Run statement ≡ Begin → ⊥
       not_begin e = cc
@@ -91,10 +88,10 @@ module _ (db : Database) (fits : Leaf → Content → Bool) (same_schemas : db.s
       not_rollback e = cc
 
   -- the statement of a ready transaction meets a limit
-  pub is_full : (statement : Statement) → IsTextOf db.schemas text (Run statement) → (txn : Txn) (machines : Machines) (past : List (Deed (language db))) (told : refusals.Refusal) → Ready (language db) 1 fits (txn_name txn) (rests db machines past) →
+  pub is_full : (statement : Statement) → IsTextOf db.schemas text (Run statement) → (txn : Txn) (machines : Machines) (past : List (Deed (language db))) (told : refusals.Refusal) → IsReady db fits (txn_name txn) machines past →
       IsRefused db machines.table (call.State txn text) told → (told ≡ told_as.Full) × StatesPastLimits db machines.table txn text
   is_full statement spelled txn machines past told ready refused = ⊎_elim
-      (λ stays. absurd (no_refusal refused_as (refusal (State statement) (txn_in db machines.table txn)) told (at_rest db fits txn machines past (State statement) refl ready) stays))
+      (λ stays. absurd (no_refusal refused_as (refusal (State (machines.table.version, statement)) (txn_in db machines.table txn)) told (at_rest db fits txn machines past (State (machines.table.version, statement)) refl ready) stays))
       (λ rest. ⊎_elim (λ unread. absurd (is_read statement spelled told unread)) (λ full. full) rest.1)
       (refused statement)
 

@@ -2,7 +2,6 @@
 use Rattle.std.proofs.Common.{◌≡◌, refl, sym, ap, ◌∙◌, subst, Bool, true, false, ◌||◌, if◌then◌else◌, List, [], ◌∷◌, ◌++◌, map, filter, inl, inr, ⊎_elim, Some, None}
 use Rattle.std.proofs.lemmas.List.{map-append}
 use Rattle.std.specs.List.{list_any}
-use Rattle.terms.specs.declared.leaf.Leaf.{Leaf}
 use Rattle.meaning.specs.declared.answer.Answer.{Answer as AnswerNow}
 use Rattle.meaning.specs.Whole.{Relations}
 use Rattle.store.specs.Content.{Content}
@@ -11,17 +10,17 @@ use Rattle.protocol.specs.Client.{ReachedLaw}
 use Rattle.protocol.specs.Desk.{Commit_call, Deed, Rollback, State}
 use Rattle.protocol.specs.Language.{Name}
 use Rattle.protocol.specs.Letters.{txn_name}
-use Rattle.protocol.specs.WithoutRefusal.{Ready}
 use Rattle.desk.specs.declared.reply.Notice.{Notice}
 use Rattle.desk.specs.declared.reply.Reply as replies
 use Rattle.desk.specs.declared.reply.Reply.TheVariants.{Answer, Begun, Committed}
 use Rattle.desk.specs.Database.{Database, language}
+use Rattle.desk.specs.Place.{Place}
 use Rattle.desk.specs.State.{notice_of}
-use Rattle.world.specs.Mailbox.{Ask, Serves, To_begin, To_do}
+use Rattle.world.specs.Mailbox.{Ask, AsksForNow, Serves, To_begin, To_do}
 use Rattle.world.specs.Machines.{Machines}
 use Rattle.world.specs.Executed.{ObeysUnlessRefused, Stands}
 use Rattle.world.specs.Client.{DoesBegin, IsServed, autocommit_reply, is_answer, is_commit, is_end, still_open, tells}
-use Rattle.world.specs.Smoothly.{ServesSmoothly, ServesUnlessRefused, rests}
+use Rattle.world.specs.Smoothly.{IsReady, ServesSmoothly, ServesUnlessRefused}
 use Rattle.world.proofs.Reaching.{serves_past}
 
 -- ---- notices, by what they say
@@ -63,31 +62,31 @@ module _ (txn : Txn) (answered : List Notice) (answer : AnswerNow) (is_answered 
       ap (λ (b : Bool). map notice_of (if b then filter (λ notice. is_answer notice.reply) all else filter (λ notice. is_end notice.reply) all)) commits
       ∙ those_of is_answer all ∙ ap (filter (λ (x : Name × replies.Reply). is_answer x.1)) told_all
 
-module _ (db : Database) (fits : Leaf → Content → Bool) (reached : ReachedLaw (language db)) (smooth : ServesSmoothly db fits) (law : ServesUnlessRefused db fits) (whole : Relations) where
-  served_on : (ask : Ask (language db)) (before after : Machines) (past : List (Deed (language db))) (heard : List Notice) → IsServed db whole before past → (serves : Serves db ask before after heard) → IsServed db whole after (past ++ serves.deeds)
-  served_on ask before after past heard served serves = serves_past db reached whole ask before after heard past served serves
+module _ (db : Database) (fits : Place → Content → Bool) (reached : ReachedLaw (language db)) (smooth : ServesSmoothly db fits) (law : ServesUnlessRefused db fits) (whole : Relations) where
+  served_on : (ask : Ask (language db)) (before after : Machines) (past : List (Deed (language db))) (heard : List Notice) → AsksForNow db before.table.version ask → IsServed db whole before past → (serves : Serves db ask before after heard) → IsServed db whole after (past ++ serves.deeds)
+  served_on ask before after past heard now served serves = serves_past db reached whole ask before after heard past now served serves
 
   begins : (before after : Machines) (past : List (Deed (language db))) (txn : Txn) (heard : List Notice) → IsServed db whole before past → Stands db fits None before past → (does : DoesBegin db before txn after heard) →
-      Ready (language db) 1 fits (txn_name txn) (rests db after (past ++ does.serves.deeds)) × (map notice_of heard ≡ (txn_name txn, Begun) ∷ [])
+      IsReady db fits (txn_name txn) after (past ++ does.serves.deeds) × (map notice_of heard ≡ (txn_name txn, Begun) ∷ [])
   begins before after past txn heard served quiet does =
       let done = smooth.begins whole before after past heard served quiet does.within does.serves in (
-        subst (λ (t : Name). Ready (language db) 1 fits t (rests db after (past ++ does.serves.deeds))) (sym does.named) done.0,
+        subst (λ (t : Name). IsReady db fits t after (past ++ does.serves.deeds)) (sym does.named) done.0,
         done.1 ∙ ap (λ (t : Name). (t, Begun) ∷ []) (sym does.named),
       )
 
-pub obeys : (db : Database) (fits : Leaf → Content → Bool) → ReachedLaw (language db) → ServesSmoothly db fits → ServesUnlessRefused db fits → ObeysUnlessRefused db fits
+pub obeys : (db : Database) (fits : Place → Content → Bool) → ReachedLaw (language db) → ServesSmoothly db fits → ServesUnlessRefused db fits → ObeysUnlessRefused db fits
 obeys db fits reached smooth law = record {
   begins = λ whole before after past txn heard served quiet does.
       let done = begins db fits reached smooth law whole before after past txn heard served quiet does in
-      (record { deeds = does.serves.deeds; served = served_on db fits reached smooth law whole To_begin before after past heard served does.serves; stands = done.0 }, done.1);
+      (record { deeds = does.serves.deeds; served = served_on db fits reached smooth law whole To_begin before after past heard tt served does.serves; stands = done.0 }, done.1);
   states = λ whole before after past text txn heard served ready does. ⊎_elim
-      (λ done. inl (record { deeds = does.asks.serves.deeds; served = served_on db fits reached smooth law whole (To_do (txn_name txn) (State does.statement) does.asks.choice) before after past heard served does.asks.serves; stands = done.0 }, done.1))
+      (λ done. inl (record { deeds = does.asks.serves.deeds; served = served_on db fits reached smooth law whole (To_do (txn_name txn) (State (before.table.version, does.statement)) does.asks.choice) before after past heard refl served does.asks.serves; stands = done.0 }, done.1))
       (λ refused. inr refused) (law.answers whole before after past (txn_name txn) does.statement does.asks.choice heard served ready does.fits does.asks.within does.asks.serves);
   commits = λ whole before after past txn heard served ready does. ⊎_elim
-      (λ done. inl (record { deeds = does.serves.deeds; served = served_on db fits reached smooth law whole (To_do (txn_name txn) Commit_call does.choice) before after past heard served does.serves; stands = done.0 }, done.1))
+      (λ done. inl (record { deeds = does.serves.deeds; served = served_on db fits reached smooth law whole (To_do (txn_name txn) Commit_call does.choice) before after past heard tt served does.serves; stands = done.0 }, done.1))
       (λ refused. inr refused) (law.commits whole before after past (txn_name txn) does.choice heard served ready does.serves);
   rolls_back = λ whole before after past txn heard served ready does. ⊎_elim
-      (λ done. inl (record { deeds = does.serves.deeds; served = served_on db fits reached smooth law whole (To_do (txn_name txn) Rollback does.choice) before after past heard served does.serves; stands = done.0 }, done.1))
+      (λ done. inl (record { deeds = does.serves.deeds; served = served_on db fits reached smooth law whole (To_do (txn_name txn) Rollback does.choice) before after past heard tt served does.serves; stands = done.0 }, done.1))
       (λ refused. inr refused) (law.rolls_back whole before after past (txn_name txn) does.choice heard served ready does.serves);
 }
 

@@ -6,12 +6,14 @@ use Rattle.meaning.specs.declared.statement.Statement.{Statement}
 use Rattle.meaning.specs.Whole.{Relations}
 use Rattle.store.specs.declared.name.Txn.{Txn}
 use Rattle.protocol.specs.Accepted.{stated_of}
+use Rattle.protocol.specs.Catalogues.{IsSerialList, stated}
 use Rattle.protocol.specs.Desk.{Aborted, Answered, Began, Committed, Deed, Phased, Rolled_back, Stated, Worked}
 use Rattle.protocol.specs.Language.{Name, same}
 use Rattle.protocol.specs.Letters.{txn_name}
-use Rattle.protocol.specs.Serial.{IsSerial, answers_of, committed, is_committed, serial_answers, serial_whole, statements_of}
+use Rattle.protocol.specs.Local.{local}
+use Rattle.protocol.specs.Serial.{answers_of, committed, is_committed, statements_of}
 use Rattle.desk.specs.declared.reply.Reply as replies
-use Rattle.desk.specs.Database.{Database, language, sent}
+use Rattle.desk.specs.Database.{Database, language, sent, statements}
 use Rattle.desk.specs.State.{notice_of}
 use Rattle.desk.specs.Transition.{told}
 use Rattle.world.specs.declared.committed.Committed as told_of
@@ -19,7 +21,7 @@ use Rattle.world.specs.declared.event.Entry.{Entry}
 use Rattle.world.specs.Committed.{committed_of}
 use Rattle.world.specs.Machines.{Machines, world_of}
 use Rattle.world.specs.Posted.{letters_in}
-use Rattle.world.specs.Runs.{AreTexts, IsSerialRun}
+use Rattle.world.specs.Runs.{AreTexts, IsSerialRun, answers_after, relations_after}
 use Rattle.world.specs.Replies.{AreStated, Tells, answer_of, answers_to, committed_in, is_told_committed, is_txn, notices_in, phased_in, is_commit, texts_in, texts_of}
 
 -- ---- small lemmas
@@ -93,13 +95,17 @@ module _ (db : Database) where
   told_answers n (Rolled_back t ∷ ds) = ap₂ (λ (a rest : List Answer). a ++ rest) (either_none [] (same t n)) (told_answers n ds)
 
   -- ---- which statements were accepted
-  abbrev of_statement : Name → Name × Statement → List Statement
-  of_statement n stated = if same stated.0 n then stated.1 ∷ [] else []
+  abbrev of_statement : Name → Name × (ℕ × Statement) → List Statement
+  of_statement n given = if same given.0 n then given.1.1 ∷ [] else []
 
-  of_statements : (n : Name) (past : List (Deed (language db))) → flat_map (of_statement n) (stated_of past) ≡ statements_of past n
+  of_statements : (n : Name) (past : List (Deed (language db))) → flat_map (of_statement n) (stated_of past) ≡ stated local (statements db) past n
   of_statements n [] = refl
   of_statements n (Began t ∷ ds) = of_statements n ds
-  of_statements n (Stated t s ∷ ds) = ap (λ (rest : List Statement). (if same t n then s ∷ [] else []) ++ rest) (of_statements n ds)
+  of_statements n (Stated t s ∷ ds) = go (same t n) (of_statements n ds)
+    where
+      go : (b : Bool) → flat_map (of_statement n) (stated_of ds) ≡ stated local (statements db) ds n → (if b then s.1 ∷ [] else []) ++ flat_map (of_statement n) (stated_of ds) ≡ map (λ (x : ℕ × Statement). x.1) ((if b then s ∷ [] else []) ++ statements_of ds n)
+      go true later = ap (λ (rest : List Statement). s.1 ∷ rest) later
+      go false later = later
   of_statements n (Worked t s asks choice ∷ ds) = of_statements n ds
   of_statements n (Answered t x ∷ ds) = of_statements n ds
   of_statements n (Phased t ∷ ds) = of_statements n ds
@@ -107,17 +113,17 @@ module _ (db : Database) where
   of_statements n (Aborted t why ∷ ds) = of_statements n ds
   of_statements n (Rolled_back t ∷ ds) = of_statements n ds
 
-  spelled_by : (txn : Txn) (xs : List (Txn × List ℕ)) (ys : List (Name × Statement)) → AreStated db xs ys →
+  spelled_by : (txn : Txn) (xs : List (Txn × List ℕ)) (ys : List (Name × (ℕ × Statement))) → AreStated db xs ys →
       AreTexts db (flat_map (λ x. if is_txn x.0 txn then x.1 ∷ [] else []) xs) (flat_map (of_statement (txn_name txn)) ys)
   spelled_by txn [] [] so = tt
   spelled_by txn [] (y ∷ ys) so = absurd so
   spelled_by txn (x ∷ xs) [] so = absurd so
   spelled_by txn (x ∷ xs) (y ∷ ys) so =
-      subst (λ n. AreTexts db ((if is_txn x.0 txn then x.1 ∷ [] else []) ++ flat_map (λ x. if is_txn x.0 txn then x.1 ∷ [] else []) xs) ((if same n (txn_name txn) then y.1 ∷ [] else []) ++ flat_map (of_statement (txn_name txn)) ys)) so.0.0
+      subst (λ n. AreTexts db ((if is_txn x.0 txn then x.1 ∷ [] else []) ++ flat_map (λ x. if is_txn x.0 txn then x.1 ∷ [] else []) xs) ((if same n (txn_name txn) then y.1.1 ∷ [] else []) ++ flat_map (of_statement (txn_name txn)) ys)) so.0.0
       (go (same (txn_name x.0) (txn_name txn)) (spelled_by txn xs ys so.1))
     where
       go : (b : Bool) → AreTexts db (flat_map (λ x. if is_txn x.0 txn then x.1 ∷ [] else []) xs) (flat_map (of_statement (txn_name txn)) ys) →
-          AreTexts db ((if b then x.1 ∷ [] else []) ++ flat_map (λ x. if is_txn x.0 txn then x.1 ∷ [] else []) xs) ((if b then y.1 ∷ [] else []) ++ flat_map (of_statement (txn_name txn)) ys)
+          AreTexts db ((if b then x.1 ∷ [] else []) ++ flat_map (λ x. if is_txn x.0 txn then x.1 ∷ [] else []) xs) ((if b then y.1.1 ∷ [] else []) ++ flat_map (of_statement (txn_name txn)) ys)
       go true later = (so.0.1, later)
       go false later = later
 
@@ -132,7 +138,7 @@ module _ (db : Database) where
     pub what_answered : (txn : Txn) → answers_to entries txn ≡ answers_of past (txn_name txn)
     what_answered txn = flat_of_map (told_answer (txn_name txn)) notice_of (notices_in entries) ∙ ap (flat_map (told_answer (txn_name txn))) so.heard ∙ told_answers (txn_name txn) past
 
-    pub what_stated : (txn : Txn) → AreTexts db (texts_of entries txn) (statements_of past (txn_name txn))
+    pub what_stated : (txn : Txn) → AreTexts db (texts_of entries txn) (stated local (statements db) past (txn_name txn))
     what_stated txn = subst (AreTexts db (texts_of entries txn)) (of_statements (txn_name txn) past) (spelled_by txn (texts_in entries) (stated_of past) so.stated)
 
   -- ---- whom the entries tell committed the coordinator decided to commit
@@ -144,15 +150,16 @@ module _ (db : Database) where
   were_decided entries past so all is = ap (map (λ (one : told_of.Committed). txn_name one.txn)) is ∙ same_names entries (committed_in entries) ∙ who_committed entries past so
 
   -- ---- so the serial law of what happened is one of what is told
-  pub serial_run : (whole : Relations) (machines : Machines) (entries : List Entry) (past : List (Deed (language db))) → Tells db entries past → IsSerial whole (world_of db machines (map (sent db) (letters_in entries)) past) → IsSerialRun db whole machines entries
+  pub serial_run : (whole : Relations) (machines : Machines) (entries : List Entry) (past : List (Deed (language db))) → Tells db entries past → IsSerialList local (statements db) whole (world_of db machines (map (sent db) (letters_in entries)) past) → IsSerialRun db whole machines entries
   serial_run whole machines entries past so serial =
-      let stated : Txn → List Statement = λ txn. statements_of past (txn_name txn) in
-      let all : map (statements_of past) (committed past) ≡ map stated (committed_in entries) = ap (map (statements_of past)) (sym (who_committed entries past so)) ∙ map_twice (statements_of past) txn_name (committed_in entries) in
+      let stated_in : Name → List Statement = stated local (statements db) past in
+      let of : Txn → List Statement = λ txn. stated_in (txn_name txn) in
+      let all : map stated_in (committed past) ≡ map of (committed_in entries) = ap (map stated_in) (sym (who_committed entries past so)) ∙ map_twice stated_in txn_name (committed_in entries) in
       record {
-        statements = stated;
+        statements = of;
         spelled = what_stated entries past so;
         answers =
             map_alike (answers_to entries) (λ txn. answers_of past (txn_name txn)) (committed_in entries) (what_answered entries past so) ∙ sym (map_twice (answers_of past) txn_name (committed_in entries)) ∙
-            ap (map (answers_of past)) (who_committed entries past so) ∙ serial.answers ∙ ap (λ ss. serial_answers (language db) ss whole) all;
-        rebuilt = λ leaf. serial.rebuilt leaf ∙ ap (λ ss. db.content leaf (serial_whole (language db) ss whole)) all;
+            ap (map (answers_of past)) (who_committed entries past so) ∙ serial.answers ∙ ap (λ ss. answers_after db ss whole) all;
+        rebuilt = λ place. serial.rebuilt place ∙ ap (λ ss. db.content machines.table.version place (relations_after db ss whole)) all;
       }

@@ -9,32 +9,32 @@ use Rattle.reader.specs.declared.command.Command.TheVariants as command
 use Rattle.reader.proofs.FitsCommand.{text_fits}
 use Rattle.store.specs.declared.name.Txn.{Txn}
 use Rattle.protocol.specs.Desk.{Deed}
-use Rattle.protocol.specs.Language.{IsLawful}
-use Rattle.protocol.specs.Serial.{serial_whole, whole_after}
-use Rattle.desk.specs.Database.{Database, language}
+use Rattle.protocol.specs.Catalogues.{IsLawfulList, whole_then}
+use Rattle.protocol.specs.Local.{local}
+use Rattle.desk.specs.Database.{Database, language, statements}
 use Rattle.world.specs.declared.event.Entry.{Entry}
 use Rattle.world.specs.Machines.{Machines}
-use Rattle.world.specs.Runs.{AreTexts, IsRun, RunsAreSerial}
+use Rattle.world.specs.Runs.{AreTexts, IsRun, RunsAreSerial, relations_after}
 use Rattle.world.specs.Settled.{AreThoseOf, ShowsSerial, rows_shown}
 use Rattle.world.specs.Replies.{committed_in, texts_of}
 
-module _ (db : Database) (lawful : IsLawful (language db)) where
+module _ (db : Database) (lawful : IsLawfulList local (statements db)) where
   -- what texts say are statements of the schema
-  statements_fit : (texts : List (List ℕ)) (statements : List Statement) → AreTexts db texts statements → AllByRecursion (IsStatementOf db.schemas) statements
+  statements_fit : (texts : List (List ℕ)) (given : List Statement) → AreTexts db texts given → AllByRecursion (IsStatementOf db.schemas) given
   statements_fit [] [] spelled = tt
-  statements_fit [] (s ∷ statements) spelled = absurd spelled
+  statements_fit [] (s ∷ rest) spelled = absurd spelled
   statements_fit (text ∷ texts) [] spelled = absurd spelled
-  statements_fit (text ∷ texts) (s ∷ statements) spelled = (text_fits db.schemas text (command.Run s) spelled.0, statements_fit texts statements spelled.1)
+  statements_fit (text ∷ texts) (s ∷ rest) spelled = (text_fits db.schemas text (command.Run s) spelled.0, statements_fit texts rest spelled.1)
 
   -- they lead from whole relations to whole relations, one after another
-  after_fits : (statements : List Statement) (whole : Relations) → AllByRecursion (IsStatementOf db.schemas) statements → FitsSchema db.schemas whole → FitsSchema db.schemas (whole_after (language db) statements whole)
+  after_fits : (given : List Statement) (whole : Relations) → AllByRecursion (IsStatementOf db.schemas) given → FitsSchema db.schemas whole → FitsSchema db.schemas (whole_then local (statements db) given whole)
   after_fits [] whole all fits = fits
-  after_fits (s ∷ statements) whole all fits = after_fits statements _ all.1 (lawful.keeps_whole s whole all.0 fits refl)
+  after_fits (s ∷ rest) whole all fits = after_fits rest _ all.1 (lawful.keeps_whole 0 s whole all.0 fits)
 
-  serial_fits : (txns : List Txn) (texts : Txn → List (List ℕ)) (statements : Txn → List Statement) (whole : Relations) → ((txn : Txn) → AreTexts db (texts txn) (statements txn)) → FitsSchema db.schemas whole →
-      FitsSchema db.schemas (serial_whole (language db) (map statements txns) whole)
-  serial_fits [] texts statements whole spelled fits = fits
-  serial_fits (txn ∷ txns) texts statements whole spelled fits = serial_fits txns texts statements _ spelled (after_fits (statements txn) whole (statements_fit (texts txn) (statements txn) (spelled txn)) fits)
+  serial_fits : (txns : List Txn) (texts : Txn → List (List ℕ)) (given : Txn → List Statement) (whole : Relations) → ((txn : Txn) → AreTexts db (texts txn) (given txn)) → FitsSchema db.schemas whole →
+      FitsSchema db.schemas (relations_after db (map given txns) whole)
+  serial_fits [] texts given whole spelled fits = fits
+  serial_fits (txn ∷ txns) texts given whole spelled fits = serial_fits txns texts given _ spelled (after_fits (given txn) whole (statements_fit (texts txn) (given txn) (spelled txn)) fits)
 
   -- what is shown of each whole database that the fragments come to is shown of that of the serial run
   pub shows_serial : (whole : Relations) (machines : Machines) (entries : List Entry) (past : List (Deed (language db))) (name : List ℕ) (shown : Option (List (List Value))) → RunsAreSerial db → IsRun db whole machines entries past →
@@ -44,7 +44,7 @@ module _ (db : Database) (lawful : IsLawful (language db)) where
       record {
         statements = so.statements;
         spelled = so.spelled;
-        rows = shows (serial_whole (language db) (map so.statements (committed_in entries)) whole) so.rebuilt (serial_fits (committed_in entries) (texts_of entries) so.statements whole so.spelled run.opens.is_whole);
+        rows = shows (relations_after db (map so.statements (committed_in entries)) whole) so.rebuilt (serial_fits (committed_in entries) (texts_of entries) so.statements whole so.spelled run.opens.is_whole);
       }
 
   -- so of what a call shows, where it shows something
@@ -58,4 +58,4 @@ module _ (db : Database) (lawful : IsLawful (language db)) where
       ((after : Relations) → AreThoseOf db machines after → FitsSchema db.schemas after → P) → P
   serial_gives P whole machines entries past serial run gives =
       let so = serial whole machines entries past run in
-      gives (serial_whole (language db) (map so.statements (committed_in entries)) whole) so.rebuilt (serial_fits (committed_in entries) (texts_of entries) so.statements whole so.spelled run.opens.is_whole)
+      gives (relations_after db (map so.statements (committed_in entries)) whole) so.rebuilt (serial_fits (committed_in entries) (texts_of entries) so.statements whole so.spelled run.opens.is_whole)

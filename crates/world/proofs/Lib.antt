@@ -8,6 +8,7 @@ pub mod ComingUp
 pub mod Reasoned
 pub mod SettledSites
 pub mod InForce
+pub mod Placed
 pub mod Machinery
 pub mod Ends
 pub mod Filled

@@ -22,7 +22,7 @@ use Rattle.protocol.specs.Local.{local}
 use Rattle.protocol.specs.Parts.{In}
 use Rattle.protocol.specs.Serial.{IsOpening}
 use Rattle.protocol.specs.Site.{Dead, SiteState}
-use Rattle.protocol.specs.Statements.{Statements, status_with, with_statements}
+use Rattle.protocol.specs.Catalogues.{Catalogues, listed, status_at}
 use Rattle.protocol.proofs.Basics.{clash, some_is}
 use Rattle.desk.specs.Database.{Database, language, statements}
 use Rattle.desk.specs.Transaction.{txn_of}
@@ -142,7 +142,7 @@ module _ (db : Database) (c : Catalogue) (whole : Relations) (distinct : AreDist
   )
 
 -- ---- a site at rest has nothing in memory
-module _ (S : Statements local) (seat : Seat) (rests : IsAtRest seat) where
+module _ (S : Catalogues local) (seat : Seat) (rests : IsAtRest seat) where
   stands_dead : (ticket : Ticket) → stands seat.table ticket (seat.kept.prepared ticket) ≡ Dead
   stands_dead ticket = ap (λ (s : SiteState local). s.status (name_of ticket)) rests.begins.state ∙ ap resting (rests.prepared ticket)
 
@@ -166,7 +166,7 @@ module _ (S : Statements local) (seat : Seat) (rests : IsAtRest seat) where
       go (t ∷ tickets) none = absurd (none t (inl refl))
 
 -- what holds of each site, and of none, holds at each name
-pub at_each : (S : Statements local) (P : SiteState (with_statements local S) → Type 0) (seats : List Seat) → P (nobody S) → AllByRecursion (λ seat. P (state_at S seat)) seats → (a : List ℕ) → P (states_of S seats a)
+pub at_each : (S : Catalogues local) (P : SiteState (listed local S) → Type 0) (seats : List Seat) → P (nobody S) → AllByRecursion (λ seat. P (state_at S seat)) seats → (a : List ℕ) → P (states_of S seats a)
 at_each S P [] none all a = none
 at_each S P (seat ∷ seats) none all a = go (is_called a seat) (at_each S P seats none all.1 a)
   where
@@ -183,7 +183,7 @@ all_so (seat ∷ seats) so all = (so seat all.0, all_so seats so all.1)
 -- the contents of its sites are those of whole relations
 module _ (db : Database) (whole : Relations) (machines : Machines) (is_whole : (language db).IsWhole whole) (names : map (λ seat. seat.name) machines.seats ≡ db.sites) (leaves : AllByRecursion (HasItsLeaves db) machines.seats) (rest : AllByRecursion IsAtRest machines.seats)
     (keeps : (name : Leaf) → (states_of (statements db) machines.seats (db.home name)).kept name ≡ db.content name whole) (rises : desk_starting.Rises db machines.desk machines.table) (none : (txn : txns.Txn) → machines.desk.commits txn ≡ None) where
-  abbrev S : Statements local
+  abbrev S : Catalogues local
   S = statements db
 
   rested_fit : AreFit db machines

@@ -3,7 +3,6 @@ use Rattle.std.proofs.Common.{◌≡◌, sym, ap, ◌∙◌, subst, ℕ, true, L
 use Rattle.meaning.specs.declared.answer.Answer.{Answer as AnswerNow}
 use Rattle.meaning.specs.declared.statement.Statement.{Statement}
 use Rattle.meaning.specs.Whole.{Relations}
-use Rattle.terms.specs.declared.leaf.Leaf.{Leaf}
 use Rattle.catalog.specs.FragmentLeaf.{schemas_of}
 use Rattle.reader.specs.declared.command.Command.TheVariants.{Run}
 use Rattle.reader.specs.Command.{IsTextOf, OneCommandOfText}
@@ -18,6 +17,7 @@ use Rattle.desk.specs.declared.refusal.Refusal.TheVariants.{Full}
 use Rattle.desk.specs.declared.reply.Notice.{Notice}
 use Rattle.desk.specs.declared.reply.Reply.TheVariants.{Answer, Begun}
 use Rattle.desk.specs.Database.{Database, language}
+use Rattle.desk.specs.Place.{Place}
 use Rattle.desk.specs.Does.{StatesPastLimits}
 use Rattle.desk.specs.State.{notice_of}
 use Rattle.world.specs.declared.event.Call as calls
@@ -57,7 +57,7 @@ module _ (db : Database) (told : refusals.Refusal) (reply : Result (List Notice)
       (λ txn heard of none says. not_heard heard says) (λ txn heard of none says. tt) (λ asked why of still says. tt) (λ moves statement spelled none after_none lone. lone_none text moves lone)
 
 -- ---- outcomes
-module _ (db : Database) (fits : Leaf → Content → Bool) (reached : ReachedLaw (language db)) (obeys : ObeysUnlessRefused db fits) (law : GrowsQuiet db fits) (same_schemas : db.schemas ≡ schemas_of db.catalogue) (one : OneCommandOfText) (whole : Relations) (text : List ℕ) (reply : Result (List Notice) refusals.Refusal) where
+module _ (db : Database) (fits : Place → Content → Bool) (reached : ReachedLaw (language db)) (obeys : ObeysUnlessRefused db fits) (law : GrowsQuiet db fits) (one : OneCommandOfText) (whole : Relations) (text : List ℕ) (reply : Result (List Notice) refusals.Refusal) where
   -- a lone statement was answered
   pub record IsAnswered (txn : Txn) : Type 0 where
     pub heard : List Notice
@@ -110,7 +110,7 @@ module _ (db : Database) (fits : Leaf → Content → Bool) (reached : ReachedLa
       (λ hindered. inr (record { heard = heard.0; says = heard.1; some = inl hindered }))
       (obeys.states whole before made.0 past text txn answered served ready does)))
       (λ why back taken says made.
-      let full = is_full db fits same_schemas one text statement spelled txn before past why ready made.1.0 in
+      let full = is_full db fits one text statement spelled txn before past why ready made.1.0 in
       inr (record { told = why; says = says; full = full.0; past_limits = full.1 }))
 
   module _ (past : List (Deed (language db))) (current later : Option Txn) (before after : Machines) (served : IsServed db whole before past) (stands : Stands db fits current before past) where
@@ -138,7 +138,7 @@ module _ (db : Database) (fits : Leaf → Content → Bool) (reached : ReachedLa
     call_refused : (moves : List Move) (made : Made db moves before after) (asked : calls.Call) (told : refusals.Refusal) → reply ≡ Err told → later ≡ current → IsCallOf db.schemas text current asked → IsRefused db before.table asked told → Comes moves made
     call_refused moves made call.Begin told says still is refused = finds_no_number told says still refused.0 is.1 (inl is.0) (numbers_run_out db before past served.fit (as_open None is.1) refused.1)
     call_refused moves made (call.State txn given) told says still is refused =
-        let full = is_full db fits same_schemas one text is.0.0 is.0.1 txn before past told (as_open (Some txn) is.1) (subst (λ (x : List ℕ). IsRefused db before.table (call.State txn x) told) is.2 refused) in
+        let full = is_full db fits one text is.0.0 is.0.1 txn before past told (as_open (Some txn) is.1) (subst (λ (x : List ℕ). IsRefused db before.table (call.State txn x) told) is.2 refused) in
         is_too_much told says still full.0 txn is.1 full.1
     call_refused moves made (call.Commit txn) told says still is refused = absurd (no_commit db fits txn before past told (as_open (Some txn) is.1) refused)
     call_refused moves made (call.Rollback txn) told says still is refused = absurd (no_rollback db fits txn before past told (as_open (Some txn) is.1) refused)
@@ -158,8 +158,8 @@ module _ (db : Database) (fits : Leaf → Content → Bool) (reached : ReachedLa
         (λ moves statement spelled none after_none is. lone_comes statement spelled none after_none moves is)
 
 -- ---- the law
-pub commands_follow : (db : Database) (fits : Leaf → Content → Bool) → ReachedLaw (language db) → ObeysUnlessRefused db fits → GrowsQuiet db fits → db.schemas ≡ schemas_of db.catalogue → OneCommandOfText → MovesFollow db → CommandsFollow db fits
-commands_follow db fits reached obeys law same_schemas one follow whole text current later before after past reply moves served made command =
+pub commands_follow : (db : Database) (fits : Place → Content → Bool) → ReachedLaw (language db) → ObeysUnlessRefused db fits → GrowsQuiet db fits → OneCommandOfText → MovesFollow db → CommandsFollow db fits
+commands_follow db fits reached obeys law one follow whole text current later before after past reply moves served made command =
     let more = past ++ deeds_in db moves before after made in
     let served_more = follow.served whole moves before after past served made in
     record {
@@ -171,11 +171,11 @@ commands_follow db fits reached obeys law same_schemas one follow whole text cur
       serial = λ entries told. follow.serial whole after (entries ++ said_in moves) more (follow.tells moves before after entries past told made) served_more;
       uncommitted = λ refused is. committed_none db moves before after made past (refused_none db refused reply is db.schemas text current later moves command);
       stands = λ stands. stands_whenever db fits later after past more (command_stands db fits reached obeys law whole past db.schemas text current later reply before after served stands moves command made);
-      outcome = λ stands. command_comes db fits reached obeys law same_schemas one whole text reply past current later before after served stands moves command made;
+      outcome = λ stands. command_comes db fits reached obeys law one whole text reply past current later before after served stands moves command made;
     }
 
 -- of a call of the code
-pub executed : (db : Database) (fits : Leaf → Content → Bool) → CommandsFollow db fits → (whole : Relations) (text : List ℕ) (current later : Option Txn) (before after : Machines) (past : List (Deed (language db))) {T : Type 0} (items : T → List Notice) (result : Result T refusals.Refusal) →
+pub executed : (db : Database) (fits : Place → Content → Bool) → CommandsFollow db fits → (whole : Relations) (text : List ℕ) (current later : Option Txn) (before after : Machines) (past : List (Deed (language db))) {T : Type 0} (items : T → List Notice) (result : Result T refusals.Refusal) →
     IsServed db whole before past → MakesMoves db before after result (λ done moves. IsCommand db.schemas text current later moves (heard_in items done)) → UnlessStopped items (Executes db fits whole text current before later after past) result
 executed db fits law whole text current later before after past items (Ok x) served made = law whole text current later before after past (Ok (items x)) made.moves served made.made made.is
 executed db fits law whole text current later before after past items (Err why) served (inl stops) = inl stops

@@ -1,6 +1,5 @@
 -- After a commit or a rollback of one client all is quiet again, whatever becomes of its letters.
 use Rattle.std.proofs.Common.{◌≡◌, refl, sym, ap, ◌∙◌, subst, Bool, true, false, List, [], ◌∷◌, ◌++◌, inr, append-nil, Option, is_none, ◌||◌, not}
-use Rattle.terms.specs.declared.leaf.Leaf.{Leaf}
 use Rattle.store.specs.Content.{Content}
 use Rattle.protocol.specs.Client.{IsQuiet, first}
 use Rattle.protocol.specs.Committing.{Ballot, CommitKept, Committing, InVote, has_voted, in_vote, is_aside, is_asked, is_counted, is_done, is_undone}
@@ -19,15 +18,15 @@ use Rattle.protocol.proofs.AfterAbort.{NoEnd, leaving_lost}
 use Rattle.protocol.proofs.Limits.{OfTheEnd, called_within, next_within, turn_within}
 use Rattle.protocol.proofs.Locks.{Once}
 use Rattle.desk.specs.Database.{Database, language}
+use Rattle.desk.specs.Place.{Place}
 use Rattle.protocol.specs.Delivery.{AllFounded, Coming, FirstIsFounded, IsFounded, Passed_over, Taken, Turned_away, all_come, come, first_comes}
 use Rattle.meaning.specs.Whole.{Relations}
 use Rattle.protocol.specs.Desk.{Aborted, Commit_call, Committed, Phased, Rollback}
-use Rattle.protocol.specs.WithoutRefusal.{Ready}
 use Rattle.protocol.proofs.Loose.{rollback_ends, steady_loose}
 use Rattle.desk.specs.declared.reply.Notice.{Notice}
 use Rattle.world.specs.Mailbox.{Serves, To_do}
 use Rattle.world.specs.Client.{IsServed}
-use Rattle.world.specs.Smoothly.{rests}
+use Rattle.world.specs.Smoothly.{IsReady, rests}
 use Rattle.world.proofs.Smoothly.{fit_within}
 use Rattle.world.specs.Machines.{Machines}
 use Rattle.world.proofs.CallsKept.{end_kept}
@@ -230,7 +229,7 @@ module _ (db : Database) where
           all_voted cs (come w c) one.0 (come_sited law w c w.letters refl sited) founded.1 one.1
 
     -- ---- calls
-    module _ (fits : Leaf → Content → Bool) (whole : Relations) (before after : Machines) (past : List (Deed L)) (txn : Name) (choice : Choice L) (heard : List Notice) (ready : Ready L 1 fits txn (rests db before past)) where
+    module _ (fits : Place → Content → Bool) (whole : Relations) (before after : Machines) (past : List (Deed L)) (txn : Name) (choice : Choice L) (heard : List Notice) (ready : IsReady db fits txn before past) where
       abbrev here : World L
       here = rests db before past
 

@@ -79,35 +79,39 @@ module _ {L : Lang} where
 
 -- ---- machines that serve
 module _ (db : Database) (law : ReachedLaw (language db)) (whole : Relations) where
-  pub asked_reached : (machines : Machines) (past : List (Deed (language db))) (ask : Ask (language db)) → IsReached whole (world_of db machines [] past) → AllExplained (asked ask (world_of db machines [] past)).past → IsReached whole (asked ask (world_of db machines [] past))
-  asked_reached machines past To_begin reached all = law.begun whole (world_of db machines [] past) reached (begins_in_force db machines [] past)
-  asked_reached machines past (To_do t request choice) reached all = law.asked whole (world_of db machines [] past) t choice request reached (asks_in_force db machines [] past t request) all
+  -- n: the number of the catalogue at the opening
+  pub asked_reached : (n : ℕ) (machines : Machines) (past : List (Deed (language db))) (ask : Ask (language db)) → AsksForNow db machines.table.version ask → IsReached (n, whole) (world_of db machines [] past) → AllExplained (asked ask (world_of db machines [] past)).past →
+      IsReached (n, whole) (asked ask (world_of db machines [] past))
+  asked_reached n machines past To_begin now reached all = law.begun (n, whole) (world_of db machines [] past) reached (begins_in_force db machines [] past)
+  asked_reached n machines past (To_do t request choice) now reached all = law.asked (n, whole) (world_of db machines [] past) t choice request reached (asks_in_force db machines [] past t request now) all
 
   -- a call, whatever letters have come since
-  pub on_ask : (ask : Ask (language db)) (before after : Machines) (past deeds : List (Deed (language db))) (comings : List (Coming (language db))) (left : List (Letter (language db))) → IsServed db whole before past → AllExplained deeds →
+  pub on_ask : (ask : Ask (language db)) (before after : Machines) (past deeds : List (Deed (language db))) (comings : List (Coming (language db))) (left : List (Letter (language db))) → AsksForNow db before.table.version ask → IsServed db whole before past → AllExplained deeds →
       all_come comings (asked ask (world_of db before [] past)) ≡ world_of db after left (past ++ deeds) → AreFit db after → IsServed db whole after (past ++ deeds)
-  on_ask ask before after past deeds comings left served explained is fit =
+  on_ask ask before after past deeds comings left now served explained is fit =
+      let opened = (served.version, whole) in
       let w = world_of db before [] past in
       let all : AllExplained (past ++ deeds) = all_both Explained past deeds served.reached.explained explained in
       let all_here : AllExplained (all_come comings (asked ask w)).past = subst (λ (v : World (language db)). AllExplained v.past) (sym is) all in
-      let here : IsReached whole (asked ask w) = asked_reached before past ask served.reached (all_explained comings (asked ask w) all_here) in
+      let here : IsReached opened (asked ask w) = asked_reached served.version before past ask now served.reached (all_explained comings (asked ask w) all_here) in
       record {
-        reached = emptied law whole (world_of db after left (past ++ deeds)) left refl (subst (IsReached whole) is (all_reached law whole comings (asked ask w) here all_here));
+        version = served.version;
+        reached = emptied law opened (world_of db after left (past ++ deeds)) left refl (subst (IsReached opened) is (all_reached law opened comings (asked ask w) here all_here));
         fit = fit;
       }
 
-  pub serves_past : (ask : Ask (language db)) (before after : Machines) (heard : List Notice) (past : List (Deed (language db))) → IsServed db whole before past → (serves : Serves db ask before after heard) → IsServed db whole after (past ++ serves.deeds)
-  serves_past ask before after heard past served serves = on_ask ask before after past serves.deeds serves.comings [] served serves.explained (serves.is past) serves.fit
+  pub serves_past : (ask : Ask (language db)) (before after : Machines) (heard : List Notice) (past : List (Deed (language db))) → AsksForNow db before.table.version ask → IsServed db whole before past → (serves : Serves db ask before after heard) → IsServed db whole after (past ++ serves.deeds)
+  serves_past ask before after heard past now served serves = on_ask ask before after past serves.deeds serves.comings [] now served serves.explained (serves.is past) serves.fit
 
-  pub serves_on : (ask : Ask (language db)) (before after : Machines) (heard : List Notice) (past : List (Deed (language db))) → IsServed db whole before past → Serves db ask before after heard → IsServedOn db whole after past
-  serves_on ask before after heard past served goes = record { deeds = goes.deeds; served = serves_past ask before after heard past served goes }
+  pub serves_on : (ask : Ask (language db)) (before after : Machines) (heard : List Notice) (past : List (Deed (language db))) → AsksForNow db before.table.version ask → IsServed db whole before past → Serves db ask before after heard → IsServedOn db whole after past
+  serves_on ask before after heard past now served goes = record { deeds = goes.deeds; served = serves_past ask before after heard past now served goes }
 
   pub same_on : (before after : Machines) (past : List (Deed (language db))) → IsServed db whole before past → after ≡ before → IsServedOn db whole after past
   same_on before after past served same = record { deeds = []; served = subst (λ (m : Machines). IsServed db whole m (past ++ [])) (sym same) (subst (IsServed db whole before) (sym (append-nil past)) served) }
 
   pub fails_on : (before after : Machines) (past : List (Deed (language db))) → IsServed db whole before past → Fails db before after → IsServedOn db whole after past
   fails_on before after past served (inl same) = same_on before after past served same
-  fails_on before after past served (inr breaks) = let broke = breaks.1 in record { deeds = broke.deeds; served = on_ask breaks.0 before after past broke.deeds broke.comings broke.left served broke.explained (broke.is past) broke.fit }
+  fails_on before after past served (inr breaks) = let broke = breaks.1.1 in record { deeds = broke.deeds; served = on_ask breaks.0 before after past broke.deeds broke.comings broke.left breaks.1.0 served broke.explained (broke.is past) broke.fit }
 
   -- one call after another
   pub then_on : (before mid after : Machines) (past : List (Deed (language db))) → IsServedOn db whole mid past → ((more : List (Deed (language db))) → IsServed db whole mid more → IsServedOn db whole after more) → IsServedOn db whole after past
@@ -116,7 +120,7 @@ module _ (db : Database) (law : ReachedLaw (language db)) (whole : Relations) wh
       record { deeds = one.deeds ++ two.deeds; served = subst (IsServed db whole after) (append_assoc past one.deeds two.deeds) two.served }
 
   -- a call and its letters, whether they went well or failed
-  pub call_served : {T E : Type 0} (ask : Ask (language db)) (before mid after : Machines) (out : Out) (past : List (Deed (language db))) (result : Result T E) (items : T → List Notice) → IsServed db whole before past → Leads db (asked ask) before mid out.letters out.replies → NoFewer before.refused mid.refused →
+  pub call_served : {T E : Type 0} (ask : Ask (language db)) (before mid after : Machines) (out : Out) (past : List (Deed (language db))) (result : Result T E) (items : T → List Notice) → AsksForNow db before.table.version ask → IsServed db whole before past → Leads db (asked ask) before mid out.letters out.replies → NoFewer before.refused mid.refused →
       IfOk result (λ x. Goes db (λ w. w) (put_out_by mid out) (settled after (items x))) → OnErr result (Breaks db (λ w. w) (put_out_by mid out) after) → IsServedOn db whole after past
-  call_served ask before mid after out past (Ok x) items served leads counts went failed = serves_on ask before after (items x) past served (call_serves db ask before mid out leads counts after (items x) went)
-  call_served ask before mid after out past (Err e) items served leads counts went failed = fails_on before after past served (call_fails db ask before mid out leads counts after failed)
+  call_served ask before mid after out past (Ok x) items now served leads counts went failed = serves_on ask before after (items x) past now served (call_serves db ask before mid out leads counts after (items x) went)
+  call_served ask before mid after out past (Err e) items now served leads counts went failed = fails_on before after past served (call_fails db ask before mid out leads counts now after failed)

@@ -24,11 +24,11 @@ use Rattle.protocol.specs.Rounds.{is_reading, rank, rank_in}
 use Rattle.protocol.specs.Local.{local}
 use Rattle.protocol.specs.Serial.{AllExplained}
 use Rattle.protocol.specs.Site.{Act, SiteState, is_within, on_letter, site_after}
-use Rattle.protocol.specs.Statements.{body_with, site_with}
+use Rattle.protocol.specs.Catalogues.{body_at, site_at}
 use Rattle.protocol.specs.World.{World}
 use Rattle.protocol.proofs.Basics.{by_test, clash, either, some_is}
 use Rattle.protocol.proofs.Limits.{OfTheEnd, end_within, turn_within}
-use Rattle.protocol.proofs.OtherStatements.{act_same, after_same, within_same}
+use Rattle.protocol.proofs.Placing.{act_same, after_same, within_same}
 use Rattle.site.specs.declared.fault.SiteFault as site_faults
 use Rattle.site.specs.declared.fault.SiteFault.TheVariants as site_fault
 use Rattle.site.specs.declared.locks.Locks.{Locks}

@@ -27,12 +27,12 @@ use Rattle.protocol.specs.Recovery.{AtRest, EndsRow, Hears, OfRecovery, Recoveri
 use Rattle.protocol.specs.Serial.{AllExplained, committed, statement_in, statements_of}
 use Rattle.protocol.specs.Site.{Status, Dead, SiteState, inquiries, is_active, is_dead, is_prepared}
 use Rattle.protocol.specs.Site as site_status
-use Rattle.protocol.specs.Statements.{Statements, letter_with, status_with, with_statements}
+use Rattle.protocol.specs.Catalogues.{Catalogues, letter_at, listed, status_at}
 use Rattle.protocol.specs.VisitPlaces.{at}
 use Rattle.protocol.specs.World.{World, desk_lives, desk_restarts, inquires, is_site}
 use Rattle.protocol.proofs.Basics.{Every, clash, either_if, every_flat, or_left, or_right, or_none_left, or_none_right}
 use Rattle.protocol.proofs.NothingCommits.{committed_still}
-use Rattle.protocol.proofs.OtherStatements.{inquiries_same}
+use Rattle.protocol.proofs.Placing.{inquiries_same}
 use Rattle.site.specs.Recovery.{Begins, resting}
 use Rattle.site.specs.declared.tickets.TicketState as standings
 use Rattle.site.specs.declared.tickets.TicketState.TheVariants as standing
@@ -40,7 +40,7 @@ use Rattle.site.specs.State.{state_of, stands, txn_in, visiting}
 use Rattle.site.proofs.Listed.{listed_alive}
 use Rattle.desk.specs.declared.reply.Notice.{Notice}
 use Rattle.desk.specs.Acknowledge.{listed, voter_with}
-use Rattle.desk.specs.Database.{Database, language, sent, statements}
+use Rattle.desk.specs.Database.{Database, IsPlace, language, sent, statements}
 use Rattle.desk.specs.Recovery as desk_recovery
 use Rattle.desk.specs.State.{desk_of, txn_at}
 use Rattle.desk.specs.Transaction.{txn_of, voter_of}
@@ -49,6 +49,7 @@ use Rattle.world.specs.Machines.{AreFit, Leads, Machines, world_of}
 use Rattle.world.specs.Mailbox.{Goes, Scene, settled}
 use Rattle.world.specs.Recovery.{AreUpAgain, GoesOnFrom, HaveNoTicket, lost_by}
 use Rattle.world.specs.Sites.{IsSeated, Seat, is_called, nobody, state_at, states_of}
+use Rattle.site.proofs.Lawful.{local_lawful}
 use Rattle.world.proofs.Openings.{at_each}
 use Rattle.world.proofs.Reaching.{all_reached}
 use Rattle.world.proofs.Running.{all_both}
@@ -57,9 +58,9 @@ use Rattle.world.proofs.Smoothly.{fit_within}
 use Rattle.world.proofs.Waking.{OneEach, one_each, seat_behind}
 
 -- ---- what a site is as it comes up
-module _ (S : Statements local) where
+module _ (S : Catalogues local) where
   -- no visit stands, and what stands is listed
-  pub record Rests (s : SiteState (with_statements local S)) : Type 0 where
+  pub record Rests (s : SiteState (listed local S)) : Type 0 where
     pub unvisited : (k : Name) → is_active (s.status k) ≡ false
     pub listed : (k : Name) → is_dead (s.status k) ≡ false → In k s.known
 
@@ -68,20 +69,20 @@ module _ (S : Statements local) where
   in_names ticket (t ∷ tickets) (inl e) = inl (ap name_of e)
   in_names ticket (t ∷ tickets) (inr below) = inr (in_names ticket tickets below)
 
-  rest_unvisited : (r : Option Kept_row) → is_active (status_with S (resting r)) ≡ false
-  rest_unvisited None = refl
-  rest_unvisited (Some row) = refl
+  rest_unvisited : (a : List ℕ) (r : Option Kept_row) → is_active (status_at local S a (resting r)) ≡ false
+  rest_unvisited a None = refl
+  rest_unvisited a (Some row) = refl
 
-  dead_same : (st : Status local) → is_dead (status_with S st) ≡ is_dead st
-  dead_same Dead = refl
-  dead_same (site_status.Active v) = refl
-  dead_same (site_status.Prepared t i) = refl
+  dead_same : (a : List ℕ) (st : Status local) → is_dead (status_at local S a st) ≡ is_dead st
+  dead_same a Dead = refl
+  dead_same a (site_status.Active v) = refl
+  dead_same a (site_status.Prepared t i) = refl
 
   pub seat_rests : (seat : Seat) → Begins seat.kept seat.table → Rests (state_at S seat)
   seat_rests seat begins = record {
-    unvisited = λ k. ap (λ (st : Status local). is_active (status_with S st)) (ap (λ (s : SiteState local). s.status k) begins.state) ∙ rest_unvisited (seat.kept.prepared (ticket_of k));
+    unvisited = λ k. ap (λ (st : Status local). is_active (status_at local S seat.name st)) (ap (λ (s : SiteState local). s.status k) begins.state) ∙ rest_unvisited seat.name (seat.kept.prepared (ticket_of k));
     listed = λ k live. in_names (ticket_of k) seat.table.tickets
-        (listed_alive seat.kept seat.table begins.fits (ticket_of k) (sym (dead_same (stands seat.table (ticket_of k) (seat.kept.prepared (ticket_of k)))) ∙ live));
+        (listed_alive seat.kept seat.table begins.fits (ticket_of k) (sym (dead_same seat.name (stands seat.table (ticket_of k) (seat.kept.prepared (ticket_of k)))) ∙ live));
   }
 
   all_rest : (seats : List Seat) → AllByRecursion (λ seat. Begins seat.kept seat.table) seats → AllByRecursion (λ seat. Rests (state_at S seat)) seats
@@ -161,23 +162,23 @@ module _ (db : Database) where
   again_end t (Some voters) = commits_end t (listed db.sites voters) (listed_there db.sites voters)
 
   -- ---- a letter of recovery is no operation
-  homed : (a : List ℕ) (c : Body L) → EndsRow c → IsAtHome a c
-  homed a (Commit k) of = tt
-  homed a (Abort k) of = tt
-  homed a (Ack k) of = tt
-  homed a (Inquire k) of = tt
-  homed a Open of = absurd of
-  homed a (Fetch k n g q) of = absurd of
-  homed a (Write k n g x) of = absurd of
-  homed a (Prepare k n) of = absurd of
-  homed a (said.Ticket k) of = absurd of
-  homed a (Rows k n rows) of = absurd of
-  homed a (Refused k reason) of = absurd of
-  homed a (Voted k x) of = absurd of
+  homed : (c : Body L) → EndsRow c → IsAtHome L (IsPlace db) c
+  homed (Commit k) of = tt
+  homed (Abort k) of = tt
+  homed (Ack k) of = tt
+  homed (Inquire k) of = tt
+  homed Open of = absurd of
+  homed (Fetch k n g q) of = absurd of
+  homed (Write k n g x) of = absurd of
+  homed (Prepare k n) of = absurd of
+  homed (said.Ticket k) of = absurd of
+  homed (Rows k n rows) of = absurd of
+  homed (Refused k reason) of = absurd of
+  homed (Voted k x) of = absurd of
 
-  all_homed : (letters : List (Letter L)) → Every OfRecovery letters → AreHomed letters
+  all_homed : (letters : List (Letter L)) → Every OfRecovery letters → AreHomed L (IsPlace db) letters
   all_homed [] all = tt
-  all_homed (l ∷ letters) all = (homed l.site l.body all.0.0, all_homed letters all.1)
+  all_homed (l ∷ letters) all = (homed l.body all.0.0, all_homed letters all.1)
 
   -- ---- machines that have come up
   module _ (machines : Machines) (fit : AreFit db machines) (up : AreUpAgain db machines) (past : List (Deed L)) where
@@ -242,7 +243,7 @@ module _ (db : Database) where
         ∙ asked_is rest (waiting ++ here) own.1
         ∙ ap (λ ls. world_of db machines ls past) (append_assoc waiting here (flat_map (λ seat. inquiries seat.name (state_at (statements db) seat)) rest))
 
-    module _ (law : ReachedLaw L) (whole : Relations) where
+    module _ (law : ReachedLaw L) (whole : L.Whole) where
       asked_reached : (sites : List (List ℕ)) (v : World L) → ((a : List ℕ) → is_site L a sites ≡ true → is_site L a db.sites ≡ true) → IsReached whole v → IsReached whole (all_inquire sites v)
       asked_reached [] v among reached = reached
       asked_reached (a ∷ sites) v among reached =
@@ -250,20 +251,20 @@ module _ (db : Database) where
           (law.inquired whole v a reached (among a (or_left (pointwise nat_eq a a) (is_site L a sites) (name_self a))))
 
   -- the inquiries of the code are those of the protocol
-  seats_ask : (seats : List Seat) → map (letter_with (statements db)) (flat_map (λ seat. inquiries seat.name (state_of seat.kept seat.table)) seats) ≡ flat_map (λ seat. inquiries seat.name (state_at (statements db) seat)) seats
+  seats_ask : (seats : List Seat) → map (letter_at local (statements db)) (flat_map (λ seat. inquiries seat.name (state_of seat.kept seat.table)) seats) ≡ flat_map (λ seat. inquiries seat.name (state_at (statements db) seat)) seats
   seats_ask [] = refl
   seats_ask (seat ∷ seats) =
-      map-append (letter_with (statements db)) (inquiries seat.name (state_of seat.kept seat.table)) (flat_map (λ seat. inquiries seat.name (state_of seat.kept seat.table)) seats)
-      ∙ (λ i. inquiries_same (statements db) seat.name (state_of seat.kept seat.table) i ++ seats_ask seats i)
+      map-append (letter_at local (statements db)) (inquiries seat.name (state_of seat.kept seat.table)) (flat_map (λ seat. inquiries seat.name (state_of seat.kept seat.table)) seats)
+      ∙ (λ i. inquiries_same local (statements db) local_lawful seat.name (state_of seat.kept seat.table) i ++ seats_ask seats i)
 
-  sent_is : (ls : List letters.Letter) → map (sent db) ls ≡ map (letter_with (statements db)) (map letter_of ls)
+  sent_is : (ls : List letters.Letter) → map (sent db) ls ≡ map (letter_at local (statements db)) (map letter_of ls)
   sent_is [] = refl
   sent_is (l ∷ ls) = ap (λ rest. sent db l ∷ rest) (sent_is ls)
 
   sent_more : (seats : List Seat) (before after : List letters.Letter) → map letter_of after ≡ map letter_of before ++ flat_map (λ seat. inquiries seat.name (state_of seat.kept seat.table)) seats →
       map (sent db) after ≡ map (sent db) before ++ flat_map (λ seat. inquiries seat.name (state_at (statements db) seat)) seats
   sent_more seats before after is =
-      sent_is after ∙ ap (map (letter_with (statements db))) is ∙ map-append (letter_with (statements db)) (map letter_of before) (flat_map (λ seat. inquiries seat.name (state_of seat.kept seat.table)) seats)
+      sent_is after ∙ ap (map (letter_at local (statements db))) is ∙ map-append (letter_at local (statements db)) (map letter_of before) (flat_map (λ seat. inquiries seat.name (state_of seat.kept seat.table)) seats)
       ∙ (λ i. sym (sent_is before) i ++ seats_ask seats i)
 
   -- ---- at the end
@@ -281,7 +282,7 @@ module _ (db : Database) where
   unknown seat fits ticket dead = go (seat.kept.prepared ticket) refl (seat.table.standing ticket) refl
     where
       stood : (r : Option Kept_row) → seat.kept.prepared ticket ≡ r → is_dead (stands seat.table ticket r) ≡ true
-      stood r e = subst (λ r. is_dead (stands seat.table ticket r) ≡ true) e (sym (dead_same (statements db) (stands seat.table ticket (seat.kept.prepared ticket))) ∙ dead)
+      stood r e = subst (λ r. is_dead (stands seat.table ticket r) ≡ true) e (sym (dead_same (statements db) seat.name (stands seat.table ticket (seat.kept.prepared ticket))) ∙ dead)
 
       go : (r : Option Kept_row) → seat.kept.prepared ticket ≡ r → (o : Option standings.TicketState) → seat.table.standing ticket ≡ o → seat.table.standing ticket ≡ None
       go (Some row) e o is = let no : false ≡ true = stood (Some row) e in absurd cc
@@ -308,34 +309,35 @@ module _ (db : Database) where
       scene.waiting ≡ asked → (same : (ls : List (Letter L)) (ds : List (Deed L)) → world_of db scene.machines ls ds ≡ world_of db mid ls ds) → AreFit db scene.machines →
       Goes db (λ w. w) scene (settled after heard) → GoesOnFrom db whole past after
   recovers law recovery distinct whole past before mid after commits asked notices heard scene served up leads more waits same fit goes =
+      let opened = (served.version, whole) in
       let now = past ++ leads.deeds in
       let w1 = world_of db before [] past in
       let w2 = world_of db mid (map (sent db) commits) now in
       let w3 = world_of db mid (map (sent db) asked) now in
       let rest : AtRest w2 = subst AtRest (leads.is [] past) (restart_rests before served.fit up past) in
-      let reached2 : IsReached whole w2 = subst (IsReached whole) (leads.is [] past) (law.desk_restarted whole w1 served.reached) in
-      let each : OneEach [] mid.seats = one_each db law whole db.sites distinct [] mid.seats leads.fit.names (λ name here. tt) in
+      let reached2 : IsReached opened w2 = subst (IsReached opened) (leads.is [] past) (law.desk_restarted opened w1 served.reached) in
+      let each : OneEach [] mid.seats = one_each db.sites distinct [] mid.seats leads.fit.names (λ name here. tt) in
       let all_ask : all_inquire db.sites w2 ≡ w3 =
       subst (λ (names : List (List ℕ)). all_inquire names w2 ≡ w3) leads.fit.names
       (asked_is mid now mid.seats (map (sent db) commits) (own_states [] mid.seats each) ∙ ap (λ ls. world_of db mid ls now) (sym (sent_more mid.seats commits asked more))) in
       let recovering3 : Recovering now w3 = subst (Recovering now) all_ask (recovery.asked w2 rest) in
-      let reached3 : IsReached whole w3 = subst (IsReached whole) all_ask (asked_reached mid now law whole db.sites w2 (λ a here. here) reached2) in
+      let reached3 : IsReached opened w3 = subst (IsReached opened) all_ask (asked_reached mid now law opened db.sites w2 (λ a here. here) reached2) in
       let begins : world_of db scene.machines (map (sent db) scene.waiting) now ≡ w3 = ap (λ ls. world_of db scene.machines (map (sent db) ls) now) waits ∙ same (map (sent db) asked) now in
       let start = world_of db scene.machines (map (sent db) scene.waiting) now in
       let recovering = subst (Recovering now) (sym begins) recovering3 in
-      let reached = subst (IsReached whole) (sym begins) reached3 in
+      let reached = subst (IsReached opened) (sym begins) reached3 in
       let within = fit_within db scene.machines (map (sent db) scene.waiting) now fit in
       let founded = goes.founded (all_homed (map (sent db) scene.waiting) recovering.only) now in
       let ended : Recovering now (world_of db after [] (now ++ goes.deeds)) = subst (Recovering now) (goes.is now) (recovery.come now goes.comings start within founded recovering) in
       let quiet = recovery.quiet now (world_of db after [] (now ++ goes.deeds)) ended refl in
       let all : AllExplained (now ++ goes.deeds) = all_both Rattle.protocol.specs.Serial.Explained now goes.deeds reached.explained goes.explained in
       let all_here : AllExplained (all_come goes.comings start).past = subst (λ (v : World L). AllExplained v.past) (sym (goes.is now)) all in
-      let reached_last : IsReached whole (world_of db after [] (now ++ goes.deeds)) = subst (IsReached whole) (goes.is now) (all_reached law whole goes.comings start reached all_here) in
+      let reached_last : IsReached opened (world_of db after [] (now ++ goes.deeds)) = subst (IsReached opened) (goes.is now) (all_reached law opened goes.comings start reached all_here) in
       record {
         more = leads.deeds;
-        served = record { reached = subst (λ ds. IsReached whole (world_of db after [] ds)) quiet.1 reached_last; fit = goes.fit };
+        served = record { version = served.version; reached = subst (λ ds. IsReached opened (world_of db after [] ds)) quiet.1 reached_last; fit = goes.fit };
         quiet = subst (λ ds. IsQuiet (world_of db after [] ds)) quiet.1 quiet.0;
-        unvisited = no_ticket after.seats after.seats (own_states [] after.seats (one_each db law whole db.sites distinct [] after.seats goes.fit.names (λ name here. tt))) goes.fit.sites (all_dead now (world_of db after [] (now ++ goes.deeds)) ended refl);
+        unvisited = no_ticket after.seats after.seats (own_states [] after.seats (one_each db.sites distinct [] after.seats goes.fit.names (λ name here. tt))) goes.fit.sites (all_dead now (world_of db after [] (now ++ goes.deeds)) ended refl);
         unstated = restart_mute before served.fit up past mid commits notices leads;
         uncommitted = restart_vain before served.fit up past mid commits notices leads;
       }

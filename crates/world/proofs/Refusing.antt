@@ -40,20 +40,20 @@ some = statements.Insert (record { into = []; row = [] })
 
 -- why a statement is refused, as the coordinator's contract says it
 abbrev Told : (db : Database) → VolatileState → names.Txn → List ℕ → List (List ℕ) × List SplitRelation → Statement → Refusal → Type 0
-Told db table txn text catalog s told = (told ≡ Memory) ⊎ (option_map refused_as (refusal (State s) (txn_in db table txn)) ≡ Some told)
-    ⊎ ((refusal (State s) (txn_in db table txn) ≡ None) × (IsUnread (schemas_of (catalogue_of catalog)) text told ⊎ (told ≡ Full)))
+Told db table txn text catalog s told = (told ≡ Memory) ⊎ (option_map refused_as (refusal (State (table.version, s)) (txn_in db table txn)) ≡ Some told)
+    ⊎ ((refusal (State (table.version, s)) (txn_in db table txn) ≡ None) × (IsUnread (schemas_of (catalogue_of catalog)) text told ⊎ (told ≡ Full)))
 
-pub statement_refused : {T : Type 0} (db : Database) (table : VolatileState) (txn : names.Txn) (text : List ℕ) (catalog : List (List ℕ) × List SplitRelation) → db.catalogue ≡ catalogue_of catalog → (result : Result T Refusal) →
+pub statement_refused : {T : Type 0} (db : Database) (table : VolatileState) (txn : names.Txn) (text : List ℕ) (catalog : List (List ℕ) × List SplitRelation) → db.schemas ≡ schemas_of (catalogue_of catalog) → (result : Result T Refusal) →
     ((s : Statement) → IfErr result (Told db table txn text catalog s)) → (result ≡ Err Full → StatesPastLimits db table txn text) → IfErr result (λ told. (told ≡ Memory) ⊎ IsRefused db table (call.State txn text) told)
 statement_refused db table txn text catalog is (Ok out) all past = tt
 statement_refused {T} db table txn text catalog is (Err told) all past = go (all some)
   where
     go : Told db table txn text catalog some told → (told ≡ Memory) ⊎ IsRefused db table (call.State txn text) told
     go (inl memory) = inl memory
-    go (inr (inl refused)) = inr (λ s. inl (ap (option_map refused_as) (same_refusal s some (txn_in db table txn)) ∙ refused))
+    go (inr (inl refused)) = inr (λ s. inl (ap (option_map refused_as) (same_refusal (table.version, s) (table.version, some) (txn_in db table txn)) ∙ refused))
     go (inr (inr late)) = inr (λ s. inr (
-      same_refusal s some (txn_in db table txn) ∙ late.0,
+      same_refusal (table.version, s) (table.version, some) (txn_in db table txn) ∙ late.0,
       ⊎_elim
-          (λ unread. inl (subst (λ (c : Catalogue). IsUnread (schemas_of c) text told) (sym is) unread))
+          (λ unread. inl (subst (λ (schemas : List RelationSchema). IsUnread schemas text told) (sym is) unread))
           (λ full. inr (full, past (ap Err full))) late.1,
     ))

@@ -20,7 +20,7 @@ use Rattle.protocol.specs.World as world
 use Rattle.protocol.specs.World.{World, called, comes, delivered, gives_up, happens, inquires, may_ask, restarts, run}
 use Rattle.desk.specs.Request.{IsOver}
 use Rattle.desk.specs.Database.{Database, language, sent}
-use Rattle.desk.specs.OfCatalogue.{IsOfCatalogue}
+use Rattle.desk.specs.OfCatalogue.{InForce, IsOfCatalogue}
 use Rattle.desk.specs.declared.refusal.Refusal.{Refusal}
 use Rattle.desk.specs.declared.reply.Out.{Out}
 use Rattle.protocol.proofs.Basics.{if_true, some_is}
@@ -32,16 +32,17 @@ use Rattle.world.specs.declared.event.Event.TheVariants as event
 use Rattle.world.specs.declared.fault.Fault.{Fault}
 use Rattle.world.specs.Events.{IsEvent}
 use Rattle.world.specs.EventApplied.{IsAtSite, told_by_desk}
-use Rattle.world.specs.Machines.{Asked, Came, Leads, Machines, happens_at, world_of}
+use Rattle.world.specs.Machines.{AreOfPlaces, Asked, Came, IsForNow, Leads, Machines, happens_at, world_of}
 use Rattle.world.specs.Posted.{letters_in}
 use Rattle.protocol.specs.Accepted.{IsAccepted}
 use Rattle.world.specs.Runs.{IsRun, IsSpared, Spares, StepsOn, entry_of}
 use Rattle.world.specs.Taking.{CameUnless}
 use Rattle.world.proofs.InForce.{asks_in_force}
+use Rattle.world.proofs.Placed.{placed_both}
 use Rattle.world.proofs.Reasoned.{same_passes}
 use Rattle.world.specs.Seated.{place_of}
 use Rattle.world.specs.Replies.{Shows}
-use Rattle.world.proofs.Told.{at_site_silent, comes_silent, events_both, one_more, silent_step, tells_more}
+use Rattle.world.proofs.Told.{at_site_silent, comes_silent, event_more, one_more, silent_step, tells_more}
 
 one_event_more : {L : Lang} (es : List (world.Event L)) (e : world.Event L) (w : World L) → run (es ++ e ∷ []) w ≡ happens (run es w) e
 one_event_more [] e w = refl
@@ -53,7 +54,7 @@ all_both P (x ∷ xs) ys one other = (one.0, all_both P xs ys one.1 other)
 
 pub runs_on : (db : Database) (whole : Relations) (before after : Machines) (entries : List Entry) (past : List (Deed (language db))) (what : events.Event) (out : Out) (step : World (language db) → World (language db)) (e : world.Event (language db)) →
     IsRun db whole before entries past → (leads : Leads db step before after out.letters out.replies) → happens (world_of db before (map (sent db) (letters_in entries)) past) e ≡ step (world_of db before (map (sent db) (letters_in entries)) past) →
-    IsEvent db what out.kept e → IsAccepted (world_of db before (map (sent db) (letters_in entries)) past) e → Shows db what leads.deeds → StepsOn db whole before after entries (entries ++ entry_of what out ∷ []) past
+    IsEvent db before.table.version what out.kept e → IsAccepted (world_of db before (map (sent db) (letters_in entries)) past) e → Shows db what leads.deeds → StepsOn db whole before after entries (entries ++ entry_of what out ∷ []) past
 runs_on db whole before after entries past what out step e so leads event is_event accepted shows =
     let goes : happens (world_of db before (map (sent db) (letters_in entries)) past) e ≡ world_of db after (map (sent db) (letters_in (entries ++ entry_of what out ∷ []))) (past ++ leads.deeds) =
     event ∙ leads.is (map (sent db) (letters_in entries)) past ∙
@@ -67,11 +68,13 @@ runs_on db whole before after entries past what out step e so leads event is_eve
       deeds = leads.deeds;
       is = goes;
       run_on = record {
+        version = so.version;
         opening = so.opening;
         opens = so.opens;
         events = so.events ++ e ∷ [];
-        are = events_both db entries (entry_of what out ∷ []) so.events (e ∷ []) so.are (is_event, tt);
+        are = event_more db so.opening entries so.events (entry_of what out) e so.are (subst (λ n. IsEvent db n what out.kept e) (ap (λ (w : World (language db)). w.version) (sym so.is)) is_event);
         is = one_event_more so.events e so.opening ∙ ap (λ w. happens w e) so.is ∙ goes;
+        placed = subst (AreOfPlaces db) (sym (one_more (λ (entry : Entry). entry.out.letters) entries (entry_of what out))) (placed_both db (letters_in entries) out.letters so.placed leads.placed);
         explained = all_both Explained past leads.deeds so.explained leads.explained;
         tells = tells_more db entries (entry_of what out) past leads.deeds so.tells shows leads.replies;
         fit = leads.fit;
@@ -114,16 +117,16 @@ pub spares_pushed : (Refused : Type 0) (db : Database) (before after : Machines)
 spares_pushed Refused db before after entries roomy more past entry what same pushed on = subst (λ es. Spares Refused db before after es more past what) same (subst (λ es. Spares Refused db before after roomy es past what) (sym pushed) on)
 
 -- ---- what clients ask for
-pub over_of : (db : Database) (catalog : List (List ℕ) × List SplitRelation) → IsOfCatalogue db → db.catalogue ≡ catalogue_of catalog → IsOver db catalog.0
-over_of db catalog of is =
-    let sites : db.sites ≡ catalog.0 = of.sites ∙ ap (λ (x : Catalogue). x.sites) is in
-    record { sites = sites; distinct = subst AreDistinct (sym of.sites) of.formed.distinct }
+pub over_of : (db : Database) (n : ℕ) (catalog : List (List ℕ) × List SplitRelation) → IsOfCatalogue db → InForce db n catalog → IsOver db catalog.0
+over_of db n catalog of is =
+    let sites : db.sites ≡ catalog.0 = of.sites n ∙ ap (λ (x : Catalogue). x.sites) is in
+    record { sites = sites; distinct = subst AreDistinct (sym (of.sites n)) (of.formed n).distinct }
 
 pub called_on : (db : Database) (whole : Relations) (before after : Machines) (entries : List Entry) (past : List (Deed (language db))) (what : events.Event) (out : Out) (txn : names.Txn) (choice : Choice (language db)) (request : Request (language db)) →
-    IsRun db whole before entries past → (asked : Asked db txn choice request before after out.letters out.replies) → IsEvent db what out.kept (world.Call (txn_name txn) request choice) → Shows db what asked.leads.deeds → StepsOn db whole before after entries (entries ++ entry_of what out ∷ []) past
-called_on db whole before after entries past what out txn choice request so asked is shows =
+    IsRun db whole before entries past → (asked : Asked db txn choice request before after out.letters out.replies) → IsForNow db before.table.version request → IsEvent db before.table.version what out.kept (world.Call (txn_name txn) request choice) → Shows db what asked.leads.deeds → StepsOn db whole before after entries (entries ++ entry_of what out ∷ []) past
+called_on db whole before after entries past what out txn choice request so asked now is shows =
     let w = world_of db before (map (sent db) (letters_in entries)) past in
-    let may = asks_in_force db before (map (sent db) (letters_in entries)) past (txn_name txn) request in
+    let may = asks_in_force db before (map (sent db) (letters_in entries)) past (txn_name txn) request now in
     runs_on db whole before after entries past what out (λ w. called w (txn_name txn) choice request) (world.Call (txn_name txn) request choice) so asked.leads
     (if_true (may_ask w (txn_name txn) request) (called w (txn_name txn) choice request) w may) is (may, asked.accepted, asked.within) shows
 

@@ -9,16 +9,17 @@ use Rattle.protocol.specs.Language.{put}
 use Rattle.protocol.specs.Letter as protocol
 use Rattle.protocol.specs.Letters.{body_of, kept_in, letter_of, txn_name}
 use Rattle.protocol.specs.Local.{local}
-use Rattle.protocol.specs.Site.{on_letter, said, site_after}
-use Rattle.protocol.specs.Statements.{Statements, body_with, letter_with, site_with}
+use Rattle.protocol.specs.Site.{Act, SiteState, on_letter, said, site_after}
+use Rattle.protocol.specs.Catalogues.{Catalogues, body_at, letter_at, listed, site_at}
 use Rattle.protocol.specs.World.{addressed}
 use Rattle.protocol.proofs.Basics.{some_is}
-use Rattle.protocol.proofs.OtherStatements.{act_same, after_same, said_same}
+use Rattle.protocol.proofs.Placing.{act_same, after_same, said_same}
 use Rattle.site.specs.State.{Takes, state_of}
+use Rattle.site.proofs.Lawful.{local_lawful}
 use Rattle.site.proofs.TicketOrder.{same_bool}
 use Rattle.terms.specs.declared.leaf.Leaf.{Leaf}
 use Rattle.terms.specs.Leaf.{leaf_cmp}
-use Rattle.desk.specs.Database.{Database}
+use Rattle.desk.specs.Database.{Database, IsPlace}
 use Rattle.world.specs.Sites.{IsSeated, Moves, Seat, is_called, reseated, seat_of, state_at, states_of}
 
 pub name_is : (a b : List ℕ) → pointwise nat_eq a b ≡ true → a ≡ b
@@ -84,7 +85,7 @@ reseated_same name new (first ∷ seats) seat same there = go (is_called name fi
     go true is later = ap (λ s. s ∷ seats) (same ∙ sym (some_is is))
     go false is later = ap (λ rest. first ∷ rest) (later is)
 
-module _ (S : Statements local) where
+module _ (S : Catalogues local) where
   -- the state at its name
   pub state_there : (name : List ℕ) (seats : List Seat) (seat : Seat) → seat_of name seats ≡ Some seat → states_of S seats name ≡ state_at S seat
   state_there name [] seat there = absurd cc
@@ -127,15 +128,15 @@ module _ (S : Statements local) where
 pub seated_after : (name : List ℕ) (seat new : Seat) (before after : List Seat) → Moves name seat new before after → AllByRecursion IsSeated before → AllByRecursion IsSeated after
 seated_after name seat new before after moves all = subst (AllByRecursion IsSeated) (sym moves.is) (all_kept IsSeated name new before moves.seated all)
 
--- and the leaves that are at home there
--- a site has each leaf that is at home there
+-- a site has each leaf that some catalogue puts there
 abbrev pub HasItsLeaves : Database → Seat → Type 0
-HasItsLeaves db seat = (leaf : Leaf) → db.home leaf ≡ seat.name → list_any (λ other. is_eq (leaf_cmp leaf other)) seat.leaves ≡ true
+HasItsLeaves db seat = (leaf : Leaf) → IsPlace db (seat.name, leaf) → list_any (λ other. is_eq (leaf_cmp leaf other)) seat.leaves ≡ true
 
+-- and these leaves
 pub leaves_after : (db : Database) (name : List ℕ) (seat new : Seat) (before after : List Seat) → Moves name seat new before after → AllByRecursion (HasItsLeaves db) before → AllByRecursion (HasItsLeaves db) after
 leaves_after db name seat new before after moves all =
     let has = seat_has (HasItsLeaves db) name before seat moves.there all in
-    let here : HasItsLeaves db new = λ leaf home. ap (list_any (λ other. is_eq (leaf_cmp leaf other))) moves.leaves ∙ has leaf (home ∙ moves.named ∙ sym (seat_named name before seat moves.there)) in
+    let here : HasItsLeaves db new = λ leaf home. ap (list_any (λ other. is_eq (leaf_cmp leaf other))) moves.leaves ∙ has leaf (subst (λ n. IsPlace db (n, leaf)) (moves.named ∙ sym (seat_named name before seat moves.there)) home) in
     subst (AllByRecursion (HasItsLeaves db)) (sym moves.is) (all_kept (HasItsLeaves db) name new before here all)
 
 -- and the names
@@ -143,26 +144,43 @@ pub names_after : (name : List ℕ) (seat new : Seat) (before after : List Seat)
 names_after name seat new before after moves = ap (map (λ s. s.name)) moves.is ∙ names_kept name new before moves.named
 
 -- ---- a letter
-module _ (S : Statements local) (letter : Letter) (letters : List Letter) (seat new : Seat) (takes : Takes seat.kept seat.table new.kept new.table letter letters) where
+module _ (S : Catalogues local) (letter : Letter) (letters : List Letter) (seat new : Seat) (here : seat.name ≡ letter.site) (still : new.name ≡ letter.site) (takes : Takes seat.kept seat.table new.kept new.table letter letters) where
+  abbrev a : List ℕ
+  a = letter.site
+
+  abbrev s : SiteState local
+  s = state_of seat.kept seat.table
+
+  abbrev kept : Bool
+  kept = kept_in letters
+
+  abbrev act : Act local
+  act = on_letter s (txn_name letter.txn) kept (body_of letter.body)
+
+  named_so : state_at S seat ≡ site_at local S a s
+  named_so = ap (λ name. site_at local S name s) here
+
   -- the state after it is that of the table
-  pub letter_state : site_after (state_at S seat) (on_letter (state_at S seat) (txn_name letter.txn) (kept_in letters) (body_with S (body_of letter.body))) ≡ state_at S new
+  pub letter_state : site_after (state_at S seat) (on_letter (state_at S seat) (txn_name letter.txn) kept (body_at local S a (body_of letter.body))) ≡ state_at S new
   letter_state =
-      let s = state_of seat.kept seat.table in
-      let act = on_letter s (txn_name letter.txn) (kept_in letters) (body_of letter.body) in
-      ap (site_after (site_with S s)) (sym (act_same S s (txn_name letter.txn) (kept_in letters) (body_of letter.body))) ∙ sym (after_same S s act) ∙ ap (site_with S) (sym takes.state)
+      ap (λ (x : SiteState (listed local S)). site_after x (on_letter x (txn_name letter.txn) kept (body_at local S a (body_of letter.body)))) named_so
+      ∙ ap (site_after (site_at local S a s)) (sym (act_same local S local_lawful a s (txn_name letter.txn) kept (body_of letter.body)))
+      ∙ sym (after_same local S local_lawful a s act) ∙ ap (site_at local S a) (sym takes.state)
+      ∙ ap (λ name. site_at local S name (state_of new.kept new.table)) (sym still)
 
   -- so is what is answered
-  pub letter_said : addressed letter.site (txn_name letter.txn) (said (state_at S seat) (on_letter (state_at S seat) (txn_name letter.txn) (kept_in letters) (body_with S (body_of letter.body)))) ≡ map (λ l. letter_with S (letter_of l)) letters
+  pub letter_said : addressed a (txn_name letter.txn) (said (state_at S seat) (on_letter (state_at S seat) (txn_name letter.txn) kept (body_at local S a (body_of letter.body)))) ≡ map (λ l. letter_at local S (letter_of l)) letters
   letter_said =
-      let s = state_of seat.kept seat.table in
-      let act = on_letter s (txn_name letter.txn) (kept_in letters) (body_of letter.body) in
-      let spoken : said (site_with S s) (on_letter (site_with S s) (txn_name letter.txn) (kept_in letters) (body_with S (body_of letter.body))) ≡ map (body_with S) (said s act) = ap (said (site_with S s)) (sym (act_same S s (txn_name letter.txn) (kept_in letters) (body_of letter.body))) ∙ sym (said_same S s act) in
-      ap (addressed letter.site (txn_name letter.txn)) spoken ∙ put_out (said s act) ∙ ap (map (letter_with S)) (sym takes.says) ∙ twice letters
+      ap (λ (x : SiteState (listed local S)). addressed a (txn_name letter.txn) (said x (on_letter x (txn_name letter.txn) kept (body_at local S a (body_of letter.body))))) named_so
+      ∙ ap (addressed a (txn_name letter.txn)) spoken ∙ put_out (said s act) ∙ ap (map (letter_at local S)) (sym takes.says) ∙ twice letters
     where
-      put_out : (bodies : List (protocol.Body local)) → addressed letter.site (txn_name letter.txn) (map (body_with S) bodies) ≡ map (letter_with S) (addressed letter.site (txn_name letter.txn) bodies)
-      put_out [] = refl
-      put_out (body ∷ bodies) = ap (λ rest. record { site = letter.site; txn = txn_name letter.txn; body = body_with S body } ∷ rest) (put_out bodies)
+      spoken : said (site_at local S a s) (on_letter (site_at local S a s) (txn_name letter.txn) kept (body_at local S a (body_of letter.body))) ≡ map (body_at local S a) (said s act)
+      spoken = ap (said (site_at local S a s)) (sym (act_same local S local_lawful a s (txn_name letter.txn) kept (body_of letter.body))) ∙ sym (said_same local S local_lawful a s act)
 
-      twice : (out : List Letter) → map (letter_with S) (map letter_of out) ≡ map (λ l. letter_with S (letter_of l)) out
+      put_out : (bodies : List (protocol.Body local)) → addressed a (txn_name letter.txn) (map (body_at local S a) bodies) ≡ map (letter_at local S) (addressed a (txn_name letter.txn) bodies)
+      put_out [] = refl
+      put_out (body ∷ bodies) = ap (λ rest. record { site = a; txn = txn_name letter.txn; body = body_at local S a body } ∷ rest) (put_out bodies)
+
+      twice : (out : List Letter) → map (letter_at local S) (map letter_of out) ≡ map (λ l. letter_at local S (letter_of l)) out
       twice [] = refl
-      twice (l ∷ out) = ap (λ rest. letter_with S (letter_of l) ∷ rest) (twice out)
+      twice (l ∷ out) = ap (λ rest. letter_at local S (letter_of l) ∷ rest) (twice out)

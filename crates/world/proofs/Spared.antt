@@ -11,7 +11,7 @@ use Rattle.protocol.specs.Language.{Lang, Name}
 use Rattle.protocol.specs.Letter.{Body, Open, Fetch, Write, Prepare, Commit, Abort, Ticket as GivesTicket, Rows, Refused, Voted, Ack, Inquire, is_for_desk}
 use Rattle.protocol.specs.Letters.{body_of, name_of, txn_name}
 use Rattle.protocol.specs.Site.{SiteState, is_within, on_letter, on_prepare, said, site_after}
-use Rattle.protocol.specs.Statements.{body_with, status_with}
+use Rattle.protocol.specs.Catalogues.{body_at, status_at}
 use Rattle.protocol.specs.World.{World, addressed, comes_to, site_steps}
 use Rattle.protocol.specs.StatementCourse.{passes_to}
 use Rattle.desk.specs.declared.reply.Notice.{Notice}

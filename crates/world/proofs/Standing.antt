@@ -2,7 +2,6 @@
 use Rattle.std.proofs.Common.{◌≡◌, sym, ap, ◌∙◌, subst, ℕ, Bool, true, List, [], ◌∷◌, ◌++◌, map, ◌⊎◌, inl, inr, ⊎_elim, Option, Some, None, Result, if◌then◌else◌}
 use Rattle.meaning.specs.declared.schema.RelationSchema.{RelationSchema}
 use Rattle.meaning.specs.Whole.{Relations}
-use Rattle.terms.specs.declared.leaf.Leaf.{Leaf}
 use Rattle.store.specs.Content.{Content}
 use Rattle.store.specs.declared.name.Txn.{Txn}
 use Rattle.protocol.specs.Client.{IsQuiet, ReachedLaw}
@@ -15,6 +14,7 @@ use Rattle.desk.specs.declared.refusal.Refusal.{Refusal}
 use Rattle.desk.specs.declared.reply.Notice.{Notice}
 use Rattle.desk.specs.declared.reply.Reply.TheVariants.{Answer, Begun}
 use Rattle.desk.specs.Database.{Database, language}
+use Rattle.desk.specs.Place.{Place}
 use Rattle.desk.specs.State.{notice_of}
 use Rattle.world.specs.Client.{DoesBegin, DoesState, IsServed, is_end, still_open, tells}
 use Rattle.world.specs.Commands.{IsCommand, IsDecided, IsLone, IsStated, IsTakenBack}
@@ -23,13 +23,15 @@ use Rattle.world.specs.Executed.{ObeysUnlessRefused, Stands}
 use Rattle.world.specs.Machines.{Machines}
 use Rattle.world.specs.Mailbox.{IsStill}
 use Rattle.world.specs.Settling.{GrowsQuiet}
+use Rattle.world.specs.Smoothly.{rests}
 use Rattle.world.proofs.Deeds.{move_served, still_served}
 use Rattle.world.proofs.Denials.{no_commit, no_rollback}
 use Rattle.world.proofs.Executed.{not_ended, still_there, tells_more}
+use Rattle.world.proofs.Smoothly.{ready_at}
 use Rattle.world.proofs.Moves.{back_cases, command_cases, decided_cases, lone_cases, stated_cases}
 
 -- where a database stands doesn't hang on what happened before
-pub stands_whenever : (db : Database) (fits : Leaf → Content → Bool) (current : Option Txn) (machines : Machines) (past other : List (Deed (language db))) → Stands db fits current machines past → Stands db fits current machines other
+pub stands_whenever : (db : Database) (fits : Place → Content → Bool) (current : Option Txn) (machines : Machines) (past other : List (Deed (language db))) → Stands db fits current machines past → Stands db fits current machines other
 stands_whenever db fits None machines past other quiet = record { silent = quiet.silent; calm = quiet.calm; decided = quiet.decided }
 stands_whenever db fits (Some txn) machines past other ready =
     let steady = ready.steady in
@@ -46,11 +48,12 @@ stands_whenever db fits (Some txn) machines past other ready =
     }
 
 -- nothing has been done
-pub stands_still : (db : Database) (fits : Leaf → Content → Bool) (current : Option Txn) (before after : Machines) (past : List (Deed (language db))) → IsStill db before after → Stands db fits current before past → Stands db fits current after past
+pub stands_still : (db : Database) (fits : Place → Content → Bool) (current : Option Txn) (before after : Machines) (past : List (Deed (language db))) → IsStill db before after → Stands db fits current before past → Stands db fits current after past
 stands_still db fits None before after past still quiet = subst IsQuiet (sym (ap (λ (w : World (language db)). record w { past = past }) still.same)) quiet
-stands_still db fits (Some txn) before after past still ready = subst (Ready (language db) 1 fits (txn_name txn)) (sym (ap (λ (w : World (language db)). record w { past = past }) still.same)) ready
+stands_still db fits (Some txn) before after past still ready =
+    ready_at before.table.version after.table.version (txn_name txn) (rests db after past) (subst (Ready (language db) before.table.version fits (txn_name txn)) (sym (ap (λ (w : World (language db)). record w { past = past }) still.same)) ready)
 
-module _ (db : Database) (fits : Leaf → Content → Bool) (reached : ReachedLaw (language db)) (obeys : ObeysUnlessRefused db fits) (law : GrowsQuiet db fits) (whole : Relations) where
+module _ (db : Database) (fits : Place → Content → Bool) (reached : ReachedLaw (language db)) (obeys : ObeysUnlessRefused db fits) (law : GrowsQuiet db fits) (whole : Relations) where
   -- what a client's transaction may be answered: it stays ready, or it has ended and its client hears so
   abbrev IsAfterStatement : Txn → Machines → List Notice → List (Deed (language db)) → Type 0
   IsAfterStatement txn machines answered past =

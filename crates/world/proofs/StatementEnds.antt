@@ -1,6 +1,5 @@
 -- A statement of one client, whatever becomes of its letters: its transaction is ready for more, or it has ended and all is quiet.
 use Rattle.std.proofs.Common.{◌≡◌, refl, sym, ap, ◌∙◌, subst, Bool, true, false, List, [], ◌∷◌, ◌++◌, ◌⊎◌, inl, inr, ⊎_elim, ℕ, Option, map}
-use Rattle.terms.specs.declared.leaf.Leaf.{Leaf}
 use Rattle.meaning.specs.declared.statement.Statement.{Statement}
 use Rattle.meaning.specs.Statement.{IsStatementOf}
 use Rattle.meaning.specs.Whole.{Relations}
@@ -33,12 +32,13 @@ use Rattle.protocol.proofs.ForgottenLetters.{reached_law}
 use Rattle.protocol.proofs.WithoutRefusal.{smooth_law}
 use Rattle.desk.specs.declared.reply.Notice.{Notice}
 use Rattle.desk.specs.Database.{Database, language}
+use Rattle.desk.specs.Place.{Place}
 use Rattle.desk.specs.State.{desk_of, notice_of}
 use Rattle.protocol.specs.Delivery.{AllFounded, Coming, FindsNoRoom, FirstIsFounded, IsFounded, Passed_over, Taken, Turned_away, all_come, come, first_comes}
 use Rattle.world.specs.Mailbox.{Serves, To_do}
 use Rattle.world.specs.Machines.{Machines}
 use Rattle.world.specs.Client.{IsServed, is_end, tells}
-use Rattle.world.specs.Smoothly.{rests}
+use Rattle.world.specs.Smoothly.{IsReady, rests}
 use Rattle.world.proofs.CallsKept.{FetchKept, fetch_kept}
 use Rattle.world.proofs.Sited.{Sited, called_sited, come_sited, first_is_sited, not_passed, steady_sited}
 use Rattle.world.proofs.NoWrites.{NoWrites, bare, comes_bare, is_write, reads_on, state_reads}
@@ -46,7 +46,7 @@ use Rattle.world.proofs.Quieting.{ended_gives_up, ending_lost, kept_end_of, lost
 use Rattle.world.proofs.Reaching.{all_explained, all_reached}
 use Rattle.world.proofs.EndsTold.{Told, all_told, end_heard, ends_it, state_told}
 use Rattle.world.proofs.Executed.{tells_by}
-use Rattle.world.proofs.Smoothly.{all_here, asked_here, fit_within, heard_of, room_or_full, same_behind}
+use Rattle.world.proofs.Smoothly.{all_here, asked_here, fit_within, heard_of, ready_at, room_or_full, same_behind}
 
 module _ {L : Lang} where
   -- a letter that may wait while a statement works
@@ -180,13 +180,13 @@ module _ (db : Database) where
   for_site (Ack k) is = let e : false ≡ true = is in cc
   for_site (Inquire k) is = let e : false ≡ true = is in cc
 
-  module _ (fits : Leaf → Content → Bool) (law : IsLawful D) (once : Once D.sites) (housed : IsHoused D 1 fits) (whole : Relations) (t : Name) (s : D.Statement) (before : List (Deed D)) where
-    abbrev smooth : SmoothLaw D 1 fits
-    smooth = smooth_law law once 1 fits housed
+  module _ (fits : Place → Content → Bool) (law : IsLawful D) (once : Once D.sites) (housed : (n : ℕ) → IsHoused D n fits) (n : ℕ) (whole : D.Whole) (t : Name) (s : D.Statement) (before : List (Deed D)) where
+    abbrev smooth : SmoothLaw D n fits
+    smooth = smooth_law law once n fits (housed n)
 
     -- where a statement stands: it works as it should; it is doomed, reads no more, and the coordinator will hear of it; or its transaction has ended
     data Stand (w : World D) : Type 0 where
-      in_course : InCourse D 1 fits t s before w → (is_reading (w.desk.txn t) ≡ true → NoWrites w.letters) → Stand w
+      in_course : InCourse D n fits t s before w → (is_reading (w.desk.txn t) ≡ true → NoWrites w.letters) → Stand w
       is_doomed : Doomed t before w → is_reading (w.desk.txn t) ≡ false → Stand w
       has_left : (deeds : List (Deed D)) → Ending deeds w → Stand w
 
@@ -209,7 +209,7 @@ module _ (db : Database) where
           (λ none. none) (by_test (is_reading ((next w kept choice).desk.txn t)))
 
       -- a letter comes in the course of a statement
-      module _ (here : InCourse D 1 fits t s before w) (none : is_reading (w.desk.txn t) ≡ true → NoWrites w.letters) (kept : Bool) (choice : Choice D) (keeps : FetchKept kept l.body) (goes : passes w kept choice l ≡ true) (reached : IsReached whole (next w kept choice)) where
+      module _ (here : InCourse D n fits t s before w) (none : is_reading (w.desk.txn t) ≡ true → NoWrites w.letters) (kept : Bool) (choice : Choice D) (keeps : FetchKept kept l.body) (goes : passes w kept choice l ≡ true) (reached : IsReached whole (next w kept choice)) where
         of : OfStatement l.body
         of = spot_front _ _ _ _ l.body (at l.site q) (subst (VisitPlace (w.sites l.site).status (here.course.u.visited l.site) (here.course.u.ticket l.site) (here.course.u.sent l.site)) (ap (at l.site) e ∙ in_front law l q) (here.course.stands.spots l.site))
 
@@ -243,7 +243,7 @@ module _ (db : Database) where
               is_kept = refl;
               within = passes_bare;
               room = room_anyhow (w.sites l.site) l.body;
-              fit = λ reading. (fitting_law law fits).rows s w l (housed.rows s here.tag) (here.fitting (inl refl));
+              fit = λ reading. (fitting_law law fits).rows s w l ((housed n).rows s here.tag) (here.fitting (inl refl));
               homes = λ g there. absurd there;
             }) (inl here.course)))
 
@@ -290,30 +290,33 @@ module _ (db : Database) where
         all_stand cs (come w c) one.0 (come_sited law w c w.letters refl sited) founded.1 there explained one.1
 
     -- no letter waits
-    stand_ends : (w : World D) → Stand w → w.letters ≡ [] → (Ready D 1 fits t w × ((asks : List (Ask D)) × (choice : Choice D) × (w.past ≡ before ++ Stated t s ∷ Worked t s asks choice ∷ Answered t choice.0 ∷ []))) ⊎ IsQuiet w
+    stand_ends : (w : World D) → Stand w → w.letters ≡ [] → (Ready D n fits t w × ((asks : List (Ask D)) × (choice : Choice D) × (w.past ≡ before ++ Stated t s ∷ Worked t s asks choice ∷ Answered t choice.0 ∷ []))) ⊎ IsQuiet w
     stand_ends w (in_course here none) silent = inl (smooth.answered w t s before here silent refl)
     stand_ends w (is_doomed d idle) silent = inr (failing_ends law once t before w (doomed d) silent).0
     stand_ends w (has_left deeds ending) silent = inr (ending_quiet law deeds w ending silent)
 
   -- a statement, and all its letters
-  pub quiet_or_ready : (fits : Leaf → Content → Bool) (law : IsLawful D) (once : Once D.sites) (housed : IsHoused D 1 fits) (whole : Relations) (before after : Machines) (past : List (Deed D)) (txn : Name) (statement : Statement) (choice : Choice D) (heard : List Notice) → (served : IsServed db whole before past) →
-      Ready D 1 fits txn (rests db before past) → IsStatementOf db.schemas statement →
-      is_desk_within (desk_after (desk_of db before.table) txn (on_request txn choice (State statement) ((desk_of db before.table).txn txn)).txn) ≡ true → (serves : Serves db (To_do txn (State statement) choice) before after heard) →
-      (Ready D 1 fits txn (rests db after (past ++ serves.deeds)) × ((answer : AnswerNow) × (map notice_of heard ≡ (txn, Answer answer) ∷ []))) ⊎ (IsQuiet (rests db after (past ++ serves.deeds)) × (tells is_end heard ≡ true))
+  pub quiet_or_ready : (fits : Place → Content → Bool) (law : IsLawful D) (once : Once D.sites) (housed : (n : ℕ) → IsHoused D n fits) (whole : Relations) (before after : Machines) (past : List (Deed D)) (txn : Name) (statement : Statement) (choice : Choice D) (heard : List Notice) → (served : IsServed db whole before past) →
+      IsReady db fits txn before past → IsStatementOf db.schemas statement →
+      is_desk_within (desk_after (desk_of db before.table) txn (on_request txn choice (State (before.table.version, statement)) ((desk_of db before.table).txn txn)).txn) ≡ true → (serves : Serves db (To_do txn (State (before.table.version, statement)) choice) before after heard) →
+      (IsReady db fits txn after (past ++ serves.deeds) × ((answer : AnswerNow) × (map notice_of heard ≡ (txn, Answer answer) ∷ []))) ⊎ (IsQuiet (rests db after (past ++ serves.deeds)) × (tells is_end heard ≡ true))
   quiet_or_ready fits law once housed whole before after past txn statement choice heard served ready is room serves =
+      let n = before.table.version in
+      let opened = (served.version, whole) in
+      let s = (n, statement) in
       let here = rests db before past in
-      let ask = To_do txn (State statement) choice in
-      let start = called here txn choice (State statement) in
-      let reached = asked_here db fits law once housed whole before after past heard served ask serves in
+      let ask = To_do txn (State s) choice in
+      let start = called here txn choice (State s) in
+      let reached = asked_here db fits law once housed whole before after past heard served ask serves refl in
       let explained = all_here db fits law once housed whole before after past heard served ask serves in
-      let within = called_within here txn choice (State statement) (fit_within db before [] past served.fit) in
-      let begins : Stand fits law once housed whole txn statement past start = in_course ((smooth_law law once 1 fits housed).stated whole here txn statement choice ready is refl refl room reached) (state_reads here txn choice statement refl) in
-      let ends : Told txn past (rests db after (past ++ serves.deeds)) = subst (Told txn past) (serves.is past) (all_told txn past serves.comings start (state_told here txn choice statement ready.steady.u ready.steady.known)) in
+      let within = called_within here txn choice (State s) (fit_within db before [] past served.fit) in
+      let begins : Stand fits law once housed n opened txn s past start = in_course ((smooth_law law once n fits (housed n)).stated opened here txn s choice ready is refl refl room reached) (state_reads here txn choice s refl) in
+      let ends : Told txn past (rests db after (past ++ serves.deeds)) = subst (Told txn past) (serves.is past) (all_told txn past serves.comings start (state_told here txn choice s ready.steady.u ready.steady.known)) in
       let tells_end : IsQuiet (rests db after (past ++ serves.deeds)) → tells is_end heard ≡ true = λ quiet. ⊎_elim (λ undecided. clash undecided (quiet.decided txn))
       (λ ended. tells_by is_end heard ∙ ap (list_any (λ (x : Name × Reply). is_end x.1)) serves.replies ∙ end_heard db serves.deeds (subst (λ (deeds : List (Deed D)). list_any ends_it deeds ≡ true) (sym (same_behind past serves.deeds ends.more ends.is)) ended)) ends.says in
-      let sited = called_sited here txn choice (State statement) (steady_sited txn here ready.steady) in
-      let stand = all_stand fits law once housed whole txn statement past serves.comings start within sited (serves.founded past) reached explained begins in
+      let sited = called_sited here txn choice (State s) (steady_sited txn here ready.steady) in
+      let stand = all_stand fits law once housed n opened txn s past serves.comings start within sited (serves.founded past) reached explained begins in
       ⊎_elim
-      (λ answered. inl (answered.0, (answered.1.1.0, heard_of db fits law once housed whole before after past heard served ask serves _ answered.1.2)))
+      (λ answered. inl (ready_at n after.table.version txn (rests db after (past ++ serves.deeds)) answered.0, (answered.1.1.0, heard_of db fits law once housed whole before after past heard served ask serves _ answered.1.2)))
       (λ quiet. inr (quiet, tells_end quiet))
-      (stand_ends fits law once housed whole txn statement past (rests db after (past ++ serves.deeds)) (subst (Stand fits law once housed whole txn statement past) (serves.is past) stand) refl)
+      (stand_ends fits law once housed n opened txn s past (rests db after (past ++ serves.deeds)) (subst (Stand fits law once housed n opened txn s past) (serves.is past) stand) refl)

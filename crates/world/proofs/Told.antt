@@ -1,6 +1,5 @@
 -- What the entries of a run tell, event by event.
 use Rattle.std.proofs.Common.{◌≡◌, refl, sym, ap, ◌∙◌, subst, ℕ, Bool, true, false, List, [], ◌∷◌, ◌++◌, map, filter_map, flat_map}
-use Rattle.std.specs.List.{AllZip}
 use Rattle.std.proofs.lemmas.List.{append-nil, map-append}
 use Rattle.std.proofs.lemmas.List.Elements.{filter_map-append}
 use Rattle.std.proofs.lemmas.Grind.{flat_map-append}
@@ -28,6 +27,7 @@ use Rattle.world.specs.declared.event.Entry.{Entry}
 use Rattle.world.specs.declared.event.Event as events
 use Rattle.world.specs.Events.{IsEvent}
 use Rattle.world.specs.Machines.{Asked, Leads, Machines, world_of}
+use Rattle.world.specs.Runs.{AreEvents}
 use Rattle.world.specs.Replies.{AreStated, Shows, Tells, notices_in, phased_by, phased_in, text_by, texts_in}
 use Rattle.world.proofs.Shown.{IsSilent, came_silent, commit_shows, give_up_silent, restarted_silent, rollback_silent, state_shows}
 
@@ -35,21 +35,19 @@ use Rattle.world.proofs.Shown.{IsSilent, came_silent, commit_shows, give_up_sile
 pub one_more : {X A : Type 0} (f : X → List A) (xs : List X) (x : X) → flat_map f (xs ++ x ∷ []) ≡ flat_map f xs ++ f x
 one_more f xs x = flat_map-append f xs (x ∷ []) ∙ ap (λ rest. flat_map f xs ++ rest) (append-nil (f x))
 
-stated_both : (db : Database) (xs us : List (names.Txn × List ℕ)) (ys vs : List (Name × Statement)) → AreStated db xs ys → AreStated db us vs → AreStated db (xs ++ us) (ys ++ vs)
+stated_both : (db : Database) (xs us : List (names.Txn × List ℕ)) (ys vs : List (Name × (ℕ × Statement))) → AreStated db xs ys → AreStated db us vs → AreStated db (xs ++ us) (ys ++ vs)
 stated_both db [] us [] vs one other = other
 stated_both db [] us (y ∷ ys) vs one other = absurd one
 stated_both db (x ∷ xs) us [] vs one other = absurd one
 stated_both db (x ∷ xs) us (y ∷ ys) vs one other = (one.0, stated_both db xs us ys vs one.1 other)
 
--- entries are these events of the protocol, one by one
-abbrev AreEvents : (db : Database) → List Entry → List (world.Event (language db)) → Type 0
-AreEvents db entries events = AllZip (λ (entry : Entry) (e : world.Event (language db)). IsEvent db entry.event entry.out.kept e) entries events
-
-pub events_both : (db : Database) (xs us : List Entry) (ys vs : List (world.Event (language db))) → AreEvents db xs ys → AreEvents db us vs → AreEvents db (xs ++ us) (ys ++ vs)
-events_both db [] us [] vs one other = other
-events_both db [] us (y ∷ ys) vs one other = absurd one
-events_both db (x ∷ xs) us [] vs one other = absurd one
-events_both db (x ∷ xs) us (y ∷ ys) vs one other = (one.0, events_both db xs us ys vs one.1 other)
+-- one event more, for the catalogue in force in the world that the others lead to
+pub event_more : (db : Database) (w : World (language db)) (entries : List Entry) (events : List (world.Event (language db))) (entry : Entry) (e : world.Event (language db)) → AreEvents db w entries events →
+    IsEvent db (world.run events w).version entry.event entry.out.kept e → AreEvents db w (entries ++ entry ∷ []) (events ++ e ∷ [])
+event_more db w [] [] entry e all is = (is, tt)
+event_more db w [] (y ∷ events) entry e all is = absurd all
+event_more db w (x ∷ entries) [] entry e all is = absurd all
+event_more db w (x ∷ entries) (y ∷ events) entry e all is = (all.0, event_more db (world.happens w y) entries events entry e all.1 is)
 
 pub tells_more : (db : Database) (entries : List Entry) (entry : Entry) (past deeds : List (Deed (language db))) → Tells db entries past → Shows db entry.event deeds → map notice_of entry.out.replies ≡ filter_map (told db) deeds →
     Tells db (entries ++ entry ∷ []) (past ++ deeds)
@@ -125,10 +123,10 @@ commit_step db before after out notices txn choice what asked phase no_text =
       stated = subst (λ texts. AreStated db texts (stated_of asked.leads.deeds)) (sym no_text) (subst (AreStated db []) (sym (ap stated_of asked.all ∙ shown.1)) tt);
     }
 
-pub state_step : (db : Database) (before after : Machines) (out : List letters.Letter) (notices : List Notice) (txn : names.Txn) (text : List ℕ) (statement : Statement) (choice : Choice (language db)) (what : events.Event) (asked : Asked db txn choice (State statement) before after out notices) →
+pub state_step : (db : Database) (before after : Machines) (out : List letters.Letter) (notices : List Notice) (txn : names.Txn) (text : List ℕ) (statement : Statement) (choice : Choice (language db)) (what : events.Event) (asked : Asked db txn choice (State (before.table.version, statement)) before after out notices) →
     IsTextOf db.schemas text (command.Run statement) → phased_by what ≡ [] → text_by what ≡ (txn, text) ∷ [] → Shows db what asked.leads.deeds
 state_step db before after out notices txn text statement choice what asked spelled no_phase is =
-    let shown = state_shows (txn_name txn) statement choice (txn_in db before.table txn) asked.accepted in
+    let shown = state_shows (txn_name txn) (before.table.version, statement) choice (txn_in db before.table txn) asked.accepted in
     record {
       phased = ap (map txn_name) no_phase ∙ sym shown.0 ∙ ap phases_of (sym asked.all);
       stated = subst (λ texts. AreStated db texts (stated_of asked.leads.deeds)) (sym is) (subst (AreStated db ((txn, text) ∷ [])) (sym (ap stated_of asked.all ∙ shown.1)) ((refl, spelled), tt));

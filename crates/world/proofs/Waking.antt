@@ -55,7 +55,7 @@ abbrev pub OneEach : List Seat → List Seat → Type 0
 OneEach done [] = Unit {0}
 OneEach done (seat ∷ rest) = NotAmong seat.name done × OneEach (done ++ seat ∷ []) rest
 
-module _ (db : Database) (law : ReachedLaw (language db)) (whole : Relations) where
+module _ (db : Database) (law : ReachedLaw (language db)) (whole : (language db).Whole) where
   -- what happened isn't touched by a site's step
   steps_past : (w : World (language db)) (a : List ℕ) (s : SiteState (language db)) (letters : List (Letter (language db))) → (site_steps w a s letters).past ≡ w.past
   steps_past w a s letters = either (λ (v : World (language db)). v.past ≡ w.past) (is_within s) (with_site w a s letters) w refl refl
@@ -136,68 +136,73 @@ module _ (db : Database) (law : ReachedLaw (language db)) (whole : Relations) wh
     states_same [] (new ∷ news) wake name = absurd wake
     states_same (old ∷ olds) [] wake name = absurd wake
     states_same (old ∷ olds) (new ∷ news) wake name =
-        λ i. if pointwise nat_eq name (sym wake.0.named i) then state_at (statements db) new else states_same olds news wake.1 name i
+        λ i. if pointwise nat_eq name (sym wake.0.named i) then site_at local (statements db) (sym wake.0.named i) (state_of new.kept new.table) else states_same olds news wake.1 name i
 
-  pub one_each : (names : List (List ℕ)) → AreDistinct names → (done rest : List Seat) → map (λ (s : Seat). s.name) rest ≡ names → ((name : List ℕ) → In name names → NotAmong name done) → OneEach done rest
-  one_each [] distinct done [] same apart = tt
-  one_each [] distinct done (s ∷ rest) same apart = cc
-  one_each (n ∷ names) distinct done [] same apart = cc
-  one_each (n ∷ names) distinct done (s ∷ rest) same apart =
-      let named : s.name ≡ n = first_is s.name n (map (λ (s : Seat). s.name) rest) names same in (
-        apart s.name (inl named),
-        one_each names distinct.1 (done ++ s ∷ []) rest (rest_is s.name n (map (λ (s : Seat). s.name) rest) names same)
-            (λ name here. more name done s (apart name (inr here)) (no_match name s (λ same. apart_from n names name distinct.0 here (sym named ∙ sym same)))),
-      )
-    where
-      first_is : (a b : List ℕ) (xs ys : List (List ℕ)) → a ∷ xs ≡ b ∷ ys → a ≡ b
-      first_is a b xs ys e = cc
+-- each site stands under its own name
+pub one_each : (names : List (List ℕ)) → AreDistinct names → (done rest : List Seat) → map (λ (s : Seat). s.name) rest ≡ names → ((name : List ℕ) → In name names → NotAmong name done) → OneEach done rest
+one_each [] distinct done [] same apart = tt
+one_each [] distinct done (s ∷ rest) same apart = cc
+one_each (n ∷ names) distinct done [] same apart = cc
+one_each (n ∷ names) distinct done (s ∷ rest) same apart =
+    let named : s.name ≡ n = first_is s.name n (map (λ (s : Seat). s.name) rest) names same in (
+      apart s.name (inl named),
+      one_each names distinct.1 (done ++ s ∷ []) rest (rest_is s.name n (map (λ (s : Seat). s.name) rest) names same)
+          (λ name here. more name done s (apart name (inr here)) (no_match name s (λ same. apart_from n names name distinct.0 here (sym named ∙ sym same)))),
+    )
+  where
+    first_is : (a b : List ℕ) (xs ys : List (List ℕ)) → a ∷ xs ≡ b ∷ ys → a ≡ b
+    first_is a b xs ys e = cc
 
-      rest_is : (a b : List ℕ) (xs ys : List (List ℕ)) → a ∷ xs ≡ b ∷ ys → xs ≡ ys
-      rest_is a b xs ys e = cc
+    rest_is : (a b : List ℕ) (xs ys : List (List ℕ)) → a ∷ xs ≡ b ∷ ys → xs ≡ ys
+    rest_is a b xs ys e = cc
 
-      apart_from : (n : List ℕ) (names : List (List ℕ)) (name : List ℕ) → AllByRecursion (λ other. n ≢ other) names → In name names → n ≡ name → ⊥
-      apart_from n [] name apart here e = here
-      apart_from n (m ∷ names) name apart (inl is) e = apart.0 (e ∙ is)
-      apart_from n (m ∷ names) name apart (inr below) e = apart_from n names name apart.1 below e
+    apart_from : (n : List ℕ) (names : List (List ℕ)) (name : List ℕ) → AllByRecursion (λ other. n ≢ other) names → In name names → n ≡ name → ⊥
+    apart_from n [] name apart here e = here
+    apart_from n (m ∷ names) name apart (inl is) e = apart.0 (e ∙ is)
+    apart_from n (m ∷ names) name apart (inr below) e = apart_from n names name apart.1 below e
 
-      no_match : (name : List ℕ) (s : Seat) → (name ≡ s.name → ⊥) → is_called name s ≡ false
-      no_match name s other = ⊎_elim (λ yes. absurd (other (name_is name s.name yes))) (λ no. no) (by_test (is_called name s))
+    no_match : (name : List ℕ) (s : Seat) → (name ≡ s.name → ⊥) → is_called name s ≡ false
+    no_match name s other = ⊎_elim (λ yes. absurd (other (name_is name s.name yes))) (λ no. no) (by_test (is_called name s))
 
-      more : (name : List ℕ) (done : List Seat) (s : Seat) → NotAmong name done → is_called name s ≡ false → NotAmong name (done ++ s ∷ [])
-      more name [] s none here = (here, tt)
-      more name (d ∷ done) s none here = (none.0, more name done s none.1 here)
+    more : (name : List ℕ) (done : List Seat) (s : Seat) → NotAmong name done → is_called name s ≡ false → NotAmong name (done ++ s ∷ [])
+    more name [] s none here = (here, tt)
+    more name (d ∷ done) s none here = (none.0, more name done s none.1 here)
 
-  -- ---- the machines together
+-- ---- the machines together
+module _ (db : Database) (law : ReachedLaw (language db)) (whole : Relations) where
   module _ (distinct : AreDistinct db.sites) (old new : Machines) (past : List (Deed (language db))) (served : IsServed db whole old past) (memory : IsMemory old.table) (up : ComeUp db old new) where
+    abbrev opened : (language db).Whole
+    opened = (served.version, whole)
+
     abbrev before : Desk (language db)
     before = desk_of db old.table
 
     abbrev woken : Machines
     woken = with_seats old (all_rekept old.seats new.seats)
 
-    sites_woken : Reached woken past
+    sites_woken : Reached db law opened woken past
     sites_woken =
-        all_wake old past [] old.seats new.seats (one_each db.sites distinct [] old.seats served.fit.names (λ name here. tt)) served.fit.sites up.sites (record { reached = served.reached; fit = served.fit })
+        all_wake db law opened old past [] old.seats new.seats (one_each db.sites distinct [] old.seats served.fit.names (λ name here. tt)) served.fit.sites up.sites (record { reached = served.reached; fit = served.fit })
 
     is_risen : desk_of db new.table ≡ desk_restarted before
     is_risen = risen db old.desk new.desk old.table new.table memory served.fit.desk (subst (λ table. IsStrictlySortedBy txn_cmp table.txns) (sym up.memory.is) up.memory.ascend) up.rises up.life
 
-    desk_woken : IsReached whole (desk_lives (world_of db woken [] past))
+    desk_woken : IsReached opened (desk_lives (world_of db woken [] past))
     desk_woken =
-        subst (IsReached whole) (if_true (is_desk_within (desk_restarted before)) (desk_lives (world_of db woken [] past)) (world_of db woken [] past) (ap is_desk_within (sym is_risen) ∙ up.rises.within))
-        (law.desk_restarted whole (world_of db woken [] past) sites_woken.reached)
+        subst (IsReached opened) (if_true (is_desk_within (desk_restarted before)) (desk_lives (world_of db woken [] past)) (world_of db woken [] past) (ap is_desk_within (sym is_risen) ∙ up.rises.within))
+        (law.desk_restarted opened (world_of db woken [] past) sites_woken.reached)
 
     same_world : record (desk_lives (world_of db woken [] past)) { letters = [] } ≡ world_of db new [] (past ++ lost_by db old)
     same_world = λ i. record {
       desk = sym is_risen i;
-      sites = fun_ext (states_same old past old.seats new.seats up.sites) i;
+      sites = fun_ext (states_same db law opened old past old.seats new.seats up.sites) i;
       letters = [];
       past = past ++ lost_by db old;
-      version = 1;
+      version = (served.fit.desk.version ∙ sym up.life.version ∙ sym up.fit.desk.version) i;
     }
 
     pub come_up : IsServed db whole new (past ++ lost_by db old)
-    come_up = record { reached = subst (IsReached whole) same_world (law.silenced whole (desk_lives (world_of db woken [] past)) desk_woken); fit = up.fit }
+    come_up = record { version = served.version; reached = subst (IsReached opened) same_world (law.silenced opened (desk_lives (world_of db woken [] past)) desk_woken); fit = up.fit }
 
 pub coming_up_law : (db : Database) → ReachedLaw (language db) → AreDistinct db.sites → ComingUpLaw db
 coming_up_law db law distinct = record { served = λ whole old new past served memory up. come_up db law whole distinct old new past served memory up }

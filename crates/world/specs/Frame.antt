@@ -38,11 +38,11 @@ pub record CallsNoStore {D S : Type 0} (old new : code.Machines D S) : Type 0 wh
 -- something holds of each database in which the catalogue is in force, of the machines before a call and after it, where stores are clean now and were sound, and memory fitted them.
 -- clean, sound: of the stores; view: the machines as the protocol sees them
 abbrev pub OverDatabase : {D S : Type 0} → (code.Machines D S → Type 0) → (code.Machines D S → Type 0) → (code.Machines D S → Machines) → code.Machines D S → code.Machines D S → (Database → Machines → Machines → Type 0) → Type 0
-OverDatabase clean sound view old new P = (db : Database) → IsOfCatalogue db → InForce db old.desk.volatile.version old.desk.catalog → clean new → sound old → AreFit db (view old) → P db (view old) (view new)
+OverDatabase clean sound view old new P = (db : Database) → IsOfCatalogue db → InForce db (view old).table.version old.desk.catalog → clean new → sound old → AreFit db (view old) → P db (view old) (view new)
 
 -- machines that one client was served by go on to be such
 abbrev pub StaysServed : {D S : Type 0} → (code.Machines D S → Type 0) → (code.Machines D S → Type 0) → (code.Machines D S → Machines) → code.Machines D S → code.Machines D S → Type 0
-StaysServed clean sound view old new = (db : Database) (whole : Relations) (past : List (Deed (language db))) → IsOfCatalogue db → ReachedLaw (language db) → InForce db old.desk.volatile.version old.desk.catalog → clean new → sound old
+StaysServed clean sound view old new = (db : Database) (whole : Relations) (past : List (Deed (language db))) → IsOfCatalogue db → ReachedLaw (language db) → InForce db (view old).table.version old.desk.catalog → clean new → sound old
     → IsServed db whole (view old) past → IsServedOn db whole (view new) past
 
 -- a call that stops the database has a reason among its stores, where these are clean now and were sound. refused: how often each has refused

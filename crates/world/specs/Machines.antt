@@ -1,5 +1,5 @@
 -- The machines of a database together, as the protocol's world.
-use Rattle.std.specs.Prelude.{◌≡◌, ℕ, nat_eq, Bool, true, false, List, [], ◌++◌, map, None}
+use Rattle.std.specs.Prelude.{◌≡◌, ⊤, ℕ, nat_eq, Bool, true, false, List, [], ◌++◌, map, None}
 use Rattle.std.specs.Cmp.Lexicographic.{pointwise}
 use Rattle.std.specs.List.{AllByRecursion, filter_map, list_any}
 use Rattle.std.specs.Ordering.{is_eq}
@@ -15,7 +15,7 @@ use Rattle.store.specs.declared.letter.Letter as letters
 use Rattle.store.specs.declared.name.Txn.{Txn}
 use Rattle.store.specs.DeskContent.{DeskContent}
 use Rattle.protocol.specs.StatementCourse.{passes}
-use Rattle.protocol.specs.Desk.{Choice, Deed, Request, State, desk_after, is_desk_within, on_request, refusal}
+use Rattle.protocol.specs.Desk.{Choice, Commit_call, Deed, Give_up, Request, Rollback, State, desk_after, is_desk_within, on_request, refusal}
 use Rattle.protocol.specs.Home.{AreHomed}
 use Rattle.protocol.specs.Letter.{Letter}
 use Rattle.protocol.specs.Serial.{AllExplained}
@@ -90,6 +90,13 @@ pub record Leads (db : Database) (step : World (language db) → World (language
   pub placed : AreOfPlaces db out
   pub explained : AllExplained deeds
   pub replies : map notice_of notices ≡ filter_map (told db) deeds
+
+-- a statement is for the catalogue of this number
+abbrev pub IsForNow : (db : Database) → ℕ → Request (language db) → Type 0
+IsForNow db n (State s) = s.0 ≡ n
+IsForNow db n Commit_call = ⊤
+IsForNow db n Rollback = ⊤
+IsForNow db n Give_up = ⊤
 
 -- what a client asks for is accepted, within the limits, and done
 pub record Asked (db : Database) (txn : Txn) (choice : Choice (language db)) (request : Request (language db)) (before after : Machines) (out : List letters.Letter) (notices : List Notice) : Type 0 where

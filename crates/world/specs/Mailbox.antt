@@ -1,5 +1,5 @@
 -- The letters of one client's machines come, each once, the oldest first.
-use Rattle.std.specs.Prelude.{◌≡◌, ◌≤◌, ◌⊎◌, ℕ, List, [], ◌++◌, map}
+use Rattle.std.specs.Prelude.{◌≡◌, ◌≤◌, ◌⊎◌, ⊤, ℕ, List, [], ◌++◌, map}
 use Rattle.std.specs.List.{AllZip, filter_map}
 use Rattle.store.specs.declared.letter.Letter as letters
 pub use Rattle.protocol.specs.Delivery.{AllFounded, AllKept, Ask, Coming, Passed_over, Taken, To_begin, To_do, Turned_away, all_come, asked, come, done_with, first_comes}
@@ -13,7 +13,7 @@ use Rattle.desk.specs.Database.{Database, language, sent}
 use Rattle.desk.specs.State.{notice_of}
 use Rattle.desk.specs.Transition.{told}
 use Rattle.world.specs.Counted.{HaveRefused, KeptUnless, NoFewer}
-use Rattle.world.specs.Machines.{AreFit, AreOfPlaces, Machines, world_of}
+use Rattle.world.specs.Machines.{AreFit, AreOfPlaces, IsForNow, Machines, world_of}
 
 -- machines, the letters that wait, oldest first, and what the client has heard
 pub record Scene : Type 0 where
@@ -71,9 +71,14 @@ pub record Serves (db : Database) (ask : Ask (language db)) (before after : Mach
 abbrev pub WasHindered : {db : Database} {ask : Ask (language db)} {before after : Machines} {heard : List Notice} → List (Deed (language db)) → Serves db ask before after heard → Type 0
 WasHindered {db} {ask} {before} {after} past serves = SomeHinder (HaveRefused before.refused after.refused) serves.comings (asked ask (world_of db before [] past))
 
+-- a statement is asked for under the catalogue of this number
+abbrev pub AsksForNow : (db : Database) → ℕ → Ask (language db) → Type 0
+AsksForNow db n To_begin = ⊤
+AsksForNow db n (To_do txn request choice) = IsForNow db n request
+
 -- a call is refused, and nothing has changed, or something is refused on the way
 abbrev pub Fails : Database → Machines → Machines → Type 0
-Fails db before after = (after ≡ before) ⊎ ((ask : Ask (language db)) × Breaks db (asked ask) (at_rest before) after)
+Fails db before after = (after ≡ before) ⊎ ((ask : Ask (language db)) × AsksForNow db before.table.version ask × Breaks db (asked ask) (at_rest before) after)
 
 -- nothing has been done: the machines stand as they stood
 pub record IsStill (db : Database) (before after : Machines) : Type 0 where

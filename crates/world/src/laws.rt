@@ -33,7 +33,6 @@ use catalog::catalogue::Catalog;
 use catalog::laws::leaf_names_are_unique;
 use plan::laws::{contents_ascend, fetches_are_told};
 use reader::read::one_command;
-use store::laws::{nothing_changes, one_change_more, one_touch_more};
 use store::plain_desk::PlainDesk;
 use store::plain_site::PlainSite;
 
@@ -56,9 +55,6 @@ pub fn language_is_lawful(catalog: &Catalog)
     catalog.relations();
     contents_ascend();
     writes_lead();
-    nothing_changes();
-    one_change_more();
-    one_touch_more();
 }
 
 /// The serial law: of each catalogue and after each list of events the committed transactions, run one after

@@ -1,6 +1,5 @@
 -- Why `greet` meets its contract.
 use Rattle.std.proofs.Common.{rules, List, ◌∙◌, sym, ap, inl}
-use Rattle.catalog.specs.Relation.{catalogue_of}
 use Rattle.desk.specs.Database.{language}
 use Rattle.desk.specs.declared.reply.Notice.{Notice}
 use Rattle.world.specs.Counted.{counts}
@@ -8,6 +7,7 @@ use Rattle.world.specs.declared.event.Call.TheVariants as call
 use Rattle.world.specs.Mailbox.{Ask, Goes, Serves, To_begin, asked, settled}
 use Rattle.world.specs.Contents.{counted, held}
 use Rattle.world.specs.Taking.{put_out_by}
+use Rattle.world.proofs.InForce.{in_force_on}
 use Rattle.world.proofs.Counting.{fit_uncounted, leads_counted, none_fewer, same_counted, with_counts, no_fewer_then, uncounted}
 use Rattle.world.proofs.Deliveries.{call_serves}
 use Rattle.world.proofs.Denials.{still_denied}
@@ -25,12 +25,12 @@ returns-in-Ok-clause-ok g c = λ db of is clean sound fit.
     let old = counts g.D.DeskStore.refused g.S.SiteStore.refused c.args.machines.now in
     let new = counts g.D.DeskStore.refused g.S.SiteStore.refused c.begin.new.self in
     let after = counted g.D.DeskStore.kept g.S.SiteStore.kept g.D.DeskStore.refused g.S.SiteStore.refused c.deliver_all.new.machines in
-    let made = c.in-Ok.ensures.ok db (over_of db c.args.machines.now.desk.catalog of is) (fit_uncounted db before old fit) in
+    let made = c.in-Ok.ensures.ok db (over_of db _ c.args.machines.now.desk.catalog of is) (fit_uncounted db before old fit) in
     let ask : Ask (language db) = To_begin in
     let leads = leads_counted db (asked ask) before mid old new c.in-Ok.out.letters c.in-Ok.out.replies made in
     let serves : (heard : List Notice) → Goes db (λ w. w) (put_out_by (with_counts mid new) c.in-Ok.out) (settled after heard) → Serves db ask (with_counts before old) after heard = λ heard goes. call_serves db ask (with_counts before old) (with_counts mid new) c.in-Ok.out leads (none_fewer old new (uncounted g.D.DeskStore.refused g.S.SiteStore.refused c.begin.ensures.uncalled)) after heard goes in
     if_ok c.deliver_all.result (λ heard goes. serves heard.items goes)
-    (c.deliver_all.ensures.ok db of (is ∙ ap catalogue_of (sym c.begin.ensures.leaves.catalog)) clean (c.begin.ensures.leaves.sound (c.deliver_all.ensures.leaves.clean clean) sound) leads.fit)
+    (c.deliver_all.ensures.ok db of (in_force_on db _ _ _ _ leads.version c.begin.ensures.leaves.catalog is) clean (c.begin.ensures.leaves.sound (c.deliver_all.ensures.leaves.clean clean) sound) leads.fit)
 
 pub returns-in-Ok-clause-served : goal.returns-in-Ok-clause-served
 returns-in-Ok-clause-served g c = λ db whole past of law is clean sound served.
@@ -40,12 +40,12 @@ returns-in-Ok-clause-served g c = λ db whole past of law is clean sound served.
     let new = counts g.D.DeskStore.refused g.S.SiteStore.refused c.begin.new.self in
     let after = counted g.D.DeskStore.kept g.S.SiteStore.kept g.D.DeskStore.refused g.S.SiteStore.refused c.deliver_all.new.machines in
     let fit = served.fit in
-    let made = c.in-Ok.ensures.ok db (over_of db c.args.machines.now.desk.catalog of is) (fit_uncounted db before old fit) in
+    let made = c.in-Ok.ensures.ok db (over_of db _ c.args.machines.now.desk.catalog of is) (fit_uncounted db before old fit) in
     let ask : Ask (language db) = To_begin in
     let leads = leads_counted db (asked ask) before mid old new c.in-Ok.out.letters c.in-Ok.out.replies made in
-    let is_mid = is ∙ ap catalogue_of (sym c.begin.ensures.leaves.catalog) in
+    let is_mid = in_force_on db _ _ _ _ leads.version c.begin.ensures.leaves.catalog is in
     let sound_mid = c.begin.ensures.leaves.sound (c.deliver_all.ensures.leaves.clean clean) sound in
-    call_served db law whole ask (with_counts before old) (with_counts mid new) after c.in-Ok.out past c.deliver_all.result (λ heard. heard.items) served leads (none_fewer old new (uncounted g.D.DeskStore.refused g.S.SiteStore.refused c.begin.ensures.uncalled))
+    call_served db law whole ask (with_counts before old) (with_counts mid new) after c.in-Ok.out past c.deliver_all.result (λ heard. heard.items) tt served leads (none_fewer old new (uncounted g.D.DeskStore.refused g.S.SiteStore.refused c.begin.ensures.uncalled))
     (c.deliver_all.ensures.ok db of is_mid clean sound_mid leads.fit) (c.deliver_all.ensures.err db of is_mid clean sound_mid leads.fit)
 
 pub returns-in-Err-clause-served : goal.returns-in-Err-clause-served
@@ -65,7 +65,7 @@ returns-in-Err-clause-denied g c = λ db of is clean sound fit.
     let mid = held g.D.DeskStore.kept g.S.SiteStore.kept c.begin.new.self in
     let old = counts g.D.DeskStore.refused g.S.SiteStore.refused c.args.machines.now in
     let new = counts g.D.DeskStore.refused g.S.SiteStore.refused c.begin.new.self in
-    still_denied db (with_counts before old) (with_counts mid new) call.Begin c.in-Err.refusal fit (same_counted before mid old new c.in-Err.ensures.err (uncounted g.D.DeskStore.refused g.S.SiteStore.refused c.begin.ensures.uncalled)) (c.in-Err.ensures.full db (over_of db c.args.machines.now.desk.catalog of is) (fit_uncounted db before old fit))
+    still_denied db (with_counts before old) (with_counts mid new) call.Begin c.in-Err.refusal fit (same_counted before mid old new c.in-Err.ensures.err (uncounted g.D.DeskStore.refused g.S.SiteStore.refused c.begin.ensures.uncalled)) (c.in-Err.ensures.full db (over_of db _ c.args.machines.now.desk.catalog of is) (fit_uncounted db before old fit))
 
 pub returns-in-Ok-clause-leaves : goal.returns-in-Ok-clause-leaves
 returns-in-Ok-clause-leaves g c = record {

@@ -1,6 +1,5 @@
 -- Why `roll_back` meets its contract.
 use Rattle.std.proofs.Common.{rules, List, ◌∙◌, sym, ap, inl, Err}
-use Rattle.catalog.specs.Relation.{catalogue_of}
 use Rattle.protocol.specs.Desk.{Rollback}
 use Rattle.protocol.specs.Letters.{txn_name}
 use Rattle.desk.specs.Database.{language}
@@ -11,6 +10,7 @@ use Rattle.world.specs.Course.{Rolls_back}
 use Rattle.world.specs.Mailbox.{Ask, Goes, Serves, To_do, asked, settled}
 use Rattle.world.specs.Contents.{counted, held}
 use Rattle.world.specs.Taking.{put_out_by}
+use Rattle.world.proofs.InForce.{in_force_on}
 use Rattle.world.proofs.Calls.{one_call}
 use Rattle.world.proofs.Counting.{fit_uncounted, leads_counted, none_fewer, same_counted, with_counts, no_fewer_then, uncounted}
 use Rattle.world.proofs.Deliveries.{call_serves}
@@ -39,12 +39,12 @@ returns-in-Ok g c = one_call g.D.DeskStore.is_clean g.S.SiteStore.is_clean g.D.D
     let new = counts g.D.DeskStore.refused g.S.SiteStore.refused c.rollback.new.self in
     let after = counted g.D.DeskStore.kept g.S.SiteStore.kept g.D.DeskStore.refused g.S.SiteStore.refused c.deliver_all.new.machines in
     let fit = served.fit in
-    let made = c.in-Ok.ensures.ok db (no_choice db) (over_of db c.args.machines.now.desk.catalog of is) (fit_uncounted db before old fit) in
+    let made = c.in-Ok.ensures.ok db (no_choice db) (over_of db _ c.args.machines.now.desk.catalog of is) (fit_uncounted db before old fit) in
     let ask : Ask (language db) = To_do (txn_name c.args.txn) Rollback (no_choice db) in
     let leads = leads_counted db (asked ask) before mid old new c.in-Ok.out.letters c.in-Ok.out.replies made.leads in
-    let is_mid = is ∙ ap catalogue_of (sym c.rollback.ensures.leaves.catalog) in
+    let is_mid = in_force_on db _ _ _ _ leads.version c.rollback.ensures.leaves.catalog is in
     let sound_mid = c.rollback.ensures.leaves.sound (c.deliver_all.ensures.leaves.clean clean) sound in
-    call_served db law whole ask (with_counts before old) (with_counts mid new) after c.in-Ok.out past c.deliver_all.result (λ heard. heard.items) served leads (none_fewer old new (uncounted g.D.DeskStore.refused g.S.SiteStore.refused c.rollback.ensures.uncalled))
+    call_served db law whole ask (with_counts before old) (with_counts mid new) after c.in-Ok.out past c.deliver_all.result (λ heard. heard.items) tt served leads (none_fewer old new (uncounted g.D.DeskStore.refused g.S.SiteStore.refused c.rollback.ensures.uncalled))
     (c.deliver_all.ensures.ok db of is_mid clean sound_mid leads.fit) (c.deliver_all.ensures.err db of is_mid clean sound_mid leads.fit))
     (λ db of is clean sound fit.
     let before = held g.D.DeskStore.kept g.S.SiteStore.kept c.args.machines.now in
@@ -52,12 +52,12 @@ returns-in-Ok g c = one_call g.D.DeskStore.is_clean g.S.SiteStore.is_clean g.D.D
     let old = counts g.D.DeskStore.refused g.S.SiteStore.refused c.args.machines.now in
     let new = counts g.D.DeskStore.refused g.S.SiteStore.refused c.rollback.new.self in
     let after = counted g.D.DeskStore.kept g.S.SiteStore.kept g.D.DeskStore.refused g.S.SiteStore.refused c.deliver_all.new.machines in
-    let made = c.in-Ok.ensures.ok db (no_choice db) (over_of db c.args.machines.now.desk.catalog of is) (fit_uncounted db before old fit) in
+    let made = c.in-Ok.ensures.ok db (no_choice db) (over_of db _ c.args.machines.now.desk.catalog of is) (fit_uncounted db before old fit) in
     let ask : Ask (language db) = To_do (txn_name c.args.txn) Rollback (no_choice db) in
     let leads = leads_counted db (asked ask) before mid old new c.in-Ok.out.letters c.in-Ok.out.replies made.leads in
     let serves : (heard : List Notice) → Goes db (λ w. w) (put_out_by (with_counts mid new) c.in-Ok.out) (settled after heard) → Serves db ask (with_counts before old) after heard = λ heard goes. call_serves db ask (with_counts before old) (with_counts mid new) c.in-Ok.out leads (none_fewer old new (uncounted g.D.DeskStore.refused g.S.SiteStore.refused c.rollback.ensures.uncalled)) after heard goes in
     if_ok c.deliver_all.result (λ heard goes. record { choice = no_choice db; accepted = made.accepted; within = made.within; serves = serves heard.items goes })
-    (c.deliver_all.ensures.ok db of (is ∙ ap catalogue_of (sym c.rollback.ensures.leaves.catalog)) clean (c.rollback.ensures.leaves.sound (c.deliver_all.ensures.leaves.clean clean) sound) leads.fit))
+    (c.deliver_all.ensures.ok db of (in_force_on db _ _ _ _ leads.version c.rollback.ensures.leaves.catalog is) clean (c.rollback.ensures.leaves.sound (c.deliver_all.ensures.leaves.clean clean) sound) leads.fit))
     (λ db of is clean sound fit. if_err c.deliver_all.result (λ told stops. inl stops) c.deliver_all.ensures.own)
 
 pub returns-in-Err : goal.returns-in-Err

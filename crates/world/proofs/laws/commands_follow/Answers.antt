@@ -7,4 +7,4 @@ use Rattle.world.proofs.laws.commands_follow.Goals as goal
 pub returns : goal.returns
 returns c =
     let catalogue = catalogue_of c.args.catalog.now in
-    commands_follow (database catalogue) (fits catalogue) c.one_client_is_a_run.ensures c.obeyed_unless_refused.ensures c.grows_quiet.ensures c.database_is_of_catalogue.ensures.of_catalogue.schemas c.one_command.ensures c.moves_follow.ensures
+    commands_follow (database catalogue) (fits catalogue) c.one_client_is_a_run.ensures c.obeyed_unless_refused.ensures c.grows_quiet.ensures c.one_command.ensures c.moves_follow.ensures

@@ -1,4 +1,5 @@
 -- Why a client's database grows quiet.
+use Rattle.std.proofs.Common.{ℕ}
 use Rattle.catalog.specs.Relation.{catalogue_of}
 use Rattle.desk.specs.CatalogueDatabase.{database, fits}
 use Rattle.world.proofs.DatabaseIsHoused.{housed}
@@ -12,8 +13,10 @@ returns c =
     let catalogue = catalogue_of c.args.catalog.now in
     let formed = c.relations.ensures.formed in
     let once = sites_once catalogue formed in
+    let of = c.language_is_lawful.ensures.of_language in
+    let houses = λ (n : ℕ). housed catalogue formed c.leaf_names_are_unique.ensures c.contents_ascend.ensures n in
     record {
-      states = λ whole before after past txn statement choice heard served ready is room serves. quiet_or_ready (database catalogue) (fits catalogue) c.language_is_lawful.ensures once (housed catalogue formed c.leaf_names_are_unique.ensures c.contents_ascend.ensures) whole before after past txn statement choice heard served ready is room serves;
-      commits = λ whole before after past txn choice heard served ready serves. quiet_after_commit (database catalogue) c.language_is_lawful.ensures once (fits catalogue) whole before after past txn choice heard ready served serves;
-      rolls_back = λ whole before after past txn choice heard served ready serves. quiet_after_rollback (database catalogue) c.language_is_lawful.ensures once (fits catalogue) whole before after past txn choice heard ready served serves;
+      states = λ whole before after past txn statement choice heard served ready is room serves. quiet_or_ready (database catalogue) (fits catalogue) of once houses whole before after past txn statement choice heard served ready is room serves;
+      commits = λ whole before after past txn choice heard served ready serves. quiet_after_commit (database catalogue) of once (fits catalogue) whole before after past txn choice heard ready served serves;
+      rolls_back = λ whole before after past txn choice heard served ready serves. quiet_after_rollback (database catalogue) of once (fits catalogue) whole before after past txn choice heard ready served serves;
     }

@@ -6,4 +6,4 @@ use Rattle.world.proofs.DatabaseSites.{sites_once}
 use Rattle.world.proofs.laws.one_client_letter_by_letter.Goals as goal
 
 pub returns : goal.returns
-returns c = λ excused. course_law c.language_is_lawful.ensures (sites_once (catalogue_of c.args.catalog.now) c.relations.ensures.formed) (excused ≡ true)
+returns c = λ excused. course_law c.language_is_lawful.ensures.of_language (sites_once (catalogue_of c.args.catalog.now) c.relations.ensures.formed) (excused ≡ true)

@@ -5,4 +5,4 @@ use Rattle.world.proofs.Smoothly.{serves_unless_refused}
 use Rattle.world.proofs.laws.served_unless_refused.Goals as goal
 
 pub returns : goal.returns
-returns c = serves_unless_refused (database (catalogue_of c.args.catalog.now)) (fits (catalogue_of c.args.catalog.now)) c.language_is_lawful.ensures c.served_smoothly.ensures
+returns c = serves_unless_refused (database (catalogue_of c.args.catalog.now)) (fits (catalogue_of c.args.catalog.now)) c.language_is_lawful.ensures.of_language c.served_smoothly.ensures

@@ -36,7 +36,7 @@ returns-in-DeskRestarts-clause-ok g c = λ db whole past of is clean sound so.
     subst (λ (what : events.Event). IfOk c.by_desk-in-DeskRestarts.result (λ out. StepsOn db whole before after entries (entries ++ entry_of what out ∷ []) past)) (sym c.in-DeskRestarts.is)
     (by_desk_ok (λ out. StepsOn db whole before after entries (entries ++ entry_of what out ∷ []) past) c.restart.result c.by_desk-in-DeskRestarts.result c.by_desk-in-DeskRestarts.ensures
     (if_ok_too c.restart.result (λ out kept_so leads. runs_on db whole before after entries past what out desk_restarts (Desk_restarts true) so leads refl (ap Desk_restarts (sym kept_so)) refl
-    (silent_step db before after out.letters out.replies what desk_restarts leads refl refl (desk_restarts_silent (world_of db before [] []) refl))) c.restart.ensures.called (c.restart.ensures.ok db (record { sites = of.sites ∙ ap (λ (cat : Catalogue). cat.sites) is; distinct = subst AreDistinct (sym of.sites) of.formed.distinct }) clean sound so.fit)))
+    (silent_step db before after out.letters out.replies what desk_restarts leads refl refl (desk_restarts_silent (world_of db before [] []) refl))) c.restart.ensures.called (c.restart.ensures.ok db (record { sites = of.sites _ ∙ ap (λ (cat : Catalogue). cat.sites) is; distinct = subst AreDistinct (sym (of.sites _)) (of.formed _).distinct }) clean sound so.fit)))
 
 pub returns-in-Call-clause-refused : goal.returns-in-Call-clause-refused
 returns-in-Call-clause-refused g c = λ db of is fit.
@@ -63,7 +63,7 @@ returns-in-DeskRestarts-clause-refused g c = λ db of is fit.
     let kept = c.in-DeskRestarts.kept in
     subst (λ (what : events.Event). IfErr c.by_desk-in-DeskRestarts.result (IsRefusedFor sound db before after c.args.log.now.items what)) (sym c.in-DeskRestarts.is)
     (by_desk_err (IsRefusedFor sound db before after c.args.log.now.items (event.DeskRestarts kept)) c.restart.result c.by_desk-in-DeskRestarts.result c.by_desk-in-DeskRestarts.ensures
-    (desk_refused sound db before after c.args.log.now.items c.restart.result kept _ (of.sites ∙ ap (λ (cat : Catalogue). cat.sites) is) c.restart.ensures.told))
+    (desk_refused sound db before after c.args.log.now.items c.restart.result kept _ (of.sites _ ∙ ap (λ (cat : Catalogue). cat.sites) is) c.restart.ensures.told))
 
 pub returns-in_ok-copy-in-SiteGivesUp-clause-ok : goal.returns-in_ok-copy-in-SiteGivesUp-clause-ok
 returns-in_ok-copy-in-SiteGivesUp-clause-ok g c = λ db whole past of is clean sound so.

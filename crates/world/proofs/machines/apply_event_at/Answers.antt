@@ -21,7 +21,7 @@ returns-in-Ok-clause-ok g c = λ db whole entries at past of is clean sound here
     let among : List (List ℕ) → Type 0 = λ sites. list_any (λ site. pointwise nat_eq site name) sites ≡ true in
     let tested = sym c.has_site.ensures ∙ c.if-not-has_site.false in
     let found = subst (λ n. list_any (λ site. pointwise nat_eq site n) c.args.machines.now.desk.catalog.0 ≡ true) c.site.ensures (subst (λ x. list_any (λ site. pointwise nat_eq site c.site.result.now) x.0 ≡ true) c.catalog.ensures tested) in
-    let there = subst among (sym (of.sites ∙ ap (λ (x : Catalogue). x.sites) is)) found in
+    let there = subst among (sym (of.sites _ ∙ ap (λ (x : Catalogue). x.sites) is)) found in
     let seat = seat_there name before.seats (subst among (sym so.fit.names) there) in
     done_on db whole before after entries past c.args.what at c.args.kept c.in-Ok.out (no_choice db) here c.in-Ok.ensures.called there so (c.in-Ok.ensures.ok db (no_choice db) seat.0 clean sound so.fit seat.1)
 
@@ -47,7 +47,7 @@ returns-in-Err-clause-refused g c = λ db entries at of is fit here.
     let among : List (List ℕ) → Type 0 = λ sites. list_any (λ site. pointwise nat_eq site name) sites ≡ true in
     let tested = sym c.has_site.ensures ∙ c.if-not-has_site.false in
     let found = subst (λ n. list_any (λ site. pointwise nat_eq site n) old.desk.catalog.0 ≡ true) c.site.ensures (subst (λ x. list_any (λ site. pointwise nat_eq site c.site.result.now) x.0 ≡ true) c.catalog.ensures tested) in
-    let there = subst among (sym (of.sites ∙ ap (λ (x : Catalogue). x.sites) is)) found in
+    let there = subst among (sym (of.sites _ ∙ ap (λ (x : Catalogue). x.sites) is)) found in
     let seat = seat_there name (held D.kept S.kept old).seats (subst among (sym fit.names) there) in
     place_refused (OfStores D.is_clean S.is_clean new × OfStores D.is_sound S.is_sound old) db (counted D.kept S.kept D.refused S.refused old) (counted D.kept S.kept D.refused S.refused new) entries c.args.what c.args.kept at seat.0 c.in-Err.fault here seat.1
     (c.in-Err.ensures.fails seat.0 seat.1)
@@ -63,4 +63,4 @@ returns-then-not-has_site-clause-refused g c = λ db entries at of is fit here.
     let tested = sym c.has_site.ensures ∙ c.if-not-has_site.true in
     let none = subst (λ n. list_any (λ site. pointwise nat_eq site n) old.desk.catalog.0 ≡ false) c.site.ensures (subst (λ x. list_any (λ site. pointwise nat_eq site c.site.result.now) x.0 ≡ false) c.catalog.ensures tested) in
     nowhere_refused (OfStores D.is_clean S.is_clean old × OfStores D.is_sound S.is_sound old) db (counted D.kept S.kept D.refused S.refused old) (counted D.kept S.kept D.refused S.refused old) entries old.desk.catalog.0 c.args.what c.args.kept at
-    (of.sites ∙ ap (λ (x : Catalogue). x.sites) is) here (ap not none)
+    (of.sites _ ∙ ap (λ (x : Catalogue). x.sites) is) here (ap not none)

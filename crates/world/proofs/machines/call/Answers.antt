@@ -32,7 +32,7 @@ returns-in-Begin-clause-ok g c = λ db whole entries past of is so.
     let w = world_of db before (map (sent db) (letters_in entries)) past in
     let may = begins_in_force db before (map (sent db) (letters_in entries)) past in
     runs_on db whole before after entries past (event.Call call.Begin) out begins Begin so leads (if_true (may_begin w) (begins w) w may) refl (may, within)
-    (silent_step db before after out.letters out.replies (event.Call call.Begin) begins leads refl refl (begins_silent (world_of db before [] []) refl))) (c.begin.ensures.ok db (over_of db c.args.machines.now.desk.catalog of is) so.fit) (c.begin.ensures.within db (over_of db c.args.machines.now.desk.catalog of is) so.fit))
+    (silent_step db before after out.letters out.replies (event.Call call.Begin) begins leads refl refl (begins_silent (world_of db before [] []) refl))) (c.begin.ensures.ok db (over_of db _ c.args.machines.now.desk.catalog of is) so.fit) (c.begin.ensures.within db (over_of db _ c.args.machines.now.desk.catalog of is) so.fit))
 
 pub returns-in-Commit-clause-ok : goal.returns-in-Commit-clause-ok
 returns-in-Commit-clause-ok g c = λ db whole entries past of is so.
@@ -41,8 +41,8 @@ returns-in-Commit-clause-ok g c = λ db whole entries past of is so.
     let txn = c.in-Commit.txn in
     let what = event.Call (call.Commit txn) in
     subst (λ (asked : calls.Call). IfOk c.commit.result (λ out. StepsOn db whole before after entries (entries ++ entry_of (event.Call asked) out ∷ []) past)) (sym c.in-Commit.is)
-    (if_ok c.commit.result (λ out asked. called_on db whole before after entries past what out txn (no_choice db) Commit_call so asked (no_choice db, refl)
-    (commit_step db before after out.letters out.replies txn (no_choice db) what asked refl refl)) (c.commit.ensures.ok db (no_choice db) (over_of db c.args.machines.now.desk.catalog of is) so.fit))
+    (if_ok c.commit.result (λ out asked. called_on db whole before after entries past what out txn (no_choice db) Commit_call so asked tt (no_choice db, refl)
+    (commit_step db before after out.letters out.replies txn (no_choice db) what asked refl refl)) (c.commit.ensures.ok db (no_choice db) (over_of db _ c.args.machines.now.desk.catalog of is) so.fit))
 
 pub returns-in-Rollback-clause-ok : goal.returns-in-Rollback-clause-ok
 returns-in-Rollback-clause-ok g c = λ db whole entries past of is so.
@@ -51,8 +51,8 @@ returns-in-Rollback-clause-ok g c = λ db whole entries past of is so.
     let txn = c.in-Rollback.txn in
     let what = event.Call (call.Rollback txn) in
     subst (λ (asked : calls.Call). IfOk c.rollback.result (λ out. StepsOn db whole before after entries (entries ++ entry_of (event.Call asked) out ∷ []) past)) (sym c.in-Rollback.is)
-    (if_ok c.rollback.result (λ out asked. called_on db whole before after entries past what out txn (no_choice db) Rollback so asked (no_choice db, refl)
-    (rollback_step db before after out.letters out.replies txn (no_choice db) what asked refl refl)) (c.rollback.ensures.ok db (no_choice db) (over_of db c.args.machines.now.desk.catalog of is) so.fit))
+    (if_ok c.rollback.result (λ out asked. called_on db whole before after entries past what out txn (no_choice db) Rollback so asked tt (no_choice db, refl)
+    (rollback_step db before after out.letters out.replies txn (no_choice db) what asked refl refl)) (c.rollback.ensures.ok db (no_choice db) (over_of db _ c.args.machines.now.desk.catalog of is) so.fit))
 
 pub returns-in-GiveUp-clause-ok : goal.returns-in-GiveUp-clause-ok
 returns-in-GiveUp-clause-ok g c = λ db whole entries past of is so.
@@ -61,8 +61,8 @@ returns-in-GiveUp-clause-ok g c = λ db whole entries past of is so.
     let txn = c.in-GiveUp.txn in
     let what = event.Call (call.GiveUp txn) in
     subst (λ (asked : calls.Call). IfOk c.give_up.result (λ out. StepsOn db whole before after entries (entries ++ entry_of (event.Call asked) out ∷ []) past)) (sym c.in-GiveUp.is)
-    (if_ok c.give_up.result (λ out asked. called_on db whole before after entries past what out txn (no_choice db) Give_up so asked (no_choice db, refl)
-    (give_up_step db before after out.letters out.replies txn (no_choice db) what asked refl refl)) (c.give_up.ensures.ok db (no_choice db) (over_of db c.args.machines.now.desk.catalog of is) so.fit))
+    (if_ok c.give_up.result (λ out asked. called_on db whole before after entries past what out txn (no_choice db) Give_up so asked tt (no_choice db, refl)
+    (give_up_step db before after out.letters out.replies txn (no_choice db) what asked refl refl)) (c.give_up.ensures.ok db (no_choice db) (over_of db _ c.args.machines.now.desk.catalog of is) so.fit))
 
 pub returns-in-State-clause-ok : goal.returns-in-State-clause-ok
 returns-in-State-clause-ok g c = λ db whole entries past of is so.
@@ -74,13 +74,13 @@ returns-in-State-clause-ok g c = λ db whole entries past of is so.
     subst (λ (asked : calls.Call). IfOk c.statement.result (λ out. StepsOn db whole before after entries (entries ++ entry_of (event.Call asked) out ∷ []) past)) (sym c.in-State.is)
     (if_ok c.statement.result (λ out stated.
     let spelled = subst (λ of. IsTextOf db.schemas of (Run stated.statement)) c.as_str.ensures stated.spelled in
-    called_on db whole before after entries past what out txn stated.choice (State stated.statement) so stated.asked (stated.statement, stated.choice, (spelled, refl))
+    called_on db whole before after entries past what out txn stated.choice (State (before.table.version, stated.statement)) so stated.asked refl (stated.statement, stated.choice, (spelled, refl))
     (state_step db before after out.letters out.replies txn text stated.statement stated.choice what stated.asked spelled refl refl)) (c.statement.ensures.ok db of is so.fit))
 
 pub returns-in-Begin-clause-refused : goal.returns-in-Begin-clause-refused
 returns-in-Begin-clause-refused g c = λ db of is fit.
     subst (λ (asked : calls.Call). IfErr c.begin.result (λ told. (told ≡ refusals.Memory) ⊎ IsRefused db (volatile_of c.args.machines.now.desk.volatile) asked told)) (sym c.in-Begin.is)
-    (c.begin.ensures.full db (over_of db c.args.machines.now.desk.catalog of is) fit)
+    (c.begin.ensures.full db (over_of db _ c.args.machines.now.desk.catalog of is) fit)
 
 pub returns-in-State-clause-refused : goal.returns-in-State-clause-refused
 returns-in-State-clause-refused g c = λ db of is fit.

@@ -26,7 +26,7 @@ returns-clause-ok g c = λ db whole past of is clean sound so.
     let there = sym c.letter.ensures ∙ ap option_copied c.in-Some.is ∙ ap Some (sym same) in
     let named : List (List ℕ) → Type 0 = λ sites. list_any (λ site. pointwise nat_eq site letter.site) sites ≡ true in
     let there_too = sym c.has_site.ensures ∙ c.if-not-has_site.false in
-    let of_site = subst named (sym (of.sites ∙ ap (λ (x : Catalogue). x.sites) is)) (subst (λ l. list_any (λ site. pointwise nat_eq site l.site) c.args.machines.now.desk.catalog.0 ≡ true) (sym same) (subst (λ x. list_any (λ site. pointwise nat_eq site c.in-Some.letter.now.site) x.0 ≡ true) c.catalog.ensures there_too)) in
+    let of_site = subst named (sym (of.sites _ ∙ ap (λ (x : Catalogue). x.sites) is)) (subst (λ l. list_any (λ site. pointwise nat_eq site l.site) c.args.machines.now.desk.catalog.0 ≡ true) (sym same) (subst (λ x. list_any (λ site. pointwise nat_eq site c.in-Some.letter.now.site) x.0 ≡ true) c.catalog.ensures there_too)) in
     if_ok c.deliver.result (λ out came. comes_on db whole before after c.args.log.now.items past out c.args.number letter c.args.kept so there came) (c.deliver.ensures.ok db of is clean sound so.fit of_site)
 
 pub returns-clause-spared : goal.returns-clause-spared
@@ -38,7 +38,7 @@ returns-clause-spared g c = λ db whole past of is clean sound so.
     let there = sym c.letter.ensures ∙ ap option_copied c.in-Some.is ∙ ap Some (sym same) in
     let named : List (List ℕ) → Type 0 = λ sites. list_any (λ site. pointwise nat_eq site letter.site) sites ≡ true in
     let there_too = sym c.has_site.ensures ∙ c.if-not-has_site.false in
-    let of_site = subst named (sym (of.sites ∙ ap (λ (x : Catalogue). x.sites) is)) (subst (λ l. list_any (λ site. pointwise nat_eq site l.site) c.args.machines.now.desk.catalog.0 ≡ true) (sym same) (subst (λ x. list_any (λ site. pointwise nat_eq site c.in-Some.letter.now.site) x.0 ≡ true) c.catalog.ensures there_too)) in
+    let of_site = subst named (sym (of.sites _ ∙ ap (λ (x : Catalogue). x.sites) is)) (subst (λ l. list_any (λ site. pointwise nat_eq site l.site) c.args.machines.now.desk.catalog.0 ≡ true) (sym same) (subst (λ x. list_any (λ site. pointwise nat_eq site c.in-Some.letter.now.site) x.0 ≡ true) c.catalog.ensures there_too)) in
     if_ok c.deliver.result (λ out taken. spared_on (HaveRefused (counts g.D.DeskStore.refused g.S.SiteStore.refused c.args.machines.now) (counts g.D.DeskStore.refused g.S.SiteStore.refused c.deliver.new.self)) db before after c.args.log.now.items past out c.args.number letter c.args.kept there taken)
     (c.deliver.ensures.spared db of is clean sound so.fit of_site)
 
@@ -69,7 +69,7 @@ returns-clause-refused g c = λ db of is fit.
     let there = sym c.letter.ensures ∙ ap option_copied c.in-Some.is ∙ ap Some (sym same) in
     let named : List (List ℕ) → Type 0 = λ sites. list_any (λ site. pointwise nat_eq site letter.site) sites ≡ true in
     let there_too = sym c.has_site.ensures ∙ c.if-not-has_site.false in
-    let of_site = subst named (sym (of.sites ∙ ap (λ (x : Catalogue). x.sites) is)) (subst (λ l. list_any (λ site. pointwise nat_eq site l.site) c.args.machines.now.desk.catalog.0 ≡ true) (sym same) (subst (λ x. list_any (λ site. pointwise nat_eq site c.in-Some.letter.now.site) x.0 ≡ true) c.catalog.ensures there_too)) in
+    let of_site = subst named (sym (of.sites _ ∙ ap (λ (x : Catalogue). x.sites) is)) (subst (λ l. list_any (λ site. pointwise nat_eq site l.site) c.args.machines.now.desk.catalog.0 ≡ true) (sym same) (subst (λ x. list_any (λ site. pointwise nat_eq site c.in-Some.letter.now.site) x.0 ≡ true) c.catalog.ensures there_too)) in
     letter_refused (OfStores D.is_clean S.is_clean new × OfStores D.is_sound S.is_sound old) db (with_counts before a) (with_counts (held D.kept S.kept new) (counts D.refused S.refused new)) c.args.log.now.items c.args.number c.args.kept letter c.deliver.result there
     (if_err c.deliver.result (tells_counted db before a letter) (c.deliver.ensures.told db of is fit of_site)) (λ made so. c.deliver.ensures.blames made so.0 so.1)
 
@@ -89,7 +89,7 @@ returns-in_default-clause-refused g c = λ db of is fit.
     let old = c.args.machines.now in
     let none : is_unsent old.desk.catalog.0 c.args.log.now.items (event.Deliver c.args.number c.args.kept) ≡ true = search rules in
     unsent_refused (OfStores D.is_clean S.is_clean old × OfStores D.is_sound S.is_sound old) db (counted D.kept S.kept D.refused S.refused old) (counted D.kept S.kept D.refused S.refused old) c.args.log.now.items old.desk.catalog.0 (event.Deliver c.args.number c.args.kept)
-    (of.sites ∙ ap (λ (x : Catalogue). x.sites) is) none
+    (of.sites _ ∙ ap (λ (x : Catalogue). x.sites) is) none
 
 pub returns-then-not-has_site-clause-refused : goal.returns-then-not-has_site-clause-refused
 returns-then-not-has_site-clause-refused g c = λ db of is fit.
@@ -101,4 +101,4 @@ returns-then-not-has_site-clause-refused g c = λ db of is fit.
     let there = sym c.letter.ensures ∙ ap option_copied c.in-Some.is in
     let none : is_unsent old.desk.catalog.0 c.args.log.now.items (event.Deliver c.args.number c.args.kept) ≡ true = ap (is_none_of old.desk.catalog.0) there ∙ ap not nowhere in
     unsent_refused (OfStores D.is_clean S.is_clean old × OfStores D.is_sound S.is_sound old) db (counted D.kept S.kept D.refused S.refused old) (counted D.kept S.kept D.refused S.refused old) c.args.log.now.items old.desk.catalog.0 (event.Deliver c.args.number c.args.kept)
-    (of.sites ∙ ap (λ (x : Catalogue). x.sites) is) none
+    (of.sites _ ∙ ap (λ (x : Catalogue). x.sites) is) none

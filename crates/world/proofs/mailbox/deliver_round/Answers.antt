@@ -1,8 +1,8 @@
 -- Why `deliver_round` meets its contract.
 use Rattle.std.proofs.Common.{rules, ◌≡◌, ◌∙◌, ◌+◌, ◌-◌, ℕ, suc, length, refl, sym, ap, subst, arith}
-use Rattle.catalog.specs.Relation.{catalogue_of}
 use Rattle.world.specs.Contents.{counted}
 use Rattle.world.specs.Taking.{IsInRound, scene}
+use Rattle.world.proofs.InForce.{in_force_on}
 use Rattle.world.proofs.Deliveries.{all_in_round, nothing_goes, then_breaks, then_goes}
 use Rattle.world.proofs.SiteSteps.{on_any_err}
 use Rattle.world.proofs.Counting.{no_fewer, no_fewer_then}
@@ -36,11 +36,11 @@ loop-preserved g c =
       counts = no_fewer_then (counts g.D.DeskStore.refused g.S.SiteStore.refused c.args.machines.now) (counts g.D.DeskStore.refused g.S.SiteStore.refused c.loop.machines) (counts g.D.DeskStore.refused g.S.SiteStore.refused c.deliver_next.new.machines) c.loop.invariant.counts c.deliver_next.ensures.leaves.counts;
       goes = λ db of is clean sound fit.
           let so_far = c.loop.invariant.goes db of is (c.deliver_next.ensures.leaves.clean clean) sound fit in
-          then_goes db (λ w. w) first here so_far there (c.in_ok-deliver_next.ensures.ok db of (is ∙ ap catalogue_of (sym c.loop.invariant.catalog)) clean (c.loop.invariant.sound (c.deliver_next.ensures.leaves.clean clean) sound) so_far.fit);
+          then_goes db (λ w. w) first here so_far there (c.in_ok-deliver_next.ensures.ok db of (in_force_on db _ _ _ _ so_far.version c.loop.invariant.catalog is) clean (c.loop.invariant.sound (c.deliver_next.ensures.leaves.clean clean) sound) so_far.fit);
       ranks = λ db n of is clean sound fit ranks.
           let so_far = c.loop.invariant.goes db of is (c.deliver_next.ensures.leaves.clean clean) sound fit in
           let ranked = c.loop.invariant.ranks db n of is (c.deliver_next.ensures.leaves.clean clean) sound fit ranks in
-          c.in_ok-deliver_next.ensures.ranks db n (c.len-end.result - (c.loop.counter + 1)) of (is ∙ ap catalogue_of (sym c.loop.invariant.catalog)) clean (c.loop.invariant.sound (c.deliver_next.ensures.leaves.clean clean) sound) so_far.fit
+          c.in_ok-deliver_next.ensures.ranks db n (c.len-end.result - (c.loop.counter + 1)) of (in_force_on db _ _ _ _ so_far.version c.loop.invariant.catalog is) clean (c.loop.invariant.sound (c.deliver_next.ensures.leaves.clean clean) sound) so_far.fit
           (subst (λ (k : ℕ). IsInRound db n k here) one_less ranked);
     }
 
@@ -56,7 +56,7 @@ returns-in_err-deliver_next-clause-err g c = λ db of is clean sound fit.
     let here = scene (counted g.D.DeskStore.kept g.S.SiteStore.kept g.D.DeskStore.refused g.S.SiteStore.refused c.loop.machines) c.loop.post in
     let so_far = c.loop.invariant.goes db of is (c.deliver_next.ensures.leaves.clean clean) sound fit in
     on_any_err c.from_residual.result (then_breaks db (λ w. w) first here so_far (counted g.D.DeskStore.kept g.S.SiteStore.kept g.D.DeskStore.refused g.S.SiteStore.refused c.deliver_next.new.machines)
-    (c.in_err-deliver_next.ensures.err db of (is ∙ ap catalogue_of (sym c.loop.invariant.catalog)) clean (c.loop.invariant.sound (c.deliver_next.ensures.leaves.clean clean) sound) so_far.fit))
+    (c.in_err-deliver_next.ensures.err db of (in_force_on db _ _ _ _ so_far.version c.loop.invariant.catalog is) clean (c.loop.invariant.sound (c.deliver_next.ensures.leaves.clean clean) sound) so_far.fit))
 
 pub returns-in_err-deliver_next-clause-leaves : goal.returns-in_err-deliver_next-clause-leaves
 returns-in_err-deliver_next-clause-leaves g c = record {

@@ -1,9 +1,8 @@
 -- What each letter of a round keeps.
 use Rattle.std.proofs.Common.{◌≡◌, ◌-◌, ℕ, suc}
-use Rattle.catalog.specs.Relation.{catalogue_of}
 use Rattle.protocol.specs.Rounds.{RanksUnder}
 use Rattle.desk.specs.Database.{Database}
-use Rattle.desk.specs.OfCatalogue.{IsOfCatalogue}
+use Rattle.desk.specs.OfCatalogue.{InForce, IsOfCatalogue}
 use Rattle.world.specs.Counted.{NoFewer, counts}
 use Rattle.world.specs.Mailbox.{Goes}
 use Rattle.world.specs.Contents.{OfStores, counted}
@@ -17,9 +16,9 @@ invariant-loop g l = record {
   sound : OfStores g.D.DeskStore.is_clean g.S.SiteStore.is_clean l.machines → OfStores g.D.DeskStore.is_sound g.S.SiteStore.is_sound l.fn.machines → OfStores g.D.DeskStore.is_sound g.S.SiteStore.is_sound l.machines;
   catalog : l.machines.desk.catalog ≡ l.fn.machines.desk.catalog;
   counts : NoFewer (counts g.D.DeskStore.refused g.S.SiteStore.refused l.fn.machines) (counts g.D.DeskStore.refused g.S.SiteStore.refused l.machines);
-  goes : (db : Database) → IsOfCatalogue db → db.catalogue ≡ catalogue_of l.fn.machines.desk.catalog → OfStores g.D.DeskStore.is_clean g.S.SiteStore.is_clean l.machines → OfStores g.D.DeskStore.is_sound g.S.SiteStore.is_sound l.fn.machines
+  goes : (db : Database) → IsOfCatalogue db → InForce db l.fn.machines.desk.volatile.version l.fn.machines.desk.catalog → OfStores g.D.DeskStore.is_clean g.S.SiteStore.is_clean l.machines → OfStores g.D.DeskStore.is_sound g.S.SiteStore.is_sound l.fn.machines
       → AreFit db (counted g.D.DeskStore.kept g.S.SiteStore.kept g.D.DeskStore.refused g.S.SiteStore.refused l.fn.machines) → Goes db (λ w. w) (scene (counted g.D.DeskStore.kept g.S.SiteStore.kept g.D.DeskStore.refused g.S.SiteStore.refused l.fn.machines) l.fn.post) (scene (counted g.D.DeskStore.kept g.S.SiteStore.kept g.D.DeskStore.refused g.S.SiteStore.refused l.machines) l.post);
-  ranks : (db : Database) (n : ℕ) → IsOfCatalogue db → db.catalogue ≡ catalogue_of l.fn.machines.desk.catalog → OfStores g.D.DeskStore.is_clean g.S.SiteStore.is_clean l.machines → OfStores g.D.DeskStore.is_sound g.S.SiteStore.is_sound l.fn.machines
+  ranks : (db : Database) (n : ℕ) → IsOfCatalogue db → InForce db l.fn.machines.desk.volatile.version l.fn.machines.desk.catalog → OfStores g.D.DeskStore.is_clean g.S.SiteStore.is_clean l.machines → OfStores g.D.DeskStore.is_sound g.S.SiteStore.is_sound l.fn.machines
       → AreFit db (counted g.D.DeskStore.kept g.S.SiteStore.kept g.D.DeskStore.refused g.S.SiteStore.refused l.fn.machines) → RanksUnder (suc n) (world_at db (scene (counted g.D.DeskStore.kept g.S.SiteStore.kept g.D.DeskStore.refused g.S.SiteStore.refused l.fn.machines) l.fn.post))
       → IsInRound db n (l.end - l.counter) (scene (counted g.D.DeskStore.kept g.S.SiteStore.kept g.D.DeskStore.refused g.S.SiteStore.refused l.machines) l.post);
 }

@@ -15,7 +15,7 @@ pub returns-clause-ok : goal.returns-clause-ok
 returns-clause-ok g c = λ db of is clean sound fit.
     let named : List (List ℕ) → Type 0 = λ sites. list_any (λ site. pointwise nat_eq site c.args.letter.site) sites ≡ true in
     let there = sym c.has_site.ensures ∙ c.if-not-has_site.false in
-    let of_site = subst named (sym (of.sites ∙ ap (λ (x : Catalogue). x.sites) is)) (subst (λ x. list_any (λ site. pointwise nat_eq site c.args.letter.site) x.0 ≡ true) c.catalog.ensures there) in
+    let of_site = subst named (sym (of.sites _ ∙ ap (λ (x : Catalogue). x.sites) is)) (subst (λ x. list_any (λ site. pointwise nat_eq site c.args.letter.site) x.0 ≡ true) c.catalog.ensures there) in
     let before = held g.D.DeskStore.kept g.S.SiteStore.kept c.args.machines.now in
     let after = held g.D.DeskStore.kept g.S.SiteStore.kept c.deliver.new.self in
     let old = counts g.D.DeskStore.refused g.S.SiteStore.refused c.args.machines.now in
@@ -35,13 +35,13 @@ pub returns-then-not-has_site-clause-told : goal.returns-then-not-has_site-claus
 returns-then-not-has_site-clause-told g c = λ db of is fit.
     let named : List (List ℕ) → Type 0 = λ sites. list_any (λ site. pointwise nat_eq site c.args.letter.site) sites ≡ false in
     let apart = sym c.has_site.ensures ∙ c.if-not-has_site.true in
-    subst named (sym (of.sites ∙ ap (λ (x : Catalogue). x.sites) is)) (subst (λ x. list_any (λ site. pointwise nat_eq site c.args.letter.site) x.0 ≡ false) c.catalog.ensures apart)
+    subst named (sym (of.sites _ ∙ ap (λ (x : Catalogue). x.sites) is)) (subst (λ x. list_any (λ site. pointwise nat_eq site c.args.letter.site) x.0 ≡ false) c.catalog.ensures apart)
 
 pub returns-clause-told : goal.returns-clause-told
 returns-clause-told g c = λ db of is fit.
     let named : List (List ℕ) → Type 0 = λ sites. list_any (λ site. pointwise nat_eq site c.args.letter.site) sites ≡ true in
     let there = sym c.has_site.ensures ∙ c.if-not-has_site.false in
-    let of_site = subst named (sym (of.sites ∙ ap (λ (x : Catalogue). x.sites) is)) (subst (λ x. list_any (λ site. pointwise nat_eq site c.args.letter.site) x.0 ≡ true) c.catalog.ensures there) in
+    let of_site = subst named (sym (of.sites _ ∙ ap (λ (x : Catalogue). x.sites) is)) (subst (λ x. list_any (λ site. pointwise nat_eq site c.args.letter.site) x.0 ≡ true) c.catalog.ensures there) in
     let before = held g.D.DeskStore.kept g.S.SiteStore.kept c.args.machines.now in
     let old = counts g.D.DeskStore.refused g.S.SiteStore.refused c.args.machines.now in
     if_err c.deliver.result (λ fault why. tells_counted db before old c.args.letter fault why) (c.deliver.ensures.told db of is (fit_uncounted db before old fit) of_site)

@@ -1,7 +1,6 @@
 -- Why `recover` meets its contract.
 use Rattle.std.proofs.Common.{◌++◌, true, sym, ap, ◌∙◌, subst, map, refl}
 use Rattle.std.specs.List.{AllByRecursion, flat_map}
-use Rattle.catalog.specs.Relation.{catalogue_of}
 use Rattle.protocol.specs.Letters.{letter_of}
 use Rattle.protocol.specs.Site.{inquiries}
 use Rattle.protocol.specs.World.{desk_restarts}
@@ -11,6 +10,7 @@ use Rattle.world.specs.Counted.{counts}
 use Rattle.world.specs.Seated.{seats_in}
 use Rattle.world.specs.Sites.{IsSeated}
 use Rattle.world.specs.Taking.{put_out_by}
+use Rattle.world.proofs.InForce.{in_force_on}
 use Rattle.world.proofs.Counting.{fit_uncounted, leads_counted}
 use Rattle.world.proofs.Leaves.{leaves_then}
 use Rattle.world.proofs.Recovers.{recovers}
@@ -34,11 +34,11 @@ returns-clause-ok g c = λ db of is clean sound fit law recovery whole past up s
     let first = counted g.D.DeskStore.kept g.S.SiteStore.kept g.D.DeskStore.refused g.S.SiteStore.refused c.args.machines.now in
     let second = counted g.D.DeskStore.kept g.S.SiteStore.kept g.D.DeskStore.refused g.S.SiteStore.refused c.restart.new.self in
     let last = counted g.D.DeskStore.kept g.S.SiteStore.kept g.D.DeskStore.refused g.S.SiteStore.refused c.deliver_all.new.machines in
-    let over = over_of db c.args.machines.now.desk.catalog of is in
+    let over = over_of db _ c.args.machines.now.desk.catalog of is in
     let clean_mid = c.deliver_all.ensures.leaves.clean clean in
     let leads = leads_counted db desk_restarts before mid old new c.in_ok-commits.commits.letters c.in_ok-commits.commits.replies (c.in_ok-commits.ensures.ok db over clean_mid sound (fit_uncounted db before old fit)) in
     let more = c.in_ok-inquire_all.ensures (subst (λ sites. AllByRecursion IsSeated (seats_in g.S.SiteStore.kept sites)) (sym c.as_slice.ensures.value) leads.fit.sites)
     ∙ (λ i. map letter_of (c.into_vec-letters.ensures i) ++ flat_map (λ seat. inquiries seat.name (state_of seat.kept seat.table)) (seats_in g.S.SiteStore.kept (c.as_slice.ensures.value i))) in
     let scene = put_out_by second (record { letters = c.new.result; replies = c.in_ok-commits.commits.replies; kept = true }) in
     recovers db law recovery over.distinct whole past first second last c.in_ok-commits.commits.letters c.inquire_all.new.letters.items c.in_ok-commits.commits.replies c.in_ok-_heard._heard.items scene served up leads more c.new.ensures (λ ls ds. refl) leads.fit
-    (c.in_ok-_heard.ensures.ok db of (is ∙ ap catalogue_of (sym c.restart.ensures.leaves.catalog)) clean (c.restart.ensures.leaves.sound clean_mid sound) leads.fit)
+    (c.in_ok-_heard.ensures.ok db of (in_force_on db _ _ _ _ leads.version c.restart.ensures.leaves.catalog is) clean (c.restart.ensures.leaves.sound clean_mid sound) leads.fit)

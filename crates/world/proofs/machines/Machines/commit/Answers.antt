@@ -21,7 +21,7 @@ returns-clause-ok g c = λ db choice over fit.
     let before = held g.D.DeskStore.kept g.S.SiteStore.kept c.args.self.now in
     let new = c.commit.new.self in
     let txn = txn_in db before.table c.args.txn in
-    if_ok_too c.commit.result (λ out accepted steps. asked_leads db before (g.D.DeskStore.kept new.store) (volatile_of new.volatile) c.args.txn choice Commit_call out.letters out.replies fit steps (commit_explained (txn_name c.args.txn) choice txn) accepted)
+    if_ok_too c.commit.result (λ out accepted steps. asked_leads db before (g.D.DeskStore.kept new.store) (volatile_of new.volatile) c.args.txn choice Commit_call out.letters out.replies fit steps tt (commit_explained (txn_name c.args.txn) choice txn) accepted)
     (c.commit.ensures.accepted db) (c.commit.ensures.ok db choice over fit.desk)
 
 pub returns-clause-blames : goal.returns-clause-blames

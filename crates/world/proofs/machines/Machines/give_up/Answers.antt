@@ -17,7 +17,7 @@ returns-clause-ok g c = λ db choice over fit.
     let before = held g.D.DeskStore.kept g.S.SiteStore.kept c.args.self.now in
     let new = c.give_up.new.self in
     let txn = txn_in db before.table c.args.txn in
-    if_ok c.give_up.result (λ out steps. asked_leads db before (g.D.DeskStore.kept new.store) (volatile_of new.volatile) c.args.txn choice Give_up out.letters out.replies fit steps (give_up_explained (txn_name c.args.txn) choice txn) (give_up_accepted txn))
+    if_ok c.give_up.result (λ out steps. asked_leads db before (g.D.DeskStore.kept new.store) (volatile_of new.volatile) c.args.txn choice Give_up out.letters out.replies fit steps tt (give_up_explained (txn_name c.args.txn) choice txn) (give_up_accepted txn))
     (c.give_up.ensures.ok db choice over fit.desk)
 
 pub returns-clause-leaves : goal.returns-clause-leaves

@@ -21,7 +21,7 @@ returns-clause-ok g c = λ db choice over fit.
     let before = held g.D.DeskStore.kept g.S.SiteStore.kept c.args.self.now in
     let new = c.rollback.new.self in
     let txn = txn_in db before.table c.args.txn in
-    if_ok_too c.rollback.result (λ out accepted steps. asked_leads db before (g.D.DeskStore.kept new.store) (volatile_of new.volatile) c.args.txn choice Rollback out.letters out.replies fit steps (rollback_explained (txn_name c.args.txn) choice txn) accepted)
+    if_ok_too c.rollback.result (λ out accepted steps. asked_leads db before (g.D.DeskStore.kept new.store) (volatile_of new.volatile) c.args.txn choice Rollback out.letters out.replies fit steps tt (rollback_explained (txn_name c.args.txn) choice txn) accepted)
     (c.rollback.ensures.accepted db) (c.rollback.ensures.ok db choice over fit.desk)
 
 pub returns-clause-blames : goal.returns-clause-blames

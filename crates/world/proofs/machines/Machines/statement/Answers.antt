@@ -20,16 +20,16 @@ returns-clause-ok g c = λ db of is fit.
     let before = held g.D.DeskStore.kept g.S.SiteStore.kept c.args.self.now in
     let new = c.statement.new.self in
     let txn = txn_in db before.table c.args.txn in
-    if_ok_all c.statement.result (λ (s : Statement). refusal (State s) txn ≡ None) (λ out accepted states. record {
+    if_ok_all c.statement.result (λ (s : Statement). refusal (State (before.table.version, s)) txn ≡ None) (λ out accepted states. record {
       statement = states.statement;
       choice = states.runs.choice;
       spelled = states.spelled;
       fits = states.fits;
-      asked = asked_leads db before (g.D.DeskStore.kept new.store) (volatile_of new.volatile) c.args.txn states.runs.choice (State states.statement) out.letters out.replies fit states.runs.steps states.runs.explained (accepted states.statement);
+      asked = asked_leads db before (g.D.DeskStore.kept new.store) (volatile_of new.volatile) c.args.txn states.runs.choice (State (before.table.version, states.statement)) out.letters out.replies fit states.runs.steps states.runs.placed states.runs.explained (accepted states.statement);
     }) (λ s. c.statement.ensures.states.accepted db s) (c.statement.ensures.ok db of is fit.desk)
 
 pub returns-clause-told : goal.returns-clause-told
-returns-clause-told g c = λ db of is fit. statement_refused db (volatile_of c.args.self.now.desk.volatile) c.args.txn c.args.text.now c.args.self.now.desk.catalog is c.statement.result (c.statement.ensures.told db) (c.statement.ensures.full db of is fit.desk)
+returns-clause-told g c = λ db of is fit. statement_refused db (volatile_of c.args.self.now.desk.volatile) c.args.txn c.args.text.now c.args.self.now.desk.catalog (of.schemas _ ∙ ap schemas_of is) c.statement.result (c.statement.ensures.told db) (c.statement.ensures.full db of is fit.desk)
 
 pub returns-clause-blames : goal.returns-clause-blames
 returns-clause-blames g c = if_err c.statement.result (λ told why. statement_stops (counts g.D.DeskStore.refused g.S.SiteStore.refused c.args.self.now) (g.D.DeskStore.refused c.statement.new.self.store ∷ counts_of g.S.SiteStore.refused c.args.self.now.sites.items) told _ _ _ why) (c.statement.ensures.told (database (catalogue_of c.args.self.now.desk.catalog)) some)
