@@ -1,5 +1,5 @@
 -- Fetches that go out, and those that have rows, are asked as before.
-use Rattle.std.proofs.Common.{◌≡◌, refl, sym, ap, ap₂, ◌∙◌, ℕ, Bool, true, false, List, [], ◌∷◌, map, Option, Some, None, if◌then◌else◌}
+use Rattle.std.proofs.Common.{◌≡◌, refl, sym, ap, ap₂, subst, ℕ, Bool, true, false, List, [], ◌∷◌, map, Option, Some, None, if◌then◌else◌}
 use Rattle.terms.specs.declared.value.Value.{Value}
 use Rattle.catalog.specs.Catalogue.{Catalogue}
 use Rattle.store.specs.declared.name.Ticket.{Ticket}
@@ -8,7 +8,7 @@ use Rattle.desk.specs.declared.fetches.Ask.{Ask}
 use Rattle.desk.specs.declared.participant.Participant.{Participant}
 use Rattle.desk.specs.declared.transaction.Unsent.{Unsent}
 use Rattle.desk.specs.Fetches.{awaits, with_rows}
-use Rattle.desk.specs.Database.{Database}
+use Rattle.desk.specs.Database.{Database, IsPlace}
 use Rattle.desk.specs.Planned.{asked}
 use Rattle.desk.specs.Send.{ask_goes, asks_go, one_more, write_goes, writes_go, AsksAtHome, UnsentAtHome}
 use Rattle.desk.specs.Participants.{participant_in}
@@ -62,4 +62,4 @@ module _ (catalogue : Catalogue) (site : List ℕ) (number : ℕ) (rows : List (
 
   pub rows_home : (db : Database) (asks : List Ask) → AsksAtHome db asks → AsksAtHome db (map given asks)
   rows_home db [] home = tt
-  rows_home db (ask ∷ asks) home = (kept_by (λ x. x.site) (λ x. refl) ask ∙ home.0 ∙ ap db.home (sym (kept_by (λ x. x.leaf) (λ x. refl) ask)), rows_home db asks home.1)
+  rows_home db (ask ∷ asks) home = (subst (IsPlace db) (sym (kept_by (λ x. (x.site, x.leaf)) (λ x. refl) ask)) home.0, rows_home db asks home.1)

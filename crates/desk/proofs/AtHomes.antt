@@ -1,27 +1,32 @@
--- Fetches and writes are at the homes of their leaves, and at each of these there is a participant.
-use Rattle.std.proofs.Common.{◌≡◌, refl, sym, ap, ◌∙◌, subst, ℕ, zero, suc, nat_eq, Bool, true, false, ◌||◌, List, [], ◌∷◌, map, find, Option, Some, option_and_then, unwrap_or, if◌then◌else◌}
+-- Fetches and writes are of leaves at their sites, and at each of these there is a participant.
+use Rattle.std.proofs.Common.{◌≡◌, ◌<◌, refl, sym, ap, ◌∙◌, subst, ℕ, zero, suc, nat_eq, Bool, true, false, ◌||◌, List, [], ◌∷◌, length, map, find, Option, Some, option_and_then, unwrap_or, if◌then◌else◌}
 use Rattle.std.specs.Cmp.Lexicographic.{pointwise}
 use Rattle.std.specs.List.{AllByRecursion, list_any, slice_get}
+use Rattle.std.proofs.lemmas.Option.{slice_get-get_or, unwrap_or-slice_get}
 use Rattle.terms.specs.declared.leaf.Leaf.{Leaf}
 use Rattle.terms.specs.declared.write.Write.{Write}
 use Rattle.terms.specs.declared.write.Write.TheVariants as writes
 use Rattle.catalog.specs.declared.fragment_leaf.FragmentLeaf.{FragmentLeaf}
+use Rattle.catalog.specs.Catalogue.{Catalogue}
 use Rattle.catalog.specs.FragmentLeaf.{catalogue_leaves, is_name_of, leaf_named}
+use Rattle.catalog.proofs.FormedCatalogues.{sited}
 use Rattle.plan.specs.declared.fetch.Fetch.{Fetch}
 use Rattle.plan.specs.declared.need.Need.{Need}
-use Rattle.plan.proofs.Fetched.{one_name}
 use Rattle.answers.specs.Writes as answers
 use Rattle.answers.specs.Writes.{is_leaf_in}
 use Rattle.protocol.specs.Desk as desk
 use Rattle.protocol.specs.Letters.{leaf_of}
 use Rattle.desk.specs.declared.participant.Participant.{Participant}
+use Rattle.desk.specs.declared.transaction.Unsent.{Unsent}
 use Rattle.desk.specs.Database.{Database, language}
+use Rattle.desk.specs.Does.{ArePlaced}
 use Rattle.desk.specs.OfCatalogue.{IsOfCatalogue}
 use Rattle.desk.specs.Opening.{HaveParticipants}
-use Rattle.desk.specs.Planned.{ask_from, asked, fetched, home_in, unsent_from}
+use Rattle.desk.specs.Place.{fetch_in, home_in, site_in, write_in}
+use Rattle.desk.specs.Planned.{ask_from, asked, unsent_from}
 use Rattle.desk.specs.Send.{AsksAtHome, UnsentAtHome}
 use Rattle.desk.specs.Participants.{is_at, sites_of}
-use Rattle.desk.specs.Transaction.{ask_of, at_leaf, write_of}
+use Rattle.desk.specs.Transaction.{ask_of, write_of}
 use Rattle.desk.specs.Statement.{ask_sites, write_sites}
 use Rattle.desk.proofs.Located.{IsEither, located}
 use Rattle.desk.proofs.Participants.{text_self}
@@ -54,63 +59,74 @@ participant_there (s ∷ participants) (suc place) site is = go (is_at site s) (
     go true rest = refl
     go false rest = rest
 
-module _ (db : Database) (of : IsOfCatalogue db) where
+-- a site is there below their number
+within : (sites : List (List ℕ)) (place : ℕ) → place < length sites → slice_get sites place ≡ Some (unwrap_or (slice_get sites place) [])
+within sites place below = slice_get-get_or sites place [] below ∙ ap Some (sym (unwrap_or-slice_get sites place []))
+
+module _ (db : Database) (of : IsOfCatalogue db) (n : ℕ) where
+  abbrev catalogue : Catalogue
+  catalogue = db.catalogue n
+
   abbrev all : List FragmentLeaf
-  all = catalogue_leaves db.catalogue
+  all = catalogue_leaves catalogue
 
-  -- the site of a leaf that is there
-  pub site_is : (name : Leaf) (leaf : FragmentLeaf) → leaf_named name all ≡ Some leaf → slice_get db.catalogue.sites leaf.site ≡ Some (db.home name)
+  abbrev at : Option FragmentLeaf → Option (List ℕ)
+  at found = option_and_then (λ leaf. slice_get catalogue.sites leaf.site) found
+
+  -- a leaf that is there is at a site
+  pub site_is : (name : Leaf) (leaf : FragmentLeaf) → leaf_named name all ≡ Some leaf → slice_get catalogue.sites leaf.site ≡ Some (home_in catalogue name)
   site_is name leaf is =
-      let found = found_so (λ l. slice_get db.catalogue.sites l.site ≡ Some (db.home l.name)) (is_name_of name) all leaf of.home is in
-      found.0 ∙ ap (λ (l : Leaf). Some (db.home l)) (one_name leaf.name name found.1)
+      let found = found_so (λ l. l.site < length catalogue.sites) (is_name_of name) all leaf (sited catalogue all refl (of.formed n)) is in
+      within catalogue.sites leaf.site found.0 ∙ ap (λ o. Some (unwrap_or (at o) [])) (sym is)
 
-  pub home_is : (name : Leaf) (leaf : FragmentLeaf) → leaf_named name all ≡ Some leaf → home_in db.catalogue name ≡ db.home name
-  home_is name leaf is = ap (λ (o : Option (List ℕ)). unwrap_or o []) (ap (option_and_then (λ l. slice_get db.catalogue.sites l.site)) is ∙ site_is name leaf is)
+  home_is : (name : Leaf) (leaf : FragmentLeaf) → leaf_named name all ≡ Some leaf → site_in catalogue name ≡ Some (home_in catalogue name)
+  home_is name leaf is = ap at is ∙ site_is name leaf is
+
+  named : (write : Write) → is_leaf_in all (answers.leaf_of write) ≡ true → (leaf : FragmentLeaf) × (leaf_named (leaf_of write) all ≡ Some leaf)
+  named (writes.Put leaf part) is = any_found (is_name_of leaf) all is
+  named (writes.Del leaf key) is = any_found (is_name_of leaf) all is
 
   module _ (participants : List Participant) (those : sites_of participants ≡ db.sites) where
-    at_participant : (name : Leaf) (leaf : FragmentLeaf) → leaf_named name all ≡ Some leaf → list_any (is_at (db.home name)) participants ≡ true
-    at_participant name leaf is = participant_there participants leaf.site (db.home name) (ap (λ (ss : List (List ℕ)). slice_get ss leaf.site) (those ∙ of.sites) ∙ site_is name leaf is)
+    at_participant : (name : Leaf) (leaf : FragmentLeaf) → leaf_named name all ≡ Some leaf → list_any (is_at (home_in catalogue name)) participants ≡ true
+    at_participant name leaf is = participant_there participants leaf.site (home_in catalogue name) (ap (λ (ss : List (List ℕ)). slice_get ss leaf.site) (those ∙ of.sites n) ∙ site_is name leaf is)
 
     -- each fetch has a participant
-    pub asks_participants : (need other : Need) (fetches : List Fetch) → AllByRecursion (IsEither all need other) fetches → HaveParticipants participants (ask_sites (map (ask_from db.catalogue) fetches))
+    pub asks_participants : (need other : Need) (fetches : List Fetch) → AllByRecursion (IsEither all need other) fetches → HaveParticipants participants (ask_sites (map (ask_from catalogue) fetches))
     asks_participants need other [] each = tt
-    asks_participants need other (fetch ∷ fetches) each =
-        let there = located all need other fetch each.0 in
-        (subst (λ site. list_any (is_at site) participants ≡ true) (sym (home_is fetch.leaf there.0 there.1)) (at_participant fetch.leaf there.0 there.1), asks_participants need other fetches each.1)
+    asks_participants need other (fetch ∷ fetches) each = let there = located all need other fetch each.0 in (at_participant fetch.leaf there.0 there.1, asks_participants need other fetches each.1)
 
-    pub writes_participants : (list : List Write) → AllByRecursion (λ write. is_leaf_in all (answers.leaf_of write) ≡ true) list → HaveParticipants participants (write_sites (map (unsent_from db.catalogue) list))
+    pub writes_participants : (list : List Write) → AllByRecursion (λ write. is_leaf_in all (answers.leaf_of write) ≡ true) list → HaveParticipants participants (write_sites (map (unsent_from catalogue) list))
     writes_participants [] each = tt
-    writes_participants (write ∷ list) each =
-        let there = named write each.0 in
-        (subst (λ site. list_any (is_at site) participants ≡ true) (sym (home_is (leaf_of write) there.0 there.1)) (at_participant (leaf_of write) there.0 there.1), writes_participants list each.1)
-      where
-        named : (write : Write) → is_leaf_in all (answers.leaf_of write) ≡ true → (leaf : FragmentLeaf) × (leaf_named (leaf_of write) all ≡ Some leaf)
-        named (writes.Put leaf part) is = any_found (is_name_of leaf) all is
-        named (writes.Del leaf key) is = any_found (is_name_of leaf) all is
+    writes_participants (write ∷ list) each = let there = named write each.0 in (at_participant (leaf_of write) there.0 there.1, writes_participants list each.1)
 
-  -- each is at home
-  pub asks_home : (need other : Need) (fetches : List Fetch) → AllByRecursion (IsEither all need other) fetches → AsksAtHome db (map (ask_from db.catalogue) fetches)
+  -- each is of a leaf at its site
+  pub asks_home : (need other : Need) (fetches : List Fetch) → AllByRecursion (IsEither all need other) fetches → AsksAtHome db (map (ask_from catalogue) fetches)
   asks_home need other [] each = tt
-  asks_home need other (fetch ∷ fetches) each = let there = located all need other fetch each.0 in (home_is fetch.leaf there.0 there.1, asks_home need other fetches each.1)
+  asks_home need other (fetch ∷ fetches) each =
+      let there = located all need other fetch each.0 in
+      (record { version = n; there = home_is fetch.leaf there.0 there.1 }, asks_home need other fetches each.1)
 
-  pub writes_home : (list : List Write) → AllByRecursion (λ write. is_leaf_in all (answers.leaf_of write) ≡ true) list → UnsentAtHome db (map (unsent_from db.catalogue) list)
+  pub writes_home : (list : List Write) → AllByRecursion (λ write. is_leaf_in all (answers.leaf_of write) ≡ true) list → UnsentAtHome db (map (unsent_from catalogue) list)
   writes_home [] each = tt
-  writes_home (write ∷ list) each = (go write each.0, writes_home list each.1)
-    where
-      go : (write : Write) → is_leaf_in all (answers.leaf_of write) ≡ true → home_in db.catalogue (leaf_of write) ≡ db.home (leaf_of write)
-      go (writes.Put leaf part) is = let there = any_found (is_name_of leaf) all is in home_is leaf there.0 there.1
-      go (writes.Del leaf key) is = let there = any_found (is_name_of leaf) all is in home_is leaf there.0 there.1
+  writes_home (write ∷ list) each =
+      let there = named write each.0 in
+      (record { version = n; there = home_is (leaf_of write) there.0 there.1 }, writes_home list each.1)
+
+-- so the writes of an answer are
+pub all_placed : (db : Database) (unsent : List Unsent) → UnsentAtHome db unsent → ArePlaced db (map write_of unsent)
+all_placed db [] home = tt
+all_placed db (first ∷ unsent) home = (home.0, all_placed db unsent home.1)
 
 -- the writes with their sites are the writes
-pub writes_are : (db : Database) (list : List Write) → map write_of (map (unsent_from db.catalogue) list) ≡ map at_leaf list
-writes_are db [] = refl
-writes_are db (write ∷ list) = ap (λ rest. at_leaf write ∷ rest) (writes_are db list)
+pub writes_are : (catalogue : Catalogue) (list : List Write) → map write_of (map (unsent_from catalogue) list) ≡ map (write_in catalogue) list
+writes_are catalogue [] = refl
+writes_are catalogue (write ∷ list) = ap (λ rest. write_in catalogue write ∷ rest) (writes_are catalogue list)
 
 -- the fetches are in order, and none is sent
-pub asks_order : (db : Database) (fetches : List Fetch) → map asked (map (ask_from db.catalogue) fetches) ≡ map fetched fetches
-asks_order db [] = refl
-asks_order db (fetch ∷ fetches) = ap (λ rest. fetched fetch ∷ rest) (asks_order db fetches)
+pub asks_order : (catalogue : Catalogue) (fetches : List Fetch) → map asked (map (ask_from catalogue) fetches) ≡ map (fetch_in catalogue) fetches
+asks_order catalogue [] = refl
+asks_order catalogue (fetch ∷ fetches) = ap (λ rest. fetch_in catalogue fetch ∷ rest) (asks_order catalogue fetches)
 
-pub asks_fresh : (db : Database) (fetches : List Fetch) → map (ask_of db) (map (ask_from db.catalogue) fetches) ≡ map (desk.ask_of {L = language db}) (map (λ fetch. (fetch.leaf, fetch.conds)) fetches)
-asks_fresh db [] = refl
-asks_fresh db (fetch ∷ fetches) = ap (λ rest. desk.ask_of {L = language db} (fetch.leaf, fetch.conds) ∷ rest) (asks_fresh db fetches)
+pub asks_fresh : (db : Database) (catalogue : Catalogue) (fetches : List Fetch) → map (ask_of db) (map (ask_from catalogue) fetches) ≡ map (desk.ask_of {L = language db}) (map (fetch_in catalogue) fetches)
+asks_fresh db catalogue [] = refl
+asks_fresh db catalogue (fetch ∷ fetches) = ap (λ rest. desk.ask_of {L = language db} (fetch_in catalogue fetch) ∷ rest) (asks_fresh db catalogue fetches)

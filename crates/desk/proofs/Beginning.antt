@@ -154,7 +154,7 @@ module _ (db : Database) (kept : DeskContent) (entries : Entries) (undecided lif
     listed = λ j e. subst (In j) (sym keys_are) (listed_now j (ap is_some (sym (there j)) ∙ e));
     lives = λ j here. lives_now j (subst (In j) keys_are here);
     begun = λ j e. stood_all next (Some first) before.standing (λ i o. is_some o ≡ true → IsBegun now i) (λ f. inr (refl, omega arith)) (λ i a f. later i (fits.begun i f)) j (ap is_some (sym (there j)) ∙ e);
-    sites = λ j s e. stood_all next (Some first) before.standing (λ i o. o ≡ Some s → IsIn db s) (λ f. subst (IsIn db) (some_is f) (its_sites sites ∙ sym those, tt, tt)) (λ i a f. fits.sites i s f) j (sym (there j) ∙ e);
+    sites = λ j s e. stood_all next (Some first) before.standing (λ i o. o ≡ Some s → IsIn db version s) (λ f. subst (IsIn db version) (some_is f) (its_sites sites ∙ sym those, tt, tt)) (λ i a f. fits.sites i s f) j (sym (there j) ∙ e);
     counted = one_more;
     short = λ j. subst (λ o. desk.is_short_txn (txn_of db o) ≡ true) (sym (there j)) (stood_all next (Some first) before.standing (λ i o. desk.is_short_txn (txn_of db o) ≡ true) (ap desk.is_short_txn fresh_now ∙ none_sent db.sites) (λ i a. fits.short i) j);
     few = few;

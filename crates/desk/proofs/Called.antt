@@ -83,7 +83,7 @@ module _ (db : Database) (u : Undecided) (a : List ℕ) (k : Ticket) (vote : Vot
   at_stage (stage.Writing w) e decides = cc
   at_stage stage.Voting e decides = by_vote vote other decides
 
-  pub vote_calls : (given : List Participant) → given ≡ now → Decides {L = language db} (undecided_of db (voting given)) (votes_of given) → CallsStore {L = language db} a (replied db (reply.Voted (record { ticket = k; vote = vote }))) (desk.Known v)
+  pub vote_calls : (given : List Participant) → given ≡ now → Decides {L = language db} (undecided_of db (voting given)) (votes_of given) → CallsStore {L = language db} a (replied db a (reply.Voted (record { ticket = k; vote = vote }))) (desk.Known v)
   vote_calls given same decides =
       (named_is k participant.ticket ∙ first, at_stage u.stage (left_true (is_voting u.stage) _ counts) (counted (subst (λ ss. Decides {L = language db} (undecided_of db (voting ss)) (votes_of ss)) same decides)))
 

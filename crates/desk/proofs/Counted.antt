@@ -73,7 +73,7 @@ module _ (db : Database) (t : Name) (u : Undecided) (a : List ℕ) (k : Ticket) 
   participant = participant_in a u.participants
 
   abbrev turned : Bool → desk.Transition (language db)
-  turned kept = desk.on_known {L = language db} t v a kept choice (replied db (reply.Voted (record { ticket = k; vote = vote })))
+  turned kept = desk.on_known {L = language db} t v a kept choice (replied db a (reply.Voted (record { ticket = k; vote = vote })))
 
   abbrev after : Bool → Bool → Stage → desk.Transition (language db)
   after kept first st = if first then desk.on_vote {L = language db} t v a kept (vote_of vote) (stage_of db u.participants st) else desk.stays (desk.Known v)
@@ -140,7 +140,7 @@ voted_are db participants a vote are given same = subst (AreParticipants db) (sy
 module _ (db : Database) (txn : Txn) (u : Undecided) (a : List ℕ) (k : Ticket) (vote : Vote) (choice : desk.Choice (language db)) (are : AreParticipants db u.participants) (e : counts_vote u a k ≡ true)
     (given : List Participant) (same : given ≡ map (changed_at a (with_vote (Some vote))) u.participants) (old : Option TxnState) where
   abbrev wanted : Transition → desk.Transition (language db)
-  wanted turn = desk.on_known {L = language db} (txn_name txn) (undecided_of db u) a turn.kept choice (replied db (reply.Voted (record { ticket = k; vote = vote })))
+  wanted turn = desk.on_known {L = language db} (txn_name txn) (undecided_of db u) a turn.kept choice (replied db a (reply.Voted (record { ticket = k; vote = vote })))
 
   pub no_turn : {E : Type 0} (result : Result Transition E) → is_no vote ≡ true →
       IfOk result (λ turn. IsTransition db txn old turn (desk.ends_by (txn_name txn) (undecided_of db (voting given)) (desk.Aborted (txn_name txn) desk.By_vote))) → IfOk result (λ turn. IsTransition db txn old turn (wanted turn))
@@ -159,7 +159,7 @@ module _ (db : Database) (txn : Txn) (u : Undecided) (a : List ℕ) (k : Ticket)
 -- ---- a refusal
 module _ (db : Database) (t : Name) (u : Undecided) (a : List ℕ) (refusal : Refusal) (choice : desk.Choice (language db)) where
   abbrev refusing : Bool → desk.Transition (language db)
-  refusing kept = desk.on_known {L = language db} t (undecided_of db u) a kept choice (replied db (reply.Refused refusal))
+  refusing kept = desk.on_known {L = language db} t (undecided_of db u) a kept choice (replied db a (reply.Refused refusal))
 
   abbrev refusing_if : Bool → desk.Transition (language db)
   refusing_if b = if b then desk.on_refused {L = language db} t (undecided_of db u) (stage_of db u.participants u.stage) else desk.stays (desk.Known (undecided_of db u))

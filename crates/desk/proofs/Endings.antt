@@ -31,11 +31,11 @@ hold_is (Some Read) = refl
 
 module _ (db : Database) where
   -- an Abort to the ticket of a site
-  abort_is : (w : Broadcast) → ((n : ℕ) (k : Ticket) → said db (order_of w n k) ≡ protocol.Abort (name_of k)) → (b : Bool) (n : ℕ) (ticket : Option Ticket) →
-      when {L = language db} b (to_abort (option_map name_of ticket)) ≡ option_map (said db) (if b then option_map (order_of w n) ticket else None)
-  abort_is w is false n ticket = refl
-  abort_is w is true n None = refl
-  abort_is w is true n (Some k) = ap Some (sym (is n k))
+  abort_is : (w : Broadcast) (site : List ℕ) → ((n : ℕ) (k : Ticket) → said db site (order_of w n k) ≡ protocol.Abort (name_of k)) → (b : Bool) (n : ℕ) (ticket : Option Ticket) →
+      when {L = language db} b (to_abort (option_map name_of ticket)) ≡ option_map (said db site) (if b then option_map (order_of w n) ticket else None)
+  abort_is w site is false n ticket = refl
+  abort_is w site is true n None = refl
+  abort_is w site is true n (Some k) = ap Some (sym (is n k))
 
   and_true : (b : Bool) → (b && true) ≡ b
   and_true true = refl
@@ -44,16 +44,16 @@ module _ (db : Database) where
   abbrev hears : Stage → List Participant → Participant → Option (protocol.Body (language db))
   hears st participants participant = when {L = language db} (participant.visited && desk.may_hold (vote_at (stage_of db participants st) participant.site)) (to_abort (option_map name_of participant.ticket))
 
-  early : (participant : Participant) → when {L = language db} (participant.visited && true) (to_abort (option_map name_of participant.ticket)) ≡ option_map (said db) (order_at word.Abort participant)
-  early participant = ap (λ b. when {L = language db} b (to_abort (option_map name_of participant.ticket))) (and_true participant.visited) ∙ abort_is word.Abort (λ n k. refl) participant.visited participant.sent participant.ticket
+  early : (participant : Participant) → when {L = language db} (participant.visited && true) (to_abort (option_map name_of participant.ticket)) ≡ option_map (said db participant.site) (order_at word.Abort participant)
+  early participant = ap (λ b. when {L = language db} b (to_abort (option_map name_of participant.ticket))) (and_true participant.visited) ∙ abort_is word.Abort participant.site (λ n k. refl) participant.visited participant.sent participant.ticket
 
-  hears_is : (st : Stage) (participants : List Participant) (participant : Participant) → participant_in participant.site participants ≡ participant → hears st participants participant ≡ option_map (said db) (order_at (abort_broadcast st) participant)
+  hears_is : (st : Stage) (participants : List Participant) (participant : Participant) → participant_in participant.site participants ≡ participant → hears st participants participant ≡ option_map (said db participant.site) (order_at (abort_broadcast st) participant)
   hears_is stage.Idle participants participant at = early participant
   hears_is (stage.Reading r) participants participant at = early participant
   hears_is (stage.Writing w) participants participant at = early participant
   hears_is stage.Voting participants participant at =
       ap (λ b. when {L = language db} (participant.visited && b) (to_abort (option_map name_of participant.ticket))) (ap (λ x. desk.may_hold (option_map vote_of x.vote)) at ∙ hold_is participant.vote)
-      ∙ abort_is word.AbortVoting (λ n k. refl) (participant.visited && may_hold participant.vote) participant.sent participant.ticket
+      ∙ abort_is word.AbortVoting participant.site (λ n k. refl) (participant.visited && may_hold participant.vote) participant.sent participant.ticket
 
   pub ends_letters : (txn : Txn) (u : Undecided) (deed : Deed (language db)) → AreParticipants db u.participants → map (sent db) (broadcast_letters txn (abort_broadcast u.stage) u.participants) ≡ (ends_by (txn_name txn) (undecided_of db u) deed).letters
   ends_letters txn u deed are =
@@ -65,10 +65,10 @@ module _ (db : Database) where
       ∙ ap (λ sites. protocol.letters_to {L = language db} (txn_name txn) says sites) are.sites
 
   -- ---- the first phase
-  prepare_is : (u : desk.Undecided (language db)) (participant : Participant) → u.sent participant.site ≡ participant.sent → when {L = language db} participant.visited (to_prepare u participant.site (option_map name_of participant.ticket)) ≡ option_map (said db) (order_at word.Prepare participant)
+  prepare_is : (u : desk.Undecided (language db)) (participant : Participant) → u.sent participant.site ≡ participant.sent → when {L = language db} participant.visited (to_prepare u participant.site (option_map name_of participant.ticket)) ≡ option_map (said db participant.site) (order_at word.Prepare participant)
   prepare_is u participant sent = go participant.visited participant.ticket
     where
-      go : (b : Bool) (ticket : Option Ticket) → when {L = language db} b (to_prepare u participant.site (option_map name_of ticket)) ≡ option_map (said db) (if b then option_map (order_of word.Prepare participant.sent) ticket else None)
+      go : (b : Bool) (ticket : Option Ticket) → when {L = language db} b (to_prepare u participant.site (option_map name_of ticket)) ≡ option_map (said db participant.site) (if b then option_map (order_of word.Prepare participant.sent) ticket else None)
       go false ticket = refl
       go true None = refl
       go true (Some k) = ap (λ n. Some (protocol.Prepare (name_of k) n)) sent

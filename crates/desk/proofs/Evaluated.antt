@@ -3,7 +3,6 @@ use Rattle.std.proofs.Common.{◌≡◌, refl, sym, ap, ◌∙◌, ℕ, List, []
 use Rattle.std.proofs.lemmas.List.{map-append}
 use Rattle.std.specs.List.{filter_map}
 use Rattle.std.specs.Option.{option_map}
-use Rattle.terms.specs.declared.leaf.Leaf.{Leaf}
 use Rattle.meaning.specs.declared.statement.Statement.{Statement}
 use Rattle.store.specs.declared.name.Txn.{Txn}
 use Rattle.protocol.specs.Desk as desk
@@ -19,8 +18,9 @@ use Rattle.desk.specs.declared.transaction.Undecided.{Undecided}
 use Rattle.desk.specs.declared.transaction.Unsent.{Unsent}
 use Rattle.desk.specs.declared.transaction.Writing.{Writing}
 use Rattle.desk.specs.Database.{Database, language, sent}
+use Rattle.desk.specs.Place.{Place}
 use Rattle.desk.specs.Opening.{HaveParticipants, opens, visits}
-use Rattle.desk.specs.Send.{UnsentAtHome, writes_go}
+use Rattle.desk.specs.Send.{writes_go}
 use Rattle.desk.specs.Transaction.{stage_of, undecided_of, write_of}
 use Rattle.desk.specs.Statement.{write_sites}
 use Rattle.desk.specs.Stepped.{IsProgress}
@@ -28,20 +28,20 @@ use Rattle.desk.specs.Transition.{AreParticipants, told, told_to}
 use Rattle.desk.proofs.SentLetters.{waiting_is, answered_is}
 use Rattle.desk.proofs.Opened.{kept_by_visits, opens_are, visited_now}
 
--- the leaves of writes, and their homes
-abbrev pub write_leaves : List Unsent → List Leaf
+-- the leaves of writes, at their sites
+abbrev pub write_leaves : List Unsent → List Place
 write_leaves ws = map (λ x. x.0) (map write_of ws)
 
-homes_are : (db : Database) (ws : List Unsent) → UnsentAtHome db ws → write_sites ws ≡ map db.home (write_leaves ws)
-homes_are db [] home = refl
-homes_are db (w ∷ ws) home = λ i. home.0 i ∷ homes_are db ws home.1 i
+homes_are : (ws : List Unsent) → write_sites ws ≡ map (λ g. g.0) (write_leaves ws)
+homes_are [] = refl
+homes_are (w ∷ ws) = ap (λ rest. w.site ∷ rest) (homes_are ws)
 
 -- the stage before says nothing of the one after
 writing_apart : (L : Lang) (t : Name) (v : desk.Undecided L) (st : desk.Stage L) (answer : L.Answer) (counts : L.Site → ℕ) (left : List (L.Leaf × L.Write)) (letters : List (protocol.Letter L)) → desk.writing t (record v { stage = st }) answer counts left letters ≡ desk.writing t v answer counts left letters
 writing_apart L t v st answer counts [] letters = refl
 writing_apart L t v st answer counts (x ∷ left) letters = refl
 
-module _ (db : Database) (txn : Txn) (u new : Undecided) (began : Writing) (s : Statement) (asks : List (desk.Ask (language db))) (are : AreParticipants db u.participants) (have : HaveParticipants u.participants (write_sites began.unsent.items)) (home : UnsentAtHome db began.unsent.items) (step : Progress)
+module _ (db : Database) (txn : Txn) (u new : Undecided) (began : Writing) (s : ℕ × Statement) (asks : List (desk.Ask (language db))) (are : AreParticipants db u.participants) (have : HaveParticipants u.participants (write_sites began.unsent.items)) (step : Progress)
     (participants_now : new.participants ≡ (writes_go txn began.unsent.items (visits (write_sites began.unsent.items) u.participants)).participants) (letters : step.letters.items ≡ opens txn (write_sites began.unsent.items) u.participants ++ (writes_go txn began.unsent.items (visits (write_sites began.unsent.items) u.participants)).letters) where
   abbrev ws : List Unsent
   ws = began.unsent.items
@@ -55,7 +55,7 @@ module _ (db : Database) (txn : Txn) (u new : Undecided) (began : Writing) (s : 
   -- after the Opens, apart from its stage
   opened_is : (st : Stage) → undecided_of db (record { participants = opened; stage = st }) ≡ record (desk.visits (undecided_of db u) (write_leaves ws)) { stage = stage_of db opened st }
   opened_is st = λ i. record {
-    visited = λ j. visited_now db txn u.participants are u.stage (write_leaves ws) (write_sites ws) (homes_are db ws home) have j i;
+    visited = λ j. visited_now db txn u.participants are u.stage (write_leaves ws) (write_sites ws) (homes_are ws) have j i;
     ticket = λ j. option_map name_of (kept_by_visits (write_sites ws) u.participants (λ x. x.ticket) (λ x. refl) j i);
     sent = λ j. kept_by_visits (write_sites ws) u.participants (λ x. x.sent) (λ x. refl) j i;
     stage = stage_of db opened st;
@@ -74,11 +74,11 @@ module _ (db : Database) (txn : Txn) (u new : Undecided) (began : Writing) (s : 
 
   all_letters : map (sent db) (writes_go txn ws opened).letters ≡ (goes (undecided_of db (record { participants = opened; stage = stage.Writing began }))).letters → map (sent db) step.letters.items ≡ at_work.letters
   all_letters out = ap (map (sent db)) letters ∙ map-append (sent db) (opens txn (write_sites ws) u.participants) (writes_go txn ws opened).letters
-      ∙ (λ i. opens_are db txn u.participants are u.stage (write_leaves ws) (write_sites ws) (homes_are db ws home) have i ++ (out ∙ ap (λ turn. turn.letters) goes_as) i)
+      ∙ (λ i. opens_are db txn u.participants are u.stage (write_leaves ws) (write_sites ws) (homes_are ws) have i ++ (out ∙ ap (λ turn. turn.letters) goes_as) i)
 
   pub works_waiting : (after : Writing) → after.answer ≡ began.answer → (first : Unsent) (rest : List Unsent) → after.unsent.items ≡ first ∷ rest → after.unsent.items ≡ (writes_go txn ws opened).left → new.stage ≡ stage.Writing after → step.reply ≡ None → IsProgress db txn new step at_work
   works_waiting after answer first rest some left now quiet =
-      let base = waiting_is db txn opened new.participants (writes_go txn ws opened).letters began home participants_now refl after answer first rest some left in
+      let base = waiting_is db txn opened new.participants (writes_go txn ws opened).letters began participants_now refl after answer first rest some left in
       record {
         stands = ap (λ x. desk.Known (undecided_of db (record { participants = new.participants; stage = x }))) now ∙ base.0 ∙ ap (λ turn. turn.txn) goes_as;
         letters = all_letters base.1;
@@ -87,7 +87,7 @@ module _ (db : Database) (txn : Txn) (u new : Undecided) (began : Writing) (s : 
 
   pub works_answered : [] ≡ (writes_go txn ws opened).left → new.stage ≡ stage.Idle → step.reply ≡ Some (reply.Answer began.answer) → IsProgress db txn new step at_work
   works_answered none now answers =
-      let base = answered_is db txn opened new.participants (writes_go txn ws opened).letters began home participants_now refl none in
+      let base = answered_is db txn opened new.participants (writes_go txn ws opened).letters began participants_now refl none in
       record {
         stands = ap (λ x. desk.Known (undecided_of db (record { participants = new.participants; stage = x }))) now ∙ base.0 ∙ ap (λ turn. turn.txn) goes_as;
         letters = all_letters base.1;

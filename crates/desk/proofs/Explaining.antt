@@ -1,5 +1,5 @@
 -- What a statement answers and writes, by rows that a whole database gives, is its meaning there.
-use Rattle.std.proofs.Common.{rules, ◌≡◌, inl, inr, refl, sym, ap, ◌∙◌, subst, Bool, true, false, ◌||◌, List, [], ◌∷◌, map, Option, Some, None, if◌then◌else◌}
+use Rattle.std.proofs.Common.{rules, ◌≡◌, inl, inr, refl, sym, ap, ◌∙◌, subst, ℕ, Bool, true, false, ◌||◌, List, [], ◌∷◌, map, Option, Some, None, if◌then◌else◌}
 use Rattle.std.specs.List.{AllByRecursion, cons_option}
 use Rattle.terms.specs.declared.cond.Cond.{Cond}
 use Rattle.terms.specs.declared.leaf.Leaf.{Leaf}
@@ -36,9 +36,10 @@ use Rattle.desk.specs.declared.transaction.Unsent.{Unsent}
 use Rattle.desk.specs.Fetches.{brought, brought_by}
 use Rattle.desk.specs.Database.{Database, language}
 use Rattle.desk.specs.OfCatalogue.{HasContent, IsOfCatalogue}
-use Rattle.desk.specs.Planned.{IsOfPlan, asked, fetched, unsent_from}
-use Rattle.desk.specs.Transaction.{ask_of, at_leaf, write_of}
-use Rattle.desk.proofs.AtHomes.{found_so, writes_are}
+use Rattle.desk.specs.Place.{Place, fetch_in, home_in, placed_in, write_in}
+use Rattle.desk.specs.Planned.{IsOfPlan, asked, unsent_from}
+use Rattle.desk.specs.Transaction.{ask_of, write_of}
+use Rattle.desk.proofs.AtHomes.{found_so, site_is, writes_are}
 use Rattle.desk.proofs.Located.{AreOf, IsEither, are_of, located, same_fetch}
 
 each_in : {A : Type 0} (Q : A → Type 0) (xs : List A) → ((x : A) → In x xs → Q x) → AllByRecursion Q xs
@@ -62,59 +63,63 @@ fetched_in (first ∷ fetches) fetch (inr there) = go (same_leaf first.leaf fetc
     go true is = refl
     go false is = is
 
-module _ (db : Database) (of : IsOfCatalogue db) (unique : LeafNamesAreUnique) (stated : Statement) (reduced : Reduced) (asks : List Ask) (planned : IsOfPlan db stated reduced asks) where
+module _ (db : Database) (of : IsOfCatalogue db) (n : ℕ) (unique : LeafNamesAreUnique) (stated : Statement) (reduced : Reduced) (asks : List Ask) (planned : IsOfPlan db n stated reduced asks) where
+  abbrev catalogue : Catalogue
+  catalogue = db.catalogue n
+
   abbrev all : List FragmentLeaf
-  all = catalogue_leaves db.catalogue
+  all = catalogue_leaves catalogue
 
   abbrev fetches : List Fetch
   fetches = reduced.fetches.items
 
   -- it is a statement of the catalogue's schema
-  pub stated_there : IsStatementOf (schemas_of db.catalogue) stated
-  stated_there = subst (λ schemas. IsStatementOf schemas stated) of.schemas planned.statement
+  pub stated_there : IsStatementOf (schemas_of catalogue) stated
+  stated_there = subst (λ schemas. IsStatementOf schemas stated) (of.schemas n) planned.statement
 
   pub known : AreOf all fetches
-  known = are_of db.catalogue unique of.formed stated fetches stated_there planned.fetches
+  known = are_of catalogue unique (of.formed n) stated fetches stated_there planned.fetches
 
-  module _ (whole : Relations) (fits : FitsSchema db.schemas whole) (gives : Gives {L = language db} whole (map (ask_of db) asks)) where
+  module _ (whole : Relations) (fits : FitsSchema db.schemas whole) (gives : Gives {L = language db} (n, whole) (map (ask_of db) asks)) where
     -- what a fetch is to bring
-    of_whole : (fetch : Fetch) → IsEither all known.need known.other fetch → parts fetch.conds (db.content fetch.leaf whole) ≡ plan.brought whole fetch (leaf_named fetch.leaf all)
+    of_whole : (fetch : Fetch) → IsEither all known.need known.other fetch → parts fetch.conds (db.content n (placed_in catalogue fetch.leaf) whole) ≡ plan.brought whole fetch (leaf_named fetch.leaf all)
     of_whole fetch is =
         let there = located all known.need known.other fetch is in
         let leaf = there.0 in
-        let found = found_so (HasContent db whole) (is_name_of fetch.leaf) all leaf (of.content whole fits) there.1 in
-        ap (λ (name : Leaf). parts fetch.conds (db.content name whole)) (sym (one_name leaf.name fetch.leaf found.1))
-        ∙ ap (met fetch.conds) found.0
+        let found = found_so (HasContent db n whole) (is_name_of fetch.leaf) all leaf (of.content n whole fits) there.1 in
+        let home = home_in catalogue fetch.leaf in
+        ap (λ (name : Leaf). parts fetch.conds (db.content n (home, name) whole)) (sym (one_name leaf.name fetch.leaf found.1))
+        ∙ ap (met fetch.conds) (found.0 home (site_is db of n fetch.leaf leaf there.1))
         ∙ sym (ap (plan.brought whole fetch) there.1)
 
     -- what was brought of a leaf that is among these
-    given_at : (asks : List Ask) (list : List Fetch) → map asked asks ≡ map fetched list → AllByRecursion (IsEither all known.need known.other) list → Gives {L = language db} whole (map (ask_of db) asks) →
-        (fetch : Fetch) → IsEither all known.need known.other fetch → is_fetched list fetch.leaf ≡ true → given (brought asks) fetch.leaf ≡ parts fetch.conds (db.content fetch.leaf whole)
+    given_at : (asks : List Ask) (list : List Fetch) → map asked asks ≡ map (fetch_in catalogue) list → AllByRecursion (IsEither all known.need known.other) list → Gives {L = language db} (n, whole) (map (ask_of db) asks) →
+        (fetch : Fetch) → IsEither all known.need known.other fetch → is_fetched list fetch.leaf ≡ true → given (brought asks) fetch.leaf ≡ parts fetch.conds (db.content n (placed_in catalogue fetch.leaf) whole)
     given_at [] [] same each gives fetch is there = cc
     given_at [] (first ∷ list) same each gives fetch is there = cc
     given_at (ask ∷ asks) [] same each gives fetch is there = cc
     given_at (ask ∷ asks) (first ∷ list) same each gives fetch is there =
-        let head : asked ask ≡ fetched first = cc in
-        let leaf : ask.leaf ≡ first.leaf = ap (λ (p : Leaf × List Cond). p.0) head in
-        let conds : ask.conds ≡ first.conds = ap (λ (p : Leaf × List Cond). p.1) head in
-        let rest : map asked asks ≡ map fetched list = cc in
-        go ask.rows gives.0 leaf conds (same_leaf ask.leaf fetch.leaf) refl (ap (λ (name : Leaf). same_leaf name fetch.leaf || is_fetched list fetch.leaf) leaf ∙ there) (given_at asks list rest each.1 gives.1 fetch is)
+        let head : asked ask ≡ fetch_in catalogue first = cc in
+        let place : (ask.site, ask.leaf) ≡ placed_in catalogue first.leaf = ap (λ (p : Place × List Cond). p.0) head in
+        let conds : ask.conds ≡ first.conds = ap (λ (p : Place × List Cond). p.1) head in
+        let rest : map asked asks ≡ map (fetch_in catalogue) list = cc in
+        go ask.rows gives.0 place conds (same_leaf ask.leaf fetch.leaf) refl (ap (λ (p : Place). same_leaf p.1 fetch.leaf || is_fetched list fetch.leaf) place ∙ there) (given_at asks list rest each.1 gives.1 fetch is)
       where
-        go : (rows : Option (List (List Value))) → rows ≡ Some (parts ask.conds (db.content ask.leaf whole)) → ask.leaf ≡ first.leaf → ask.conds ≡ first.conds → (b : Bool) → same_leaf ask.leaf fetch.leaf ≡ b → (same_leaf ask.leaf fetch.leaf || is_fetched list fetch.leaf) ≡ true →
-            (is_fetched list fetch.leaf ≡ true → given (brought asks) fetch.leaf ≡ parts fetch.conds (db.content fetch.leaf whole)) →
-            given (cons_option (brought_by (record ask { rows = rows })) (brought asks)) fetch.leaf ≡ parts fetch.conds (db.content fetch.leaf whole)
-        go None is_rows leaf conds b e there more = cc
-        go (Some rows) is_rows leaf conds true e there more =
+        go : (rows : Option (List (List Value))) → rows ≡ Some (parts ask.conds (db.content n (ask.site, ask.leaf) whole)) → (ask.site, ask.leaf) ≡ placed_in catalogue first.leaf → ask.conds ≡ first.conds → (b : Bool) → same_leaf ask.leaf fetch.leaf ≡ b → (same_leaf ask.leaf fetch.leaf || is_fetched list fetch.leaf) ≡ true →
+            (is_fetched list fetch.leaf ≡ true → given (brought asks) fetch.leaf ≡ parts fetch.conds (db.content n (placed_in catalogue fetch.leaf) whole)) →
+            given (cons_option (brought_by (record ask { rows = rows })) (brought asks)) fetch.leaf ≡ parts fetch.conds (db.content n (placed_in catalogue fetch.leaf) whole)
+        go None is_rows place conds b e there more = cc
+        go (Some rows) is_rows place conds true e there more =
             let name : ask.leaf ≡ fetch.leaf = one_name ask.leaf fetch.leaf e in
-            let one : first ≡ fetch = same_fetch all known.need known.other first fetch known.apart each.0 is (sym leaf ∙ name) in
-            let rows_are : rows ≡ parts ask.conds (db.content ask.leaf whole) = cc in
+            let one : first ≡ fetch = same_fetch all known.need known.other first fetch known.apart each.0 is (sym (ap (λ (p : Place). p.1) place) ∙ name) in
+            let rows_are : rows ≡ parts ask.conds (db.content n (ask.site, ask.leaf) whole) = cc in
             ap (λ b. if b then rows else given (brought asks) fetch.leaf) e
-            ∙ rows_are ∙ (λ i. parts (conds i) (db.content (leaf i) whole)) ∙ ap (λ (f : Fetch). parts f.conds (db.content f.leaf whole)) one
-        go (Some rows) is_rows leaf conds false e there more =
+            ∙ rows_are ∙ (λ i. parts (conds i) (db.content n (place i) whole)) ∙ ap (λ (f : Fetch). parts f.conds (db.content n (placed_in catalogue f.leaf) whole)) one
+        go (Some rows) is_rows place conds false e there more =
             ap (λ b. if b then rows else given (brought asks) fetch.leaf) e
             ∙ more (ap (λ b. b || is_fetched list fetch.leaf) (sym e) ∙ there)
 
-    pub are_brought : AreBrought db.catalogue whole fetches (given (brought asks))
+    pub are_brought : AreBrought catalogue whole fetches (given (brought asks))
     are_brought = each_in (λ read. given (brought asks) read.leaf ≡ plan.brought whole read (leaf_named read.leaf all)) fetches
         (λ fetch there.
         let is = of_in (IsEither all known.need known.other) fetches fetch known.each there in
@@ -122,35 +127,36 @@ module _ (db : Database) (of : IsOfCatalogue db) (unique : LeafNamesAreUnique) (
 
   -- the deed of the evaluation is explained
   pub explained : (t : Name) (answer : Answer) (list : List Write) →
-      ((whole : Relations) → FitsSchema (schemas_of db.catalogue) whole → AreBrought db.catalogue whole fetches (given (brought asks)) → answer ≡ (meaning stated whole).0) →
-      ((whole : Relations) → FitsSchema (schemas_of db.catalogue) whole → AreBrought db.catalogue whole fetches (given (brought asks)) → list ≡ writes_between db.catalogue whole (meaning stated whole).1) →
-      Explained {L = language db} (desk.Worked t stated (map (ask_of db) asks) (answer, map write_of (map (unsent_from db.catalogue) list)))
+      ((whole : Relations) → FitsSchema (schemas_of catalogue) whole → AreBrought catalogue whole fetches (given (brought asks)) → answer ≡ (meaning stated whole).0) →
+      ((whole : Relations) → FitsSchema (schemas_of catalogue) whole → AreBrought catalogue whole fetches (given (brought asks)) → list ≡ writes_between catalogue whole (meaning stated whole).1) →
+      Explained {L = language db} (desk.Worked t (n, stated) (map (ask_of db) asks) (answer, map write_of (map (unsent_from catalogue) list)))
   explained t answer list answers writes = (
     planned.statement,
     λ whole fits tag gives.
-        let there = subst (λ schemas. FitsSchema schemas whole) of.schemas fits in
-        let are = are_brought whole fits gives in (
-          answers whole there are,
-          writes_are db list ∙ ap (map at_leaf) (writes whole there are) ∙ sym (of.writes whole (meaning stated whole).1),
+        let there = subst (λ schemas. FitsSchema schemas whole.1) (of.schemas n) fits in
+        let are = are_brought whole.1 fits (subst (λ (m : ℕ). Gives {L = language db} (m, whole.1) (map (ask_of db) asks)) (sym tag) gives) in
+        let after = (meaning stated whole.1).1 in (
+          answers whole.1 there are,
+          writes_are catalogue list ∙ ap (map (write_in catalogue)) (writes whole.1 there are) ∙ sym (of.writes n whole.1 after) ∙ ap (λ (m : ℕ). db.writes m whole.1 after) tag,
         ),
   )
 
 -- so, where the catalogue, the rows and the writes go by other names
-pub explained_of : (db : Database) → IsOfCatalogue db → LeafNamesAreUnique → (stated : Statement) (reduced : Reduced) (asks : List Ask) → IsOfPlan db stated reduced asks → (t : Name) (answer : Answer) (list : List Write) (catalogue : Catalogue) → db.catalogue ≡ catalogue →
+pub explained_of : (db : Database) → IsOfCatalogue db → (n : ℕ) → LeafNamesAreUnique → (stated : Statement) (reduced : Reduced) (asks : List Ask) → IsOfPlan db n stated reduced asks → (t : Name) (answer : Answer) (list : List Write) (catalogue : Catalogue) → db.catalogue n ≡ catalogue →
     (rows : List FetchRows) → rows ≡ brought asks → (unsent : List Unsent) → unsent ≡ map (unsent_from catalogue) list →
     (IsStatementOf (schemas_of catalogue) stated → AreFetchesOf catalogue stated reduced.fetches.items → FindsAll catalogue stated reduced.fetches.items (shape reduced.plan) → (whole : Relations) → FitsSchema (schemas_of catalogue) whole → AreBrought catalogue whole reduced.fetches.items (given rows) → answer ≡ (meaning stated whole).0) →
     (IsStatementOf (schemas_of catalogue) stated → AreFetchesOf catalogue stated reduced.fetches.items → FindsAll catalogue stated reduced.fetches.items (shape reduced.plan) → (whole : Relations) → FitsSchema (schemas_of catalogue) whole → AreBrought catalogue whole reduced.fetches.items (given rows) → list ≡ writes_between catalogue whole (meaning stated whole).1) →
-    Explained {L = language db} (desk.Worked t stated (map (ask_of db) asks) (answer, map write_of unsent))
-explained_of db of unique stated reduced asks planned t answer list catalogue same rows rows_are unsent unsent_are answers writes =
-    subst (λ us. Explained {L = language db} (desk.Worked t stated (map (ask_of db) asks) (answer, map write_of us))) (sym unsent_are)
-    (subst (λ cat. Explained {L = language db} (desk.Worked t stated (map (ask_of db) asks) (answer, map write_of (map (unsent_from cat) list)))) same
-    (explained db of unique stated reduced asks planned t answer list
+    Explained {L = language db} (desk.Worked t (n, stated) (map (ask_of db) asks) (answer, map write_of unsent))
+explained_of db of n unique stated reduced asks planned t answer list catalogue same rows rows_are unsent unsent_are answers writes =
+    subst (λ us. Explained {L = language db} (desk.Worked t (n, stated) (map (ask_of db) asks) (answer, map write_of us))) (sym unsent_are)
+    (subst (λ cat. Explained {L = language db} (desk.Worked t (n, stated) (map (ask_of db) asks) (answer, map write_of (map (unsent_from cat) list)))) same
+    (explained db of n unique stated reduced asks planned t answer list
     (λ whole fits are. answers of_statement of_fetches of_finds whole (subst (λ cat. FitsSchema (schemas_of cat) whole) same fits) (brought_there whole are))
     (λ whole fits are. writes of_statement of_fetches of_finds whole (subst (λ cat. FitsSchema (schemas_of cat) whole) same fits) (brought_there whole are)
     ∙ sym (ap (λ cat. writes_between cat whole (meaning stated whole).1) same))))
   where
     of_statement : IsStatementOf (schemas_of catalogue) stated
-    of_statement = subst (λ cat. IsStatementOf (schemas_of cat) stated) same (stated_there db of unique stated reduced asks planned)
+    of_statement = subst (λ cat. IsStatementOf (schemas_of cat) stated) same (stated_there db of n unique stated reduced asks planned)
 
     of_fetches : AreFetchesOf catalogue stated reduced.fetches.items
     of_fetches = subst (λ cat. AreFetchesOf cat stated reduced.fetches.items) same planned.fetches
@@ -158,5 +164,5 @@ explained_of db of unique stated reduced asks planned t answer list catalogue sa
     of_finds : FindsAll catalogue stated reduced.fetches.items (shape reduced.plan)
     of_finds = subst (λ cat. FindsAll cat stated reduced.fetches.items (shape reduced.plan)) same planned.finds
 
-    brought_there : (whole : Relations) → AreBrought db.catalogue whole reduced.fetches.items (given (brought asks)) → AreBrought catalogue whole reduced.fetches.items (given rows)
+    brought_there : (whole : Relations) → AreBrought (db.catalogue n) whole reduced.fetches.items (given (brought asks)) → AreBrought catalogue whole reduced.fetches.items (given rows)
     brought_there whole are = subst (λ r. AreBrought catalogue whole reduced.fetches.items (given r)) (sym rows_are) (subst (λ cat. AreBrought cat whole reduced.fetches.items (given (brought asks))) same are)

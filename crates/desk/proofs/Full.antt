@@ -48,32 +48,32 @@ explained_as : {L : Lang} (one other : desk.Transition L) → one ≡ other → 
 explained_as one other same why = subst (λ turn. AllExplained turn.deeds) (sym same) why
 
 -- ---- a statement is stated
-module _ (db : Database) (of : IsOfCatalogue db) (txn : Txn) (u : Undecided) (idle : u.stage ≡ stage.Idle) (stated : Statement) (plan : Reduced) (list : List Ask) (of_plan : IsOfPlan db stated plan list) (same : list ≡ map (ask_from db.catalogue) plan.fetches.items) where
+module _ (db : Database) (of : IsOfCatalogue db) (n : ℕ) (txn : Txn) (u : Undecided) (idle : u.stage ≡ stage.Idle) (stated : Statement) (plan : Reduced) (list : List Ask) (of_plan : IsOfPlan db n stated plan list) (same : list ≡ map (ask_from (db.catalogue n)) plan.fetches.items) where
   abbrev stating : desk.Choice (language db) → desk.Transition (language db)
-  stating choice = desk.on_request (txn_name txn) choice (desk.State stated) (desk.Known (undecided_of db u))
+  stating choice = desk.on_request (txn_name txn) choice (desk.State (n, stated)) (desk.Known (undecided_of db u))
 
   abbrev begun : desk.Choice (language db) → List (desk.Ask (language db)) → desk.Transition (language db)
-  begun choice asks = desk.after_deed (desk.Stated (txn_name txn) stated) (desk.states (txn_name txn) (undecided_of db u) stated asks choice)
+  begun choice asks = desk.after_deed (desk.Stated (txn_name txn) (n, stated)) (desk.states (txn_name txn) (undecided_of db u) (n, stated) asks choice)
 
   stating_is : (choice : desk.Choice (language db)) (asks : List Ask) → list ≡ asks → stating choice ≡ begun choice (map (ask_of db) asks)
   stating_is choice asks is =
-      wanted_is db of txn u idle stated plan (subst (IsOfPlan db stated plan) same of_plan) choice ∙ ap (λ (asks : List Ask). begun choice (map (ask_of db) asks)) (sym same ∙ is)
+      wanted_is db of n txn u idle stated plan (subst (IsOfPlan db n stated plan) same of_plan) choice ∙ ap (λ (asks : List Ask). begun choice (map (ask_of db) asks)) (sym same ∙ is)
 
   -- without fetches
-  pub once_long : list ≡ [] → (told : Answer) (unsent : List Unsent) → Explained {L = language db} (desk.Worked (txn_name txn) stated (map (ask_of db) list) (told, map write_of unsent)) →
-      ((others : List (desk.Ask (language db))) → desk.is_short_txn (desk.works (txn_name txn) (undecided_of db u) stated others (told, map write_of unsent)).txn ≡ false) → IsLong db stating
+  pub once_long : list ≡ [] → (told : Answer) (unsent : List Unsent) → Explained {L = language db} (desk.Worked (txn_name txn) (n, stated) (map (ask_of db) list) (told, map write_of unsent)) →
+      ((others : List (desk.Ask (language db))) → desk.is_short_txn (desk.works (txn_name txn) (undecided_of db u) (n, stated) others (told, map write_of unsent)).txn ≡ false) → IsLong db stating
   once_long none told unsent why long =
       let choice : desk.Choice (language db) = (told, map write_of unsent) in
       let turn = stating_is choice [] none in
       record {
         choice = choice;
         explained = explained_as (stating choice) (begun choice []) turn
-            (tt, (subst (λ (asks : List Ask). Explained {L = language db} (desk.Worked (txn_name txn) stated (map (ask_of db) asks) choice)) none why, writes_explained (language db) (txn_name txn) (desk.visits (undecided_of db u) (map (λ w. w.0) choice.1)) told choice.1));
+            (tt, (subst (λ (asks : List Ask). Explained {L = language db} (desk.Worked (txn_name txn) (n, stated) (map (ask_of db) asks) choice)) none why, writes_explained (language db) (txn_name txn) (desk.visits (undecided_of db u) (map (λ w. w.0) choice.1)) told choice.1));
         long = long_as (stating choice) (begun choice []) turn (long []);
       }
 
   -- with fetches
-  pub reads_long : nat_eq (length list) 0 ≡ false → ((choice : desk.Choice (language db)) (first : Ask) (rest : List Ask) → list ≡ first ∷ rest → desk.is_short_txn (desk.states (txn_name txn) (undecided_of db u) stated (map (ask_of db) list) choice).txn ≡ false) → IsLong db stating
+  pub reads_long : nat_eq (length list) 0 ≡ false → ((choice : desk.Choice (language db)) (first : Ask) (rest : List Ask) → list ≡ first ∷ rest → desk.is_short_txn (desk.states (txn_name txn) (undecided_of db u) (n, stated) (map (ask_of db) list) choice).txn ≡ false) → IsLong db stating
   reads_long some long = at list (λ i. list)
     where
       choice : desk.Choice (language db)
@@ -86,37 +86,37 @@ module _ (db : Database) (of : IsOfCatalogue db) (txn : Txn) (u : Undecided) (id
           record {
             choice = choice;
             explained = explained_as (stating choice) (begun choice (map (ask_of db) (first ∷ rest))) turn (tt, tt);
-            long = long_as (stating choice) (begun choice (map (ask_of db) (first ∷ rest))) turn (subst (λ (asks : List Ask). desk.is_short_txn (desk.states (txn_name txn) (undecided_of db u) stated (map (ask_of db) asks) choice).txn ≡ false) e (long choice first rest e));
+            long = long_as (stating choice) (begun choice (map (ask_of db) (first ∷ rest))) turn (subst (λ (asks : List Ask). desk.is_short_txn (desk.states (txn_name txn) (undecided_of db u) (n, stated) (map (ask_of db) asks) choice).txn ≡ false) e (long choice first rest e));
           }
 
 -- ---- a first ticket comes
-pub ticket_long : (db : Database) (txn : Txn) (u : Undecided) (site : List ℕ) (ticket : Ticket) → (participant_in site u.participants).ticket ≡ None → list_any (is_at site) u.participants ≡ true → IsIn db (standing.Undecided u) →
-    IsPast (goes_to txn (map (changed_at site (with_ticket (Some ticket))) u.participants) u.stage) → IsLong db (λ choice. desk.on_known {L = language db} (txn_name txn) (undecided_of db u) site true choice (replied db (replies.Ticket ticket)))
-ticket_long db txn u site ticket none there known past =
+pub ticket_long : (db : Database) (n : ℕ) (txn : Txn) (u : Undecided) (site : List ℕ) (ticket : Ticket) → (participant_in site u.participants).ticket ≡ None → list_any (is_at site) u.participants ≡ true → IsIn db n (standing.Undecided u) →
+    IsPast (goes_to txn (map (changed_at site (with_ticket (Some ticket))) u.participants) u.stage) → IsLong db (λ choice. desk.on_known {L = language db} (txn_name txn) (undecided_of db u) site true choice (replied db site (replies.Ticket ticket)))
+ticket_long db n txn u site ticket none there known past =
     let choice : desk.Choice (language db) = (answer.Changed 0, []) in
-    let came = desk.on_known {L = language db} (txn_name txn) (undecided_of db u) site true choice (replied db (replies.Ticket ticket)) in
+    let came = desk.on_known {L = language db} (txn_name txn) (undecided_of db u) site true choice (replied db site (replies.Ticket ticket)) in
     let goes = desk.ticket_goes {L = language db} (txn_name txn) (ticketed db u site ticket) choice (stage_of db u.participants u.stage) in
     let turn : came ≡ goes = ap (λ (o : Option Ticket). desk.on_ticket {L = language db} (txn_name txn) (undecided_of db u) site (name_of ticket) choice (option_map name_of o)) none in
     record {
       choice = choice;
       explained = explained_as came goes turn (ticket_explained (language db) (txn_name txn) (ticketed db u site ticket) choice (stage_of db u.participants u.stage));
-      long = long_as came goes turn (ticket_past db txn u site ticket there known.0 known.1 past choice);
+      long = long_as came goes turn (ticket_past db txn u site ticket there known.0 past choice);
     }
 
 -- ---- rows come that complete a statement
-pub rows_long : (db : Database) (txn : Txn) (u : Undecided) (site : List ℕ) (rows : Rows) (of : IsOfCatalogue db) (unique : LeafNamesAreUnique) (reading : Reading) (here : u.stage ≡ stage.Reading reading) (first : is_first rows.ticket (participant_in site u.participants).ticket ≡ true) (known_in : IsIn db (standing.Undecided u)) →
-    (list : List Ask) → list ≡ map (with_rows db.catalogue site rows.op rows.parts) reading.asks.items → are_in list ≡ true → (told : Answer) (unsent : List Unsent) → Explained {L = language db} (desk.Worked (txn_name txn) reading.statement (map (ask_of db) list) (told, map write_of unsent)) →
-    desk.is_short_txn (desk.works (txn_name txn) (undecided_of db u) reading.statement (map (ask_of db) list) (told, map write_of unsent)).txn ≡ false →
-    IsLong db (λ choice. desk.on_known {L = language db} (txn_name txn) (undecided_of db u) site true choice (replied db (replies.Rows rows)))
-rows_long db txn u site rows of unique reading here first known_in list same all told unsent why long =
+pub rows_long : (db : Database) (n : ℕ) (txn : Txn) (u : Undecided) (site : List ℕ) (rows : Rows) (of : IsOfCatalogue db) (unique : LeafNamesAreUnique) (reading : Reading) (here : u.stage ≡ stage.Reading reading) (first : is_first rows.ticket (participant_in site u.participants).ticket ≡ true) (known_in : IsIn db n (standing.Undecided u)) →
+    (list : List Ask) → list ≡ map (with_rows (db.catalogue n) site rows.op rows.parts) reading.asks.items → are_in list ≡ true → (told : Answer) (unsent : List Unsent) → Explained {L = language db} (desk.Worked (txn_name txn) (n, reading.statement) (map (ask_of db) list) (told, map write_of unsent)) →
+    desk.is_short_txn (desk.works (txn_name txn) (undecided_of db u) (n, reading.statement) (map (ask_of db) list) (told, map write_of unsent)).txn ≡ false →
+    IsLong db (λ choice. desk.on_known {L = language db} (txn_name txn) (undecided_of db u) site true choice (replied db site (replies.Rows rows)))
+rows_long db n txn u site rows of unique reading here first known_in list same all told unsent why long =
     let choice : desk.Choice (language db) = (told, map write_of unsent) in
-    let given = map (with_rows db.catalogue site rows.op rows.parts) reading.asks.items in
-    let came = desk.on_known {L = language db} (txn_name txn) (undecided_of db u) site true choice (replied db (replies.Rows rows)) in
-    let works = desk.works {L = language db} (txn_name txn) (undecided_of db u) reading.statement (map (ask_of db) list) choice in
-    let go : Bool → desk.Transition (language db) = λ b. if b then desk.works {L = language db} (txn_name txn) (undecided_of db u) reading.statement (map (ask_of db) given) choice else desk.stays (desk.Known (record (undecided_of db u) { stage = desk.Reading reading.statement (map (ask_of db) given) })) in
+    let given = map (with_rows (db.catalogue n) site rows.op rows.parts) reading.asks.items in
+    let came = desk.on_known {L = language db} (txn_name txn) (undecided_of db u) site true choice (replied db site (replies.Rows rows)) in
+    let works = desk.works {L = language db} (txn_name txn) (undecided_of db u) (n, reading.statement) (map (ask_of db) list) choice in
+    let go : Bool → desk.Transition (language db) = λ b. if b then desk.works {L = language db} (txn_name txn) (undecided_of db u) (n, reading.statement) (map (ask_of db) given) choice else desk.stays (desk.Known (record (undecided_of db u) { stage = desk.Reading (n, reading.statement) (map (ask_of db) given) })) in
     let turn : came ≡ works =
-    turn_is db txn u site rows of unique reading here first known_in choice ∙ ap go (all_in db given ∙ sym (ap are_in same) ∙ all)
-    ∙ ap (λ (asks : List Ask). desk.works {L = language db} (txn_name txn) (undecided_of db u) reading.statement (map (ask_of db) asks) choice) (sym same) in
+    turn_is db n txn u site rows of unique reading here first known_in choice ∙ ap go (all_in db given ∙ sym (ap are_in same) ∙ all)
+    ∙ ap (λ (asks : List Ask). desk.works {L = language db} (txn_name txn) (undecided_of db u) (n, reading.statement) (map (ask_of db) asks) choice) (sym same) in
     record {
       choice = choice;
       explained = explained_as came works turn (why, writes_explained (language db) (txn_name txn) (desk.visits (undecided_of db u) (map (λ w. w.0) choice.1)) told choice.1);

@@ -103,7 +103,7 @@ goes_on_not first (reply.Inquire k) = true
 
 module _ (db : Database) (t : Name) (a : List ℕ) (kept : Bool) (choice : desk.Choice (language db)) where
   abbrev came : Reply → desk.Txn (language db) → desk.Transition (language db)
-  came said x = desk.on_desk_letter {L = language db} t a kept choice (replied db said) x
+  came said x = desk.on_desk_letter {L = language db} t a kept choice (replied db a said) x
 
   shut_ack : (voters acked : List (List ℕ × Name)) (v : List ℕ × Name) → IsShut {L = language db} (desk.on_ack {L = language db} voters acked v kept).txn
   shut_ack voters acked v =

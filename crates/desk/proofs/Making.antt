@@ -53,11 +53,11 @@ is_at db kept table distinct fits txn = go (table.standing txn) refl
     go (Some (standing.Committed c)) e = fits.sites txn (standing.Committed c) e
 
 -- a transaction in its first phase sends nothing more
-is_in : (db : Database) (a : After) → AtSites db.sites a → IsInAfter db a
-is_in db Stays sites = tt
-is_in db Ends sites = tt
-is_in db (Becomes (standing.Undecided u)) sites = (sites.0, subst (IsAtHome db) (sym sites.1) tt, subst (IsPlanned db) (sym sites.1) tt)
-is_in db (Becomes (standing.Committed c)) sites = sites
+is_in : (db : Database) (n : ℕ) (a : After) → AtSites db.sites a → IsInAfter db n a
+is_in db n Stays sites = tt
+is_in db n Ends sites = tt
+is_in db n (Becomes (standing.Undecided u)) sites = (sites.0, subst (IsAtHome db) (sym sites.1) tt, subst (IsPlanned db n) (sym sites.1) tt)
+is_in db n (Becomes (standing.Committed c)) sites = sites
 
 -- ---- where nothing changes in memory
 module _ (db : Database) (kept new : DeskContent) (table : VolatileState) (fits : Fits db kept table) (k : Txn) where
@@ -108,7 +108,7 @@ module _ (db : Database) (kept new : DeskContent) (volatile : Volatile) (sorted 
     pub moved : (now : TxnState) → before.standing k ≡ Some now → table ≡ volatile_from (settled k turn.after volatile.standings.entries) (if is_open (Some now) && closes turn.after then volatile.undecided - 1 else volatile.undecided) volatile.life volatile.number volatile.version
     pub still : turn.after ≡ Stays → table ≡ before
 
-  module _ (turn : Transition) (wanted : desk.Transition (language db)) (is : IsTransition db k (before.standing k) turn wanted) (sites : IsInAfter db turn.after) (keeps : Keeps k (kept_voters (after_of (before.standing k) turn.after)) kept new)
+  module _ (turn : Transition) (wanted : desk.Transition (language db)) (is : IsTransition db k (before.standing k) turn wanted) (sites : IsInAfter db before.version turn.after) (keeps : Keeps k (kept_voters (after_of (before.standing k) turn.after)) kept new)
       (short : desk.is_short_txn wanted.txn ≡ true) (shut : desk.is_undecided (txn_of db (before.standing k)) ≡ false → desk.is_undecided wanted.txn ≡ false)
       (some : (is_some (before.standing k) ≡ true) ⊎ (turn.after ≡ Stays)) (table : VolatileState) (made : IsSettled turn table) where
     abbrev FitsSo : VolatileState → Type 0
@@ -165,7 +165,7 @@ module _ (db : Database) (kept : DeskContent) (volatile : Volatile) (sorted : Is
       Steps db (volatile_of volatile) kept table k wanted written heard
   asks is sites keeps short some table made written heard letters replies =
       let at = is_at db kept (volatile_of volatile) distinct fits k in
-      makes db kept kept volatile sorted fits k turn wanted (is at) (is_in db turn.after (sites at))
+      makes db kept kept volatile sorted fits k turn wanted (is at) (is_in db volatile.version turn.after (sites at))
       (keeps_same k (kept_voters (after_of o turn.after)) kept kept (sym (fits.rows k) ∙ sym keeps) (unchanged kept))
       (short (fits.short k)) (shut_request (txn_name k) choice request (txn_of db o)) some table made written heard letters replies
 
@@ -176,7 +176,7 @@ module _ (db : Database) (kept new : DeskContent) (volatile : Volatile) (sorted 
   stood = (volatile_of volatile).standing k
 
   abbrev coming : Bool → desk.Transition (language db)
-  coming was = desk.on_desk_letter {L = language db} (txn_name k) a was choice (replied db said) (txn_of db stood)
+  coming was = desk.on_desk_letter {L = language db} (txn_name k) a was choice (replied db a said) (txn_of db stood)
 
   pub takes : may_send stood a said ≡ false → (IsAt db stood → IsTransition db k stood turn (coming turn.kept)) → (IsAt db stood → AtSites db.sites turn.after) →
       (IsAt db stood → kept.commits k ≡ kept_voters stood → Keeps k (kept_voters (after_of stood turn.after)) kept new) → (is_some stood ≡ true) ⊎ (turn.after ≡ Stays) →
@@ -185,7 +185,7 @@ module _ (db : Database) (kept new : DeskContent) (volatile : Volatile) (sorted 
   takes rests is sites keeps some table made written heard was letters replies was_is =
       let at = is_at db kept (volatile_of volatile) distinct fits k in
       subst (λ b. Steps db (volatile_of volatile) new table k (coming b) written heard) (sym was_is)
-      (makes db kept new volatile sorted fits k turn (coming turn.kept) (is at) (is_in db turn.after (sites at)) (keeps at (sym (fits.rows k)))
+      (makes db kept new volatile sorted fits k turn (coming turn.kept) (is at) (is_in db volatile.version turn.after (sites at)) (keeps at (sym (fits.rows k)))
       (short_came db (txn_name k) a turn.kept choice stood said rests (fits.short k)) (shut_came db (txn_name k) a turn.kept choice said (txn_of db stood))
       some table made written heard letters replies)
 
@@ -201,7 +201,7 @@ module _ (db : Database) (kept : DeskContent) (volatile : Volatile) (sorted : Is
   never false = refl
 
   pub goes_on : (wanted : desk.Transition (language db)) (out : Vec Letter Global) (reply : Option Reply) → desk.Known (undecided_of db new) ≡ wanted.txn → map (sent db) out.items ≡ wanted.letters → told_to (txn_name k) reply ≡ filter_map (told db) wanted.deeds →
-      IsIn db (standing.Undecided new) → desk.is_short_txn wanted.txn ≡ true → (table : VolatileState) → table ≡ gone_on → (written : List Letter) (heard : List Notice) → written ≡ out.items → heard ≡ notices k reply →
+      IsIn db volatile.version (standing.Undecided new) → desk.is_short_txn wanted.txn ≡ true → (table : VolatileState) → table ≡ gone_on → (written : List Letter) (heard : List Notice) → written ≡ out.items → heard ≡ notices k reply →
       Steps db (volatile_of volatile) kept table k wanted written heard
   goes_on wanted out reply stands letters replies sites short table table_is written heard written_is heard_is =
       let turn : Transition = record { after = Becomes (standing.Undecided new); letters = out; reply = reply; kept = true } in

@@ -3,7 +3,6 @@ use Rattle.std.proofs.Common.{◌≡◌, refl, sym, ap, ◌∙◌, subst, ℕ, n
 use Rattle.std.specs.Cmp.Lexicographic.{pointwise}
 use Rattle.std.specs.List.{list_any}
 use Rattle.std.specs.Option.{option_map}
-use Rattle.terms.specs.declared.leaf.Leaf.{Leaf}
 use Rattle.store.specs.declared.name.Txn.{Txn}
 use Rattle.store.specs.declared.order.Order.TheVariants as order
 use Rattle.protocol.specs.Desk as desk
@@ -15,6 +14,7 @@ use Rattle.desk.specs.declared.transaction.Stage.{Stage}
 use Rattle.desk.specs.Database.{Database, language, sent}
 use Rattle.desk.specs.Opening.{is_new, open_at, opens, visited, visits, HaveParticipants}
 use Rattle.desk.specs.Participants.{is_at, nowhere, participant_in}
+use Rattle.desk.specs.Place.{Place}
 use Rattle.desk.specs.Transaction.{undecided_of}
 use Rattle.desk.specs.Transition.{AreParticipants}
 use Rattle.desk.proofs.Participants.{at_home, orders_all, said, text_is}
@@ -73,23 +73,23 @@ kept_by_visits sites (s ∷ participants) view same j = go (is_at j s) (kept_by_
     go true rest = same s
     go false rest = rest
 
-module _ (db : Database) (txn : Txn) (participants : List Participant) (are : AreParticipants db participants) (stage : Stage) (leaves : List Leaf) (sites : List (List ℕ)) (homes : sites ≡ map db.home leaves) (have : HaveParticipants participants sites) where
+module _ (db : Database) (txn : Txn) (participants : List Participant) (are : AreParticipants db participants) (stage : Stage) (leaves : List Place) (sites : List (List ℕ)) (homes : sites ≡ map (λ g. g.0) leaves) (have : HaveParticipants participants sites) where
   abbrev u : desk.Undecided (language db)
   u = undecided_of db (record { participants = participants; stage = stage })
 
-  among : (j : List ℕ) → list_any (λ site. pointwise nat_eq site j) sites ≡ list_any (λ g. pointwise nat_eq (db.home g) j) leaves
-  among j = ap (list_any (λ site. pointwise nat_eq site j)) homes ∙ any_mapped (λ site. pointwise nat_eq site j) db.home leaves
+  among : (j : List ℕ) → list_any (λ site. pointwise nat_eq site j) sites ≡ list_any (λ g. pointwise nat_eq g.0 j) leaves
+  among j = ap (list_any (λ site. pointwise nat_eq site j)) homes ∙ any_mapped (λ site. pointwise nat_eq site j) (λ g. g.0) leaves
 
   new_here : (participant : Participant) → In participant participants → desk.is_new u leaves participant.site ≡ is_new sites participant
   new_here participant here = λ i. not (at_home participants are.distinct participant here i).visited && sym (among participant.site) i
 
   pub opens_are : map (sent db) (opens txn sites participants) ≡ desk.opens (txn_name txn) u leaves
-  opens_are = orders_all db txn (open_at sites) (λ a. desk.opening (desk.is_new u leaves a)) participants (λ participant here. ap desk.opening (new_here participant here) ∙ opened (is_new sites participant))
+  opens_are = orders_all db txn (open_at sites) (λ a. desk.opening (desk.is_new u leaves a)) participants (λ participant here. ap desk.opening (new_here participant here) ∙ opened participant.site (is_new sites participant))
       ∙ ap (protocol.letters_to {L = language db} (txn_name txn) (λ a. desk.opening (desk.is_new u leaves a))) are.sites
     where
-      opened : (b : Bool) → desk.opening {L = language db} b ≡ option_map (said db) (if b then Some order.Open else None)
-      opened true = refl
-      opened false = refl
+      opened : (site : List ℕ) (b : Bool) → desk.opening {L = language db} b ≡ option_map (said db site) (if b then Some order.Open else None)
+      opened site true = refl
+      opened site false = refl
 
   -- who is visited after it
   pub visited_now : (j : List ℕ) → (participant_in j (visits sites participants)).visited ≡ (u.visited j || desk.is_new u leaves j)
@@ -98,10 +98,10 @@ module _ (db : Database) (txn : Txn) (participants : List Participant) (are : Ar
       go : (b : Bool) → list_any (is_at j) participants ≡ b → (participant_in j (visits sites participants)).visited ≡ (u.visited j || desk.is_new u leaves j)
       go true there = ap (λ s. s.visited) (volatile (visited sites) (λ s. refl) j participants there) ∙ (λ i. (participant_in j participants).visited || (not (participant_in j participants).visited && at_site i))
         where
-          at_site : list_any (λ site. pointwise nat_eq site (participant_in j participants).site) sites ≡ list_any (λ g. pointwise nat_eq (db.home g) j) leaves
+          at_site : list_any (λ site. pointwise nat_eq site (participant_in j participants).site) sites ≡ list_any (λ g. pointwise nat_eq g.0 j) leaves
           at_site = ap (λ x. list_any (λ site. pointwise nat_eq site x) sites) (site_is j participants there) ∙ among j
-      go false gone = ap (λ s. s.visited) (absent j (visits sites participants) (still_absent (visited sites) (λ s. refl) j participants ∙ gone)) ∙ sym (ap (λ s. s.visited || (not s.visited && list_any (λ g. pointwise nat_eq (db.home g) j) leaves)) (absent j participants gone) ∙ none (list_any (λ g. pointwise nat_eq (db.home g) j) leaves) refl)
+      go false gone = ap (λ s. s.visited) (absent j (visits sites participants) (still_absent (visited sites) (λ s. refl) j participants ∙ gone)) ∙ sym (ap (λ s. s.visited || (not s.visited && list_any (λ g. pointwise nat_eq g.0 j) leaves)) (absent j participants gone) ∙ none (list_any (λ g. pointwise nat_eq g.0 j) leaves) refl)
         where
-          none : (b : Bool) → list_any (λ g. pointwise nat_eq (db.home g) j) leaves ≡ b → b ≡ false
+          none : (b : Bool) → list_any (λ g. pointwise nat_eq g.0 j) leaves ≡ b → b ≡ false
           none true e = let f : true ≡ false = sym (participant_of_one participants sites j have (among j ∙ e)) ∙ gone in cc
           none false e = refl

@@ -7,14 +7,14 @@ use Rattle.store.specs.declared.name.Ticket.{Ticket}
 use Rattle.store.specs.declared.name.Txn.{Txn}
 use Rattle.protocol.specs.Desk as desk
 use Rattle.protocol.specs.Language.{Name, put}
-use Rattle.protocol.specs.Letter as protocol
-use Rattle.protocol.specs.Letters.{name_of, leaf_of, at_key, txn_name}
+use Rattle.protocol.specs.Letters.{name_of, txn_name}
 use Rattle.protocol.proofs.Basics.{either}
 use Rattle.desk.specs.declared.fetches.Ask.{Ask}
 use Rattle.desk.specs.declared.participant.Participant.{Participant}
 use Rattle.desk.specs.declared.transaction.Unsent.{Unsent}
 use Rattle.desk.specs.Database.{Database, language, sent}
-use Rattle.desk.specs.Send.{Sent, next_number, with_count, with_numbers, numbered, waits_in, one_more, ask_goes, asks_go, write_goes, writes_go, AsksAtHome, UnsentAtHome}
+use Rattle.desk.specs.Send.{Sent, fetch_order, next_number, with_count, with_numbers, numbered, waits_in, one_more, ask_goes, asks_go, write_goes, write_order, writes_go}
+use Rattle.desk.specs.Orders.{ordered}
 use Rattle.desk.specs.Participants.{is_at, sites_of, participant_in}
 use Rattle.desk.specs.Transaction.{ask_of, write_of}
 use Rattle.desk.proofs.Changed.{same_sites, participant_changed, changed_site}
@@ -80,12 +80,11 @@ module _ (db : Database) (txn : Txn) (ticket : List ℕ → Option Name) where
   still_ticket old new same is j = is j ∙ ap (option_map name_of) (sym (same.ticket j))
 
   -- ---- fetches
-  pub asks_same : (asks : List Ask) (participants : List Participant) → IsTicket participants → AsksAtHome db asks → SameOut db (ask_of db) participants (asks_go txn asks participants) (desk.asks_out {L = language db} (txn_name txn) ticket (map (ask_of db) asks) (counts_in participants))
-  asks_same [] participants is home = record { left = refl; counts = refl; letters = refl; same = same_but participants }
-  asks_same (ask ∷ asks) participants is home =
+  pub asks_same : (asks : List Ask) (participants : List Participant) → IsTicket participants → SameOut db (ask_of db) participants (asks_go txn asks participants) (desk.asks_out {L = language db} (txn_name txn) ticket (map (ask_of db) asks) (counts_in participants))
+  asks_same [] participants is = record { left = refl; counts = refl; letters = refl; same = same_but participants }
+  asks_same (ask ∷ asks) participants is =
       subst (λ k. SameOut db (ask_of db) participants (asks_go txn (ask ∷ asks) participants) (desk.ask_out {L = language db} (txn_name txn) (ask_of db ask) ask.number k (counts_in participants) (desk.asks_out {L = language db} (txn_name txn) ticket (map (ask_of db) asks))))
-      (sym (is (db.home ask.leaf) ∙ ap (λ j. option_map name_of (participant_in j participants).ticket) (sym home.0)))
-      (go (λ now is. asks_same asks now is home.1) ask.number (participant_in ask.site participants).ticket refl)
+      (sym (is ask.site)) (go (λ now is. asks_same asks now is) ask.number (participant_in ask.site participants).ticket refl)
     where
       go : ((now : List Participant) → IsTicket now → SameOut db (ask_of db) now (asks_go txn asks now) (desk.asks_out {L = language db} (txn_name txn) ticket (map (ask_of db) asks) (counts_in now))) → (m : Option ℕ) (k : Option Ticket) → (participant_in ask.site participants).ticket ≡ k →
           SameOut db (ask_of db) participants (ask_goes txn ask m k participants (asks_go txn asks)) (desk.ask_out {L = language db} (txn_name txn) (ask_of db ask) m (option_map name_of k) (counts_in participants) (desk.asks_out {L = language db} (txn_name txn) ticket (map (ask_of db) asks)))
@@ -93,14 +92,14 @@ module _ (db : Database) (txn : Txn) (ticket : List ℕ → Option Name) where
           let there = ticket_there ask.site k participants here in
           let more = one_more ask.site participants in
           let same = one_more_same ask.site participants there in
-          let rest : SameOut db (ask_of db) more (asks_go txn asks more) (desk.asks_out {L = language db} (txn_name txn) ticket (map (ask_of db) asks) (put (pointwise nat_eq) (db.home ask.leaf) (suc (participant_in (db.home ask.leaf) participants).sent) (counts_in participants))) =
+          let rest : SameOut db (ask_of db) more (asks_go txn asks more) (desk.asks_out {L = language db} (txn_name txn) ticket (map (ask_of db) asks) (put (pointwise nat_eq) ask.site (suc (participant_in ask.site participants).sent) (counts_in participants))) =
           subst (λ c. SameOut db (ask_of db) more (asks_go txn asks more) (desk.asks_out {L = language db} (txn_name txn) ticket (map (ask_of db) asks) c))
-          ((λ i j. more_sent ask.site participants there j i) ∙ (λ i. put (pointwise nat_eq) (home.0 i) (suc (participant_in (home.0 i) participants).sent) (counts_in participants)))
+          (λ i j. more_sent ask.site participants there j i)
           (below more (still_ticket participants more same is)) in
           record {
-            left = λ i. record { leaf = ask.leaf; query = ask.conds; number = Some (suc (participant_in (home.0 i) participants).sent); rows = ask.rows } ∷ rest.left i;
+            left = λ i. ask_of db (numbered ask (next_number ask.site participants)) ∷ rest.left i;
             counts = rest.counts;
-            letters = λ i. record { site = home.0 i; txn = txn_name txn; body = protocol.Fetch (name_of k) (suc (participant_in (home.0 i) participants).sent) ask.leaf ask.conds } ∷ rest.letters i;
+            letters = λ i. sent db (ordered txn ask.site (fetch_order ask k (next_number ask.site participants))) ∷ rest.letters i;
             same = same_then participants more (asks_go txn asks more).participants same rest.same;
           }
       go below None None here = let rest = below participants is in record { left = λ i. ask_of db ask ∷ rest.left i; counts = rest.counts; letters = rest.letters; same = rest.same }
@@ -108,12 +107,11 @@ module _ (db : Database) (txn : Txn) (ticket : List ℕ → Option Name) where
       go below (Some m) (Some k) here = let rest = below participants is in record { left = λ i. ask_of db ask ∷ rest.left i; counts = rest.counts; letters = rest.letters; same = rest.same }
 
   -- ---- writes
-  pub writes_same : (ws : List Unsent) (participants : List Participant) → IsTicket participants → UnsentAtHome db ws → SameOut db write_of participants (writes_go txn ws participants) (desk.writes_out {L = language db} (txn_name txn) ticket (map write_of ws) (counts_in participants))
-  writes_same [] participants is home = record { left = refl; counts = refl; letters = refl; same = same_but participants }
-  writes_same (w ∷ ws) participants is home =
+  pub writes_same : (ws : List Unsent) (participants : List Participant) → IsTicket participants → SameOut db write_of participants (writes_go txn ws participants) (desk.writes_out {L = language db} (txn_name txn) ticket (map write_of ws) (counts_in participants))
+  writes_same [] participants is = record { left = refl; counts = refl; letters = refl; same = same_but participants }
+  writes_same (w ∷ ws) participants is =
       subst (λ k. SameOut db write_of participants (writes_go txn (w ∷ ws) participants) (desk.write_out {L = language db} (txn_name txn) (write_of w) k (counts_in participants) (desk.writes_out {L = language db} (txn_name txn) ticket (map write_of ws))))
-      (sym (is (db.home (leaf_of w.write)) ∙ ap (λ j. option_map name_of (participant_in j participants).ticket) (sym home.0)))
-      (go (λ now is. writes_same ws now is home.1) (participant_in w.site participants).ticket refl)
+      (sym (is w.site)) (go (λ now is. writes_same ws now is) (participant_in w.site participants).ticket refl)
     where
       go : ((now : List Participant) → IsTicket now → SameOut db write_of now (writes_go txn ws now) (desk.writes_out {L = language db} (txn_name txn) ticket (map write_of ws) (counts_in now))) → (k : Option Ticket) → (participant_in w.site participants).ticket ≡ k →
           SameOut db write_of participants (write_goes txn w k participants (writes_go txn ws)) (desk.write_out {L = language db} (txn_name txn) (write_of w) (option_map name_of k) (counts_in participants) (desk.writes_out {L = language db} (txn_name txn) ticket (map write_of ws)))
@@ -121,14 +119,14 @@ module _ (db : Database) (txn : Txn) (ticket : List ℕ → Option Name) where
           let there = ticket_there w.site k participants here in
           let more = one_more w.site participants in
           let same = one_more_same w.site participants there in
-          let rest : SameOut db write_of more (writes_go txn ws more) (desk.writes_out {L = language db} (txn_name txn) ticket (map write_of ws) (put (pointwise nat_eq) (db.home (leaf_of w.write)) (suc (participant_in (db.home (leaf_of w.write)) participants).sent) (counts_in participants))) =
+          let rest : SameOut db write_of more (writes_go txn ws more) (desk.writes_out {L = language db} (txn_name txn) ticket (map write_of ws) (put (pointwise nat_eq) w.site (suc (participant_in w.site participants).sent) (counts_in participants))) =
           subst (λ c. SameOut db write_of more (writes_go txn ws more) (desk.writes_out {L = language db} (txn_name txn) ticket (map write_of ws) c))
-          ((λ i j. more_sent w.site participants there j i) ∙ (λ i. put (pointwise nat_eq) (home.0 i) (suc (participant_in (home.0 i) participants).sent) (counts_in participants)))
+          (λ i j. more_sent w.site participants there j i)
           (below more (still_ticket participants more same is)) in
           record {
             left = rest.left;
             counts = rest.counts;
-            letters = λ i. record { site = home.0 i; txn = txn_name txn; body = protocol.Write (name_of k) (suc (participant_in (home.0 i) participants).sent) (leaf_of w.write) (at_key w.write) } ∷ rest.letters i;
+            letters = λ i. sent db (ordered txn w.site (write_order w k (next_number w.site participants))) ∷ rest.letters i;
             same = same_then participants more (writes_go txn ws more).participants same rest.same;
           }
       go below None here = let rest = below participants is in record { left = λ i. write_of w ∷ rest.left i; counts = rest.counts; letters = rest.letters; same = rest.same }

@@ -8,10 +8,11 @@ use Rattle.reader.specs.Printable.{AreDistinct}
 use Rattle.store.specs.declared.letter.Letter.{Letter}
 use Rattle.store.specs.declared.name.Txn.{Txn}
 use Rattle.store.specs.declared.order.Order.{Order}
+use Rattle.protocol.specs.Catalogues.{body_at}
 use Rattle.protocol.specs.Letter as protocol
 use Rattle.protocol.specs.Letters.{order_body, txn_name}
+use Rattle.protocol.specs.Local.{local}
 use Rattle.protocol.specs.Parts.{In}
-use Rattle.protocol.specs.Statements.{body_with}
 use Rattle.protocol.proofs.Basics.{if_true}
 use Rattle.desk.specs.declared.send.Broadcast.{Broadcast}
 use Rattle.desk.specs.declared.participant.Participant.{Participant}
@@ -42,23 +43,23 @@ at_home (s ∷ participants) apart participant at = ⊎_elim
     go false e further rest = rest
 
 -- ---- the letters to the sites
--- what an order says
-abbrev pub said : (db : Database) → Order → protocol.Body (language db)
-said db order = body_with (statements db) (order_body order)
+-- what an order to a site says
+abbrev pub said : (db : Database) → List ℕ → Order → protocol.Body (language db)
+said db site order = body_at local (statements db) site (order_body order)
 
 pub orders_all : (db : Database) (txn : Txn) (order : Participant → Option Order) (says : List ℕ → Option (protocol.Body (language db))) (participants : List Participant) →
-    ((participant : Participant) → In participant participants → says participant.site ≡ option_map (said db) (order participant)) → map (sent db) (filter_map (λ participant. option_map (ordered txn participant.site) (order participant)) participants) ≡ protocol.letters_to {L = language db} (txn_name txn) says (sites_of participants)
+    ((participant : Participant) → In participant participants → says participant.site ≡ option_map (said db participant.site) (order participant)) → map (sent db) (filter_map (λ participant. option_map (ordered txn participant.site) (order participant)) participants) ≡ protocol.letters_to {L = language db} (txn_name txn) says (sites_of participants)
 orders_all db txn order says [] each = refl
 orders_all db txn order says (participant ∷ participants) each = go (order participant) (each participant (inl refl)) _ _ (orders_all db txn order says participants (λ s at. each s (inr at)))
   where
     letter : protocol.Body (language db) → protocol.Letter (language db)
     letter body = record { site = participant.site; txn = txn_name txn; body = body }
 
-    go : (o : Option Order) → says participant.site ≡ option_map (said db) o → (left : List Letter) (right : List (protocol.Letter (language db))) → map (sent db) left ≡ right →
+    go : (o : Option Order) → says participant.site ≡ option_map (said db participant.site) o → (left : List Letter) (right : List (protocol.Letter (language db))) → map (sent db) left ≡ right →
         map (sent db) (cons_option (option_map (ordered txn participant.site) o) left) ≡ cons_option (option_map letter (says participant.site)) right
     go None e left right rest = rest ∙ ap (λ o. cons_option (option_map letter o) right) (sym e)
-    go (Some order) e left right rest = ap (λ l. letter (said db order) ∷ l) rest ∙ ap (λ o. cons_option (option_map letter o) right) (sym e)
+    go (Some order) e left right rest = ap (λ l. letter (said db participant.site order) ∷ l) rest ∙ ap (λ o. cons_option (option_map letter o) right) (sym e)
 
 pub letters_all : (db : Database) (txn : Txn) (word : Broadcast) (says : List ℕ → Option (protocol.Body (language db))) (participants : List Participant) →
-    ((participant : Participant) → In participant participants → says participant.site ≡ option_map (said db) (order_at word participant)) → map (sent db) (broadcast_letters txn word participants) ≡ protocol.letters_to {L = language db} (txn_name txn) says (sites_of participants)
+    ((participant : Participant) → In participant participants → says participant.site ≡ option_map (said db participant.site) (order_at word participant)) → map (sent db) (broadcast_letters txn word participants) ≡ protocol.letters_to {L = language db} (txn_name txn) says (sites_of participants)
 letters_all db txn word says participants each = orders_all db txn (order_at word) says participants each

@@ -61,7 +61,7 @@ module _ {L : Lang} where
 
 module _ (db : Database) (t : Name) (a : List ℕ) (kept : Bool) (choice : desk.Choice (language db)) where
   abbrev came : Reply → desk.Txn (language db) → desk.Transition (language db)
-  came said x = desk.on_desk_letter {L = language db} t a kept choice (replied db said) x
+  came said x = desk.on_desk_letter {L = language db} t a kept choice (replied db a said) x
 
   plain_ack : (voters acked : List (List ℕ × Name)) (v : List ℕ × Name) → IsPlain {L = language db} (desk.on_ack {L = language db} voters acked v kept)
   plain_ack voters acked v =
@@ -99,7 +99,7 @@ module _ (db : Database) (t : Name) (a : List ℕ) (kept : Bool) (choice : desk.
 -- ---- what is taken
 module _ (db : Database) (before : VolatileState) (kept : DeskContent) (after : VolatileState) (txn : Txn) (site : List ℕ) (said : Reply) where
   abbrev coming : Bool → desk.Choice (language db) → desk.Transition (language db)
-  coming was choice = desk.on_desk_letter {L = language db} (txn_name txn) site was choice (replied db said) (txn_of db (before.standing txn))
+  coming was choice = desk.on_desk_letter {L = language db} (txn_name txn) site was choice (replied db site said) (txn_of db (before.standing txn))
 
   abbrev HasTaken : Out → Type 0
   HasTaken out = Takes db before kept after txn (λ choice. coming out.kept choice) out.letters out.replies
@@ -109,7 +109,7 @@ module _ (db : Database) (before : VolatileState) (kept : DeskContent) (after : 
   quiet_takes rests (Err e) steps = tt
   quiet_takes rests (Ok out) steps =
       let choice : desk.Choice (language db) = (answer.Changed 0, []) in
-      record { choice = choice; steps = steps choice; explained = plain_came db (txn_name txn) site out.kept choice (before.standing txn) said rests }
+      record { choice = choice; steps = steps choice; explained = plain_came db (txn_name txn) site out.kept choice (before.standing txn) said rests; placed = tt }
 
   -- a statement goes on
   pub loud_takes : (result : Result Out Refusal) → IfOk result (λ out. out.kept ≡ true) → IfOk result (λ out. Takes db before kept after txn (λ choice. coming true choice) out.letters out.replies) → IfOk result HasTaken
@@ -125,8 +125,8 @@ not_strange sites came said is among strange =
     let f : not (true && true) ≡ true = sym (ap (λ b. not (is_reply b && list_any (λ site. pointwise nat_eq site came.site) sites)) is ∙ ap (λ b. not (true && b)) among) ∙ strange in
     cc
 
-pub among_there : (db : Database) → IsOfCatalogue db → (catalogue : Catalogue) → db.catalogue ≡ catalogue → (site : List ℕ) → list_any (λ other. pointwise nat_eq other site) db.sites ≡ true → list_any (λ other. pointwise nat_eq other site) catalogue.sites ≡ true
-among_there db of catalogue same site among = sym (ap (list_any (λ other. pointwise nat_eq other site)) (of.sites ∙ ap (λ cat. cat.sites) same)) ∙ among
+pub among_there : (db : Database) → IsOfCatalogue db → (n : ℕ) (catalogue : Catalogue) → db.catalogue n ≡ catalogue → (site : List ℕ) → list_any (λ other. pointwise nat_eq other site) db.sites ≡ true → list_any (λ other. pointwise nat_eq other site) catalogue.sites ≡ true
+among_there db of n catalogue same site among = sym (ap (list_any (λ other. pointwise nat_eq other site)) (of.sites n ∙ ap (λ cat. cat.sites) same)) ∙ among
 
 -- ---- a call that is refused for want of memory alone
 pub may_be_memory : (result : Result Out Refusal) → IfErr result (λ told. told ≡ refusals.Memory) → IfErr result (λ told. (told ≡ refusals.Memory) ⊎ (told ≡ refusals.Full))

@@ -106,20 +106,20 @@ module _ (db : Database) where
   some_row (Some s) e = refl
 
   -- who is decided stays
-  rows_stay : (j : Txn) (o : Option TxnState) → ((s : TxnState) → o ≡ Some s → IsIn db s) → (turned j o).txn ≡ txn_of db (resting db.sites (kept_voters o))
-  rows_stay j None home = refl
-  rows_stay j (Some (standing.Undecided u)) home = refl
-  rows_stay j (Some (standing.Committed c)) home = ap (λ vs. desk.Row (map voter_of vs) []) (sym (home (standing.Committed c) refl))
+  rows_stay : (n : ℕ) (j : Txn) (o : Option TxnState) → ((s : TxnState) → o ≡ Some s → IsIn db n s) → (turned j o).txn ≡ txn_of db (resting db.sites (kept_voters o))
+  rows_stay n j None home = refl
+  rows_stay n j (Some (standing.Undecided u)) home = refl
+  rows_stay n j (Some (standing.Committed c)) home = ap (λ vs. desk.Row (map voter_of vs) []) (sym (home (standing.Committed c) refl))
 
   none_said : (j : Txn) (o : Option TxnState) → is_some (kept_voters o) ≡ false → (turned j o).letters ≡ []
   none_said j None e = refl
   none_said j (Some (standing.Undecided u)) e = refl
   none_said j (Some (standing.Committed c)) e = cc
 
-  said : (j : Txn) (o : Option TxnState) (voters : List Voter) → ((s : TxnState) → o ≡ Some s → IsIn db s) → AreInOrder db.sites voters → kept_voters o ≡ Some (by_site voters) → (turned j o).letters ≡ map (sent db) (commit_letters j voters)
-  said j None voters home order e = cc
-  said j (Some (standing.Undecided u)) voters home order e = cc
-  said j (Some (standing.Committed c)) voters home order e =
+  said : (n : ℕ) (j : Txn) (o : Option TxnState) (voters : List Voter) → ((s : TxnState) → o ≡ Some s → IsIn db n s) → AreInOrder db.sites voters → kept_voters o ≡ Some (by_site voters) → (turned j o).letters ≡ map (sent db) (commit_letters j voters)
+  said n j None voters home order e = cc
+  said n j (Some (standing.Undecided u)) voters home order e = cc
+  said n j (Some (standing.Committed c)) voters home order e =
       sym (commits_is db j c.voters) ∙ ap (λ vs. map (sent db) (commit_letters j vs)) (sym (home (standing.Committed c) refl) ∙ ap (listed db.sites) (some_is e) ∙ order)
 
   order_there : (rows : List CommitRow) → AllByRecursion (λ row. AreInOrder db.sites row.voters) rows → (row : CommitRow) → In row rows → AreInOrder db.sites row.voters
@@ -192,7 +192,7 @@ module _ (db : Database) (old new : DeskContent) (entries : Entries) (sorted : I
 
   -- ---- the state
   txn_there : (j : Txn) → txn_of db (after.standing j) ≡ (turned db j (before.standing j)).txn
-  txn_there j = ap (txn_of db) (rises.stands j ∙ ap (resting db.sites) (begins.commits j ∙ sym (fits.rows j))) ∙ sym (rows_stay db j (before.standing j) (fits.sites j))
+  txn_there j = ap (txn_of db) (rises.stands j ∙ ap (resting db.sites) (begins.commits j ∙ sym (fits.rows j))) ∙ sym (rows_stay db version j (before.standing j) (fits.sites j))
 
   known_are : map txn_name after.txns ≡ filter (λ t. not (desk.is_unknown (desk.txn_restarted t ((desk_of db before).txn t)).txn)) (map txn_name before.txns)
   known_are = ap (map txn_name) txns_are ∙ sym (filter_names (λ t. not (desk.is_unknown (desk.txn_restarted t ((desk_of db before).txn t)).txn)) is_row before.txns
@@ -211,7 +211,7 @@ module _ (db : Database) (old new : DeskContent) (entries : Entries) (sorted : I
   letters_are written sends =
       let says : Txn → List (protocol.Letter (language db)) = λ j. (turned db j (before.standing j)).letters in
       ap (map (sent db)) sends.letters
-      ∙ all_said db says sends.rows (λ row here. said db row.txn (before.standing row.txn) row.voters (fits.sites row.txn) (order_there db sends.rows sends.in_order row here) (fits.rows row.txn ∙ sym (begins.commits row.txn) ∙ sym (sends.voters row.txn) ∙ ap (option_map by_site) (row_there sends.rows sends.ascend row here)))
+      ∙ all_said db says sends.rows (λ row here. said db version row.txn (before.standing row.txn) row.voters (fits.sites row.txn) (order_there db sends.rows sends.in_order row here) (fits.rows row.txn ∙ sym (begins.commits row.txn) ∙ sym (sends.voters row.txn) ∙ ap (option_map by_site) (row_there sends.rows sends.ascend row here)))
       ∙ ap (flat_map says) (same_txns (txns_of sends.rows) (filter is_row before.txns) sends.ascend rows_sorted
       (λ j here. before_listed j (ap is_some (sym (begins.commits j)) ∙ ap is_some (sym (sends.voters j)) ∙ is_some_list (voters_in j sends.rows) ∙ row_some sends.rows j here))
       (λ j here. row_listed sends.rows j (sym (is_some_list (voters_in j sends.rows)) ∙ ap is_some (sends.voters j ∙ begins.commits j) ∙ (from_filter is_row j before.txns here).1)))

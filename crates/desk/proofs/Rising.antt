@@ -167,9 +167,9 @@ module _ (db : Database) (all : DeskKept) (kept after : DeskContent) (lists : Li
   none_open [] = refl
   none_open (j ∷ js) = ap (λ b. length (cond b (j ∷ filter (λ i. is_open (table.standing i)) js) (filter (λ i. is_open (table.standing i)) js))) (ap is_open (there j) ∙ shut (after.commits j)) ∙ none_open js
 
-  at_sites : (j : Txn) (r : Option (List Voter)) → voters_in j all.commits ≡ r → (s : TxnState) → resting db.sites (option_map by_site r) ≡ Some s → IsIn db s
+  at_sites : (j : Txn) (r : Option (List Voter)) → voters_in j all.commits ≡ r → (s : TxnState) → resting db.sites (option_map by_site r) ≡ Some s → IsIn db table.version s
   at_sites j None is s e = cc
-  at_sites j (Some voters) is s e = subst (IsIn db) (some_is e) (ap (listed db.sites) (at_home j voters is))
+  at_sites j (Some voters) is s e = subst (IsIn db table.version) (some_is e) (ap (listed db.sites) (at_home j voters is))
 
   short : (r : Option Voters) → is_short_txn (txn_of db (resting db.sites r)) ≡ true
   short None = refl

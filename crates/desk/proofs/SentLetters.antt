@@ -17,7 +17,7 @@ use Rattle.desk.specs.declared.transaction.Undecided.{Undecided}
 use Rattle.desk.specs.declared.transaction.Unsent.{Unsent}
 use Rattle.desk.specs.declared.transaction.Writing.{Writing}
 use Rattle.desk.specs.Database.{Database, language, sent}
-use Rattle.desk.specs.Send.{asks_go, writes_go, AsksAtHome, UnsentAtHome}
+use Rattle.desk.specs.Send.{asks_go, writes_go}
 use Rattle.desk.specs.Participants.{is_at, participant_in, changed_at, with_ticket}
 use Rattle.desk.specs.Transaction.{ask_of, write_of, stage_of, undecided_of}
 use Rattle.desk.specs.declared.reply.Reply.TheVariants as reply
@@ -44,25 +44,25 @@ module _ (db : Database) (txn : Txn) (participants after : List Participant) (le
   }
 
   -- fetches went out
-  pub reading_is : (reading new : Reading) → AsksAtHome db reading.asks.items → new.statement ≡ reading.statement → new.asks.items ≡ (asks_go txn reading.asks.items participants).left → after ≡ (asks_go txn reading.asks.items participants).participants → letters ≡ (asks_go txn reading.asks.items participants).letters →
-      let wanted = desk.asks_go {L = language db} (txn_name txn) (undecided_of db (record { participants = participants; stage = stage.Reading reading })) reading.statement (map (ask_of db) reading.asks.items) in
+  pub reading_is : (reading new : Reading) → new.version ≡ reading.version → new.statement ≡ reading.statement → new.asks.items ≡ (asks_go txn reading.asks.items participants).left → after ≡ (asks_go txn reading.asks.items participants).participants → letters ≡ (asks_go txn reading.asks.items participants).letters →
+      let wanted = desk.asks_go {L = language db} (txn_name txn) (undecided_of db (record { participants = participants; stage = stage.Reading reading })) (reading.version, reading.statement) (map (ask_of db) reading.asks.items) in
       (desk.Known (undecided_of db (record { participants = after; stage = stage.Reading new })) ≡ wanted.txn) × (map (sent db) letters ≡ wanted.letters)
-  reading_is reading new home statement left participants_are letters_are =
-      let out = asks_same db txn (λ j. option_map name_of (participant_in j participants).ticket) reading.asks.items participants (λ j. refl) home in
+  reading_is reading new version statement left participants_are letters_are =
+      let out = asks_same db txn (λ j. option_map name_of (participant_in j participants).ticket) reading.asks.items participants (λ j. refl) in
       let is = subst (λ x. SameBut participants x) (sym participants_are) out.same in (
-        ap desk.Known (counts_are _ (stage.Reading reading) (stage.Reading new) is (ap (λ x. λ (j : List ℕ). (participant_in j x).sent) participants_are ∙ out.counts) _ (λ i. desk.Reading (statement i) ((ap (map (ask_of db)) left ∙ out.left) i))),
+        ap desk.Known (counts_are _ (stage.Reading reading) (stage.Reading new) is (ap (λ x. λ (j : List ℕ). (participant_in j x).sent) participants_are ∙ out.counts) _ (λ i. desk.Reading (version i, statement i) ((ap (map (ask_of db)) left ∙ out.left) i))),
         ap (map (sent db)) letters_are ∙ out.letters,
       )
 
   -- writes went out, and some wait
-  module _ (writing : Writing) (home : UnsentAtHome db writing.unsent.items) (participants_are : after ≡ (writes_go txn writing.unsent.items participants).participants) (letters_are : letters ≡ (writes_go txn writing.unsent.items participants).letters) where
+  module _ (writing : Writing) (participants_are : after ≡ (writes_go txn writing.unsent.items participants).participants) (letters_are : letters ≡ (writes_go txn writing.unsent.items participants).letters) where
     abbrev wanted : desk.Transition (language db)
     wanted = desk.writes_go {L = language db} (txn_name txn) (undecided_of db (record { participants = participants; stage = stage.Writing writing })) writing.answer (map write_of writing.unsent.items)
 
     pub waiting_is : (new : Writing) → new.answer ≡ writing.answer → (first : Unsent) (rest : List Unsent) → new.unsent.items ≡ first ∷ rest → new.unsent.items ≡ (writes_go txn writing.unsent.items participants).left →
         (desk.Known (undecided_of db (record { participants = after; stage = stage.Writing new })) ≡ wanted.txn) × (map (sent db) letters ≡ wanted.letters) × (wanted.deeds ≡ [])
     waiting_is new answer first rest some left =
-        let out = writes_same db txn (λ j. option_map name_of (participant_in j participants).ticket) writing.unsent.items participants (λ j. refl) home in
+        let out = writes_same db txn (λ j. option_map name_of (participant_in j participants).ticket) writing.unsent.items participants (λ j. refl) in
         let is = subst (λ x. SameBut participants x) (sym participants_are) out.same in
         let waits = sym (sym (ap (map write_of) some) ∙ ap (map write_of) left ∙ out.left) in
         let turn = ap (λ l. desk.writing {L = language db} (txn_name txn) (undecided_of db (record { participants = participants; stage = stage.Writing writing })) writing.answer (desk.writes_out {L = language db} (txn_name txn) (λ j. option_map name_of (participant_in j participants).ticket) (map write_of writing.unsent.items) (λ j. (participant_in j participants).sent)).sent l (desk.writes_out {L = language db} (txn_name txn) (λ j. option_map name_of (participant_in j participants).ticket) (map write_of writing.unsent.items) (λ j. (participant_in j participants).sent)).letters) waits in (
@@ -74,7 +74,7 @@ module _ (db : Database) (txn : Txn) (participants after : List Participant) (le
     pub answered_is : [] ≡ (writes_go txn writing.unsent.items participants).left →
         (desk.Known (undecided_of db (record { participants = after; stage = stage.Idle })) ≡ wanted.txn) × (map (sent db) letters ≡ wanted.letters) × (wanted.deeds ≡ desk.Answered (txn_name txn) writing.answer ∷ [])
     answered_is none =
-        let out = writes_same db txn (λ j. option_map name_of (participant_in j participants).ticket) writing.unsent.items participants (λ j. refl) home in
+        let out = writes_same db txn (λ j. option_map name_of (participant_in j participants).ticket) writing.unsent.items participants (λ j. refl) in
         let is = subst (λ x. SameBut participants x) (sym participants_are) out.same in
         let waits = sym (ap (map write_of) none ∙ out.left) in
         let turn = ap (λ l. desk.writing {L = language db} (txn_name txn) (undecided_of db (record { participants = participants; stage = stage.Writing writing })) writing.answer (desk.writes_out {L = language db} (txn_name txn) (λ j. option_map name_of (participant_in j participants).ticket) (map write_of writing.unsent.items) (λ j. (participant_in j participants).sent)).sent l (desk.writes_out {L = language db} (txn_name txn) (λ j. option_map name_of (participant_in j participants).ticket) (map write_of writing.unsent.items) (λ j. (participant_in j participants).sent)).letters) waits in (
@@ -105,15 +105,15 @@ module _ (db : Database) (txn : Txn) (choice : desk.Choice (language db)) (u new
       (ap (λ x. desk.ticket_goes {L = language db} (txn_name txn) (ticketed db u site ticket) choice (stage_of db u.participants x)) is)
       (ap (λ x. desk.Known (undecided_of db (record { participants = x; stage = u.stage }))) now ∙ ap desk.Known (at_stage u.stage refl)) (ap (map (sent db)) none) (ap (told_to (txn_name txn)) quiet)
 
-  pub ticket_reading : (reading after : Reading) → u.stage ≡ stage.Reading reading → new.stage ≡ stage.Reading after → AsksAtHome db reading.asks.items → after.statement ≡ reading.statement → after.asks.items ≡ (asks_go txn reading.asks.items participants).left → new.participants ≡ (asks_go txn reading.asks.items participants).participants →
+  pub ticket_reading : (reading after : Reading) → u.stage ≡ stage.Reading reading → new.stage ≡ stage.Reading after → after.version ≡ reading.version → after.statement ≡ reading.statement → after.asks.items ≡ (asks_go txn reading.asks.items participants).left → new.participants ≡ (asks_go txn reading.asks.items participants).participants →
       step.letters.items ≡ (asks_go txn reading.asks.items participants).letters → step.reply ≡ None → IsProgress db txn new step at_ticket
-  ticket_reading reading after is now home statement left participants_now letters quiet =
-      let both = reading_is db txn participants new.participants step.letters.items reading after home statement left participants_now letters in
-      is_step (stage.Reading after) now (desk.asks_go {L = language db} (txn_name txn) (undecided_of db (record { participants = participants; stage = stage.Reading reading })) reading.statement (map (ask_of db) reading.asks.items))
-      (ap (λ v. desk.asks_go {L = language db} (txn_name txn) v reading.statement (map (ask_of db) reading.asks.items)) (at_stage (stage.Reading reading) is) ∙ ap (λ x. desk.ticket_goes {L = language db} (txn_name txn) (ticketed db u site ticket) choice (stage_of db u.participants x)) (sym is))
+  ticket_reading reading after is now version statement left participants_now letters quiet =
+      let both = reading_is db txn participants new.participants step.letters.items reading after version statement left participants_now letters in
+      is_step (stage.Reading after) now (desk.asks_go {L = language db} (txn_name txn) (undecided_of db (record { participants = participants; stage = stage.Reading reading })) (reading.version, reading.statement) (map (ask_of db) reading.asks.items))
+      (ap (λ v. desk.asks_go {L = language db} (txn_name txn) v (reading.version, reading.statement) (map (ask_of db) reading.asks.items)) (at_stage (stage.Reading reading) is) ∙ ap (λ x. desk.ticket_goes {L = language db} (txn_name txn) (ticketed db u site ticket) choice (stage_of db u.participants x)) (sym is))
       both.0 both.1 (ap (told_to (txn_name txn)) quiet)
 
-  module _ (writing after : Writing) (is : u.stage ≡ stage.Writing writing) (home : UnsentAtHome db writing.unsent.items) (left : after.unsent.items ≡ (writes_go txn writing.unsent.items participants).left) (participants_now : new.participants ≡ (writes_go txn writing.unsent.items participants).participants) (letters : step.letters.items ≡ (writes_go txn writing.unsent.items participants).letters) where
+  module _ (writing after : Writing) (is : u.stage ≡ stage.Writing writing) (left : after.unsent.items ≡ (writes_go txn writing.unsent.items participants).left) (participants_now : new.participants ≡ (writes_go txn writing.unsent.items participants).participants) (letters : step.letters.items ≡ (writes_go txn writing.unsent.items participants).letters) where
     abbrev turn : desk.Transition (language db)
     turn = desk.writes_go {L = language db} (txn_name txn) (undecided_of db (record { participants = participants; stage = stage.Writing writing })) writing.answer (map write_of writing.unsent.items)
 
@@ -122,12 +122,12 @@ module _ (db : Database) (txn : Txn) (choice : desk.Choice (language db)) (u new
 
     pub ticket_waiting : (first : Unsent) (rest : List Unsent) → after.unsent.items ≡ first ∷ rest → new.stage ≡ stage.Writing after → after.answer ≡ writing.answer → step.reply ≡ None → IsProgress db txn new step at_ticket
     ticket_waiting first rest some now answer quiet =
-        let all = waiting_is db txn participants new.participants step.letters.items writing home participants_now letters after answer first rest some left in
+        let all = waiting_is db txn participants new.participants step.letters.items writing participants_now letters after answer first rest some left in
         is_step (stage.Writing after) now turn turn_is all.0 all.1 (ap (told_to (txn_name txn)) quiet ∙ sym (ap (filter_map (told db)) all.2))
 
     pub ticket_answered : after.unsent.items ≡ [] → new.stage ≡ stage.Idle → step.reply ≡ Some (reply.Answer writing.answer) → IsProgress db txn new step at_ticket
     ticket_answered none now answers =
-        let all = answered_is db txn participants new.participants step.letters.items writing home participants_now letters (sym none ∙ left) in
+        let all = answered_is db txn participants new.participants step.letters.items writing participants_now letters (sym none ∙ left) in
         is_step stage.Idle now turn turn_is all.0 all.1 (ap (told_to (txn_name txn)) answers ∙ sym (ap (filter_map (told db)) all.2))
 
     -- whichever it is

@@ -114,7 +114,7 @@ module _ (db : Database) (kept new : DeskContent) (entries : Entries) (sorted : 
         λ i. record { txn = λ name. txn_there (txn_at name) i; known = known i; life = life; number = number }
 
   -- ---- what is in memory fits
-  module _ (keeps : Keeps k (kept_voters next) kept new) (sites : IsInAfter db after) (short : desk.is_short_txn (txn_of db next) ≡ true) (shut : is_open (Some now) ≡ false → is_open next ≡ false) where
+  module _ (keeps : Keeps k (kept_voters next) kept new) (sites : IsInAfter db before.version after) (short : desk.is_short_txn (txn_of db next) ≡ true) (shut : is_open (Some now) ≡ false → is_open next ≡ false) where
     rows_are : (j : Txn) → kept_voters (table.standing j) ≡ new.commits j
     rows_are j = ap kept_voters (there j) ∙ go (is_txn k j) ∙ sym (keeps.commits j)
       where
@@ -170,10 +170,10 @@ module _ (db : Database) (kept new : DeskContent) (entries : Entries) (sorted : 
         go true = omega arith
         go false = omega arith
 
-    at_sites : (a : After) → IsInAfter db a → (s : TxnState) → after_of (Some now) a ≡ Some s → IsIn db s
+    at_sites : (a : After) → IsInAfter db before.version a → (s : TxnState) → after_of (Some now) a ≡ Some s → IsIn db before.version s
     at_sites Stays sites s e = fits.sites k s (here ∙ e)
     at_sites Ends sites s e = cc
-    at_sites (Becomes x) sites s e = subst (IsIn db) (some_is e) sites
+    at_sites (Becomes x) sites s e = subst (IsIn db before.version) (some_is e) sites
 
     pub fits_after : Fits db new table
     fits_after = record {
@@ -183,7 +183,7 @@ module _ (db : Database) (kept new : DeskContent) (entries : Entries) (sorted : 
       listed = λ j e. subst (In j) (sym keys_are) (in_filter stands_still j before.txns (fits.listed j (was_there j e)) e);
       lives = λ j listed. (from_filter stands_still j before.txns (subst (In j) keys_are listed)).1;
       begun = λ j e. fits.begun j (was_there j e);
-      sites = λ j s e. stood_all k next before.standing (λ i o. o ≡ Some s → IsIn db s) (at_sites after sites s) (λ i apart f. fits.sites i s f) j (sym (there j) ∙ e);
+      sites = λ j s e. stood_all k next before.standing (λ i o. o ≡ Some s → IsIn db before.version s) (at_sites after sites s) (λ i apart f. fits.sites i s f) j (sym (there j) ∙ e);
       counted = counts ∙ sym among;
       short = λ j. subst (λ o. desk.is_short_txn (txn_of db o) ≡ true) (sym (there j)) (stood_all k next before.standing (λ i o. desk.is_short_txn (txn_of db o) ≡ true) short (λ i apart. fits.short i) j);
       few = let a : left ≤ undecided = less in let b : undecided ≤ 256 = fits.few in omega arith;

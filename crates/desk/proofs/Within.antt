@@ -37,36 +37,36 @@ pub ticket_sites : (site : List ℕ) (ticket : Option Ticket) (participants : Li
 ticket_sites site ticket participants = same_sites (changed_at site (with_ticket ticket)) (changed_site (with_ticket ticket) (λ s. refl) site) participants
 
 -- a plan whose asks are the same in order
-pub same_plan : (db : Database) (stated : Statement) (plan : Reduced) (asks others : List Ask) → map asked others ≡ map asked asks → IsOfPlan db stated plan asks → IsOfPlan db stated plan others
-same_plan db stated plan asks others same planned = record { statement = planned.statement; fetches = planned.fetches; finds = planned.finds; in_order = same ∙ planned.in_order }
+pub same_plan : (db : Database) (n : ℕ) (stated : Statement) (plan : Reduced) (asks others : List Ask) → map asked others ≡ map asked asks → IsOfPlan db n stated plan asks → IsOfPlan db n stated plan others
+same_plan db n stated plan asks others same planned = record { statement = planned.statement; fetches = planned.fetches; finds = planned.finds; in_order = same ∙ planned.in_order }
 
-module _ (db : Database) (txn : Txn) (opened : List Participant) (those : sites_of opened ≡ db.sites) (new : Undecided) where
+module _ (db : Database) (n : ℕ) (txn : Txn) (opened : List Participant) (those : sites_of opened ≡ db.sites) (new : Undecided) where
   -- it is known of a stage
-  in_stage : (st : Stage) → new.stage ≡ st → sites_of new.participants ≡ db.sites → IsAtHome db st → IsPlanned db st → IsIn db (standing.Undecided new)
-  in_stage st is sites home planned = (sites, subst (IsAtHome db) (sym is) home, subst (IsPlanned db) (sym is) planned)
+  in_stage : (st : Stage) → new.stage ≡ st → sites_of new.participants ≡ db.sites → IsAtHome db st → IsPlanned db n st → IsIn db n (standing.Undecided new)
+  in_stage st is sites home planned = (sites, subst (IsAtHome db) (sym is) home, subst (IsPlanned db n) (sym is) planned)
 
-  pub reads_in : (asks : List Ask) (stated : Statement) (plan : Reduced) (reading : Reading) → AsksAtHome db asks → IsOfPlan db stated plan asks → reading.statement ≡ stated → reading.plan ≡ plan → reading.asks.items ≡ (asks_go txn asks opened).left →
-      new.participants ≡ (asks_go txn asks opened).participants → new.stage ≡ stage.Reading reading → IsIn db (standing.Undecided new)
-  reads_in asks stated plan reading home planned same_statement plan_is left participants now =
+  pub reads_in : (asks : List Ask) (stated : Statement) (plan : Reduced) (reading : Reading) → AsksAtHome db asks → IsOfPlan db n stated plan asks → reading.version ≡ n → reading.statement ≡ stated → reading.plan ≡ plan → reading.asks.items ≡ (asks_go txn asks opened).left →
+      new.participants ≡ (asks_go txn asks opened).participants → new.stage ≡ stage.Reading reading → IsIn db n (standing.Undecided new)
+  reads_in asks stated plan reading home planned version same_statement plan_is left participants now =
       in_stage (stage.Reading reading) now
-      (ap sites_of participants ∙ (asks_same db txn (λ j. option_map name_of (participant_in j opened).ticket) asks opened (λ j. refl) home).same.sites ∙ those)
+      (ap sites_of participants ∙ (asks_same db txn (λ j. option_map name_of (participant_in j opened).ticket) asks opened (λ j. refl)).same.sites ∙ those)
       (subst (AsksAtHome db) (sym left) (left_home db txn asks opened home))
-      (subst (λ s. IsOfPlan db s reading.plan reading.asks.items) (sym same_statement) (subst (λ p. IsOfPlan db stated p reading.asks.items) (sym plan_is) (same_plan db stated plan asks reading.asks.items (ap (map asked) left ∙ left_order db txn asks opened) planned)))
+      (version, subst (λ s. IsOfPlan db n s reading.plan reading.asks.items) (sym same_statement) (subst (λ p. IsOfPlan db n stated p reading.asks.items) (sym plan_is) (same_plan db n stated plan asks reading.asks.items (ap (map asked) left ∙ left_order db txn asks opened) planned)))
 
   pub works_in : (ws left : List Unsent) (after : Writing) → UnsentAtHome db ws → new.participants ≡ (writes_go txn ws opened).participants → after.unsent.items ≡ left → left ≡ (writes_go txn ws opened).left →
-      (left ≡ [] → new.stage ≡ stage.Idle) → ((first : Unsent) (rest : List Unsent) → left ≡ first ∷ rest → new.stage ≡ stage.Writing after) → IsIn db (standing.Undecided new)
+      (left ≡ [] → new.stage ≡ stage.Idle) → ((first : Unsent) (rest : List Unsent) → left ≡ first ∷ rest → new.stage ≡ stage.Writing after) → IsIn db n (standing.Undecided new)
   works_in ws left after home participants items left_is answered waits = go left items left_is answered waits
     where
       sites : sites_of new.participants ≡ db.sites
-      sites = ap sites_of participants ∙ (writes_same db txn (λ j. option_map name_of (participant_in j opened).ticket) ws opened (λ j. refl) home).same.sites ∙ those
+      sites = ap sites_of participants ∙ (writes_same db txn (λ j. option_map name_of (participant_in j opened).ticket) ws opened (λ j. refl)).same.sites ∙ those
 
-      go : (left : List Unsent) → after.unsent.items ≡ left → left ≡ (writes_go txn ws opened).left → (left ≡ [] → new.stage ≡ stage.Idle) → ((first : Unsent) (rest : List Unsent) → left ≡ first ∷ rest → new.stage ≡ stage.Writing after) → IsIn db (standing.Undecided new)
+      go : (left : List Unsent) → after.unsent.items ≡ left → left ≡ (writes_go txn ws opened).left → (left ≡ [] → new.stage ≡ stage.Idle) → ((first : Unsent) (rest : List Unsent) → left ≡ first ∷ rest → new.stage ≡ stage.Writing after) → IsIn db n (standing.Undecided new)
       go [] items left_is answered waits = in_stage stage.Idle (answered refl) sites tt tt
       go (first ∷ rest) items left_is answered waits = in_stage (stage.Writing after) (waits first rest refl) sites (subst (UnsentAtHome db) (sym (items ∙ left_is)) (unsent_home db txn ws opened home)) tt
 
   -- whichever it is, by the answer that is given or not
   pub wrote_in : (ws : List Unsent) (after : Writing) → UnsentAtHome db ws → new.participants ≡ (writes_go txn ws opened).participants → after.unsent.items ≡ (writes_go txn ws opened).left →
-      (answer : Option Answer) (old : Answer) (heard : Option Reply) → answer ≡ (if nat_eq (length after.unsent.items) 0 then Some old else None) → (answer ≡ None → (new.stage ≡ stage.Writing after) × (heard ≡ None)) → ((told : Answer) → answer ≡ Some told → (new.stage ≡ stage.Idle) × (heard ≡ Some (reply.Answer told))) → IsIn db (standing.Undecided new)
+      (answer : Option Answer) (old : Answer) (heard : Option Reply) → answer ≡ (if nat_eq (length after.unsent.items) 0 then Some old else None) → (answer ≡ None → (new.stage ≡ stage.Writing after) × (heard ≡ None)) → ((told : Answer) → answer ≡ Some told → (new.stage ≡ stage.Idle) × (heard ≡ Some (reply.Answer told))) → IsIn db n (standing.Undecided new)
   wrote_in ws after home participants left answer old heard is_answer waits answered =
       works_in ws after.unsent.items after home participants refl left
       (λ none. (answered old (is_answer ∙ ap (λ (l : List Unsent). if nat_eq (length l) 0 then Some old else None) none)).0)
@@ -76,5 +76,5 @@ module _ (db : Database) (txn : Txn) (opened : List Participant) (those : sites_
       not_empty n = grind (arith)
 
   -- nothing goes out
-  pub stays_in : (old : Undecided) → IsIn db (standing.Undecided old) → new.stage ≡ old.stage → new.participants ≡ opened → IsIn db (standing.Undecided new)
+  pub stays_in : (old : Undecided) → IsIn db n (standing.Undecided old) → new.stage ≡ old.stage → new.participants ≡ opened → IsIn db n (standing.Undecided new)
   stays_in old known is participants = in_stage old.stage is (ap sites_of participants ∙ those) known.1 known.2

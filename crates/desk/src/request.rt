@@ -271,7 +271,9 @@ fn start_in(
 {
     match standing {
         TxnState::Undecided(undecided) => {
-            start_reading(alloc, catalog, txn, undecided, statement, plan, asks, version)
+            start_reading(
+                alloc, catalog, txn, undecided, statement, plan, asks, version,
+            )
         }
         TxnState::Committed(_) => Err(Refusal::NoTransaction),
     }
@@ -295,10 +297,13 @@ fn start(
     ensures err { OnErr result (volatile_of volatile.new ≡ volatile_of volatile.old) }
     ensures ordered { IsOrdered txn_cmp volatile.old.standings }
 {
-    let (alloc, version) = (volatile.alloc, volatile.version);
+    let alloc = volatile.alloc;
+    let version = volatile.version;
     let _count = volatile.standings.len();
     match volatile.standings.get_mut(&txn) {
-        Some(standing) => start_in(alloc, catalog, txn, standing, statement, plan, asks, version),
+        Some(standing) => start_in(
+            alloc, catalog, txn, standing, statement, plan, asks, version,
+        ),
         None => Err(Refusal::NoTransaction),
     }
 }

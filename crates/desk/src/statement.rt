@@ -16,7 +16,7 @@ ghost use Rattle.desk.specs.Participants.{sites_of, changed_at, is_at, with_tick
 ghost use Rattle.desk.specs.Transaction.{ask_of, undecided_of, stage_of, write_of};
 ghost use Rattle.desk.specs.State.{IsIn};
 ghost use Rattle.desk.specs.Statement.{ask_sites, write_sites};
-ghost use Rattle.desk.specs.Stepped.{IsProgress, IsAtHome, goes_to, ticketed};
+ghost use Rattle.desk.specs.Stepped.{IsProgress, goes_to, ticketed};
 ghost use Rattle.desk.specs.Transition.{AreParticipants};
 ghost use Rattle.std.specs.List.{list_any};
 ghost use Rattle.meaning.specs.declared.answer.Answer.{Answer as AnswerNow};
@@ -102,7 +102,7 @@ pub(crate) fn reads(
     asks: Vec<Ask>,
     version: u64,
 ) -> Result<Progress, Refusal>
-    ensures step { (db : Database) (choice : Choice (language db)) (first : AskNow) (rest : List AskNow) → asks.items ≡ first ∷ rest → AreParticipants db undecided.old.participants → HaveParticipants undecided.old.participants (ask_sites asks.items) → AsksAtHome db asks.items
+    ensures step { (db : Database) (choice : Choice (language db)) (first : AskNow) (rest : List AskNow) → asks.items ≡ first ∷ rest → AreParticipants db undecided.old.participants → HaveParticipants undecided.old.participants (ask_sites asks.items)
         → IfOk result (λ step. IsProgress db txn undecided.new step (states (txn_name txn) (undecided_of db undecided.old) (version, statement) (map (ask_of db) asks.items) choice)) }
     ensures within { (db : Database) → sites_of undecided.old.participants ≡ db.sites → AsksAtHome db asks.items → IsOfPlan db version statement plan asks.items → OnOk result (IsIn db version (standings.Undecided undecided.new)) }
     ensures sends { SendsOrStays undecided.old undecided.new (asks_go txn asks.items (visits (ask_sites asks.items) undecided.old.participants)).participants result }
@@ -228,7 +228,7 @@ pub(crate) fn ticket_goes(
     site: &Text,
     ticket: Ticket,
 ) -> Result<Progress, Refusal>
-    ensures step { (db : Database) (choice : Choice (language db)) → list_any (is_at site.now) undecided.old.participants ≡ true → IsAtHome db undecided.old.stage
+    ensures step { (db : Database) (choice : Choice (language db)) → list_any (is_at site.now) undecided.old.participants ≡ true
         → IfOk result (λ step. IsProgress db txn undecided.new step
         (ticket_goes (txn_name txn) (ticketed db undecided.old site.now ticket) choice (stage_of db undecided.old.participants undecided.old.stage))) }
     ensures within { (db : Database) (n : ℕ) → IsIn db n (standings.Undecided undecided.old) → OnOk result (IsIn db n (standings.Undecided undecided.new)) }
@@ -342,7 +342,7 @@ pub(crate) fn works(
     answer: Answer,
     unsent: Vec<Unsent>,
 ) -> Result<Progress, Refusal>
-    ensures step { (db : Database) (stated : ℕ × Statement) (asks : List (ProtocolAsk (language db))) → AreParticipants db undecided.old.participants → HaveParticipants undecided.old.participants (write_sites unsent.items) → UnsentAtHome db unsent.items
+    ensures step { (db : Database) (stated : ℕ × Statement) (asks : List (ProtocolAsk (language db))) → AreParticipants db undecided.old.participants → HaveParticipants undecided.old.participants (write_sites unsent.items)
         → IfOk result (λ step. IsProgress db txn undecided.new step (works (txn_name txn) (undecided_of db undecided.old) stated asks (answer, map write_of unsent.items))) }
     ensures within { (db : Database) (n : ℕ) → sites_of undecided.old.participants ≡ db.sites → UnsentAtHome db unsent.items → OnOk result (IsIn db n (standings.Undecided undecided.new)) }
     ensures sends { SendsOrStays undecided.old undecided.new (writes_go txn unsent.items (visits (write_sites unsent.items) undecided.old.participants)).participants result }

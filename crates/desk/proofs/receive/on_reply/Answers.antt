@@ -18,7 +18,7 @@ returns-in-Ok-clause-ok c = λ db kept of same fits among.
     let stands = sending_there ((volatile_of volatile).standing c.args.txn) c.args.site.now c.args.reply.now c.requires in
     let known = known_there db kept (volatile_of volatile) fits c.args.txn stands.0 stands.1 in
     let at = sym (any_mapped (λ other. pointwise nat_eq other c.args.site.now) (λ s. s.site) stands.0.participants) ∙ ap (list_any (λ other. pointwise nat_eq other c.args.site.now)) known.0 ∙ among in
-    takes_on db kept volatile c.resume.ensures.ordered fits c.args.txn stands.0 stands.1 (λ choice. on_desk_letter (txn_name c.args.txn) c.args.site.now true choice (replied db c.args.reply.now) (txn_in db (volatile_of volatile) c.args.txn)) (volatile_of c.resume.new.volatile) c.in-Ok.step
+    takes_on db kept volatile c.resume.ensures.ordered fits c.args.txn stands.0 stands.1 (λ choice. on_desk_letter (txn_name c.args.txn) c.args.site.now true choice (replied db c.args.site.now c.args.reply.now) (txn_in db (volatile_of volatile) c.args.txn)) (volatile_of c.resume.new.volatile) c.in-Ok.step
     (c.in-Ok.ensures.resume_on db kept stands.0 of same fits stands.1 at) c.put_out.result.letters c.put_out.result.replies c.put_out.ensures.letters (c.put_out.ensures.replies c.in_ok-room.ensures.empty)
 
 pub returns-in-Err-clause-full : goal.returns-in-Err-clause-full
@@ -27,5 +27,5 @@ returns-in-Err-clause-full c = λ db kept of same fits among full.
     let stands = sending_there ((volatile_of volatile).standing c.args.txn) c.args.site.now c.args.reply.now c.requires in
     let known = known_there db kept (volatile_of volatile) fits c.args.txn stands.0 stands.1 in
     let at = sym (any_mapped (λ other. pointwise nat_eq other c.args.site.now) (λ s. s.site) stands.0.participants) ∙ ap (list_any (λ other. pointwise nat_eq other c.args.site.now)) known.0 ∙ among in
-    past_limits db kept volatile fits c.args.txn stands.0 stands.1 (λ choice. on_desk_letter (txn_name c.args.txn) c.args.site.now true choice (replied db c.args.reply.now) (txn_in db (volatile_of volatile) c.args.txn))
+    past_limits db kept volatile fits c.args.txn stands.0 stands.1 (λ choice. on_desk_letter (txn_name c.args.txn) c.args.site.now true choice (replied db c.args.site.now c.args.reply.now) (txn_in db (volatile_of volatile) c.args.txn))
     (c.in-Err.ensures.full db kept stands.0 of same fits stands.1 at (search rules))

@@ -15,14 +15,14 @@ use Rattle.desk.proofs.receive.step.Goals as goal
 
 pub returns-in-None-clause-turn : goal.returns-in-None-clause-turn
 returns-in-None-clause-turn g c = λ db choice at.
-    subst (λ p. IfOk c.on_unknown.result (λ turn. IsTransition db c.args.txn p turn (on_desk_letter (txn_name c.args.txn) c.args.site.now turn.kept choice (replied db c.args.reply.now) (txn_of db p))))
+    subst (λ p. IfOk c.on_unknown.result (λ turn. IsTransition db c.args.txn p turn (on_desk_letter (txn_name c.args.txn) c.args.site.now turn.kept choice (replied db c.args.site.now c.args.reply.now) (txn_of db p))))
     c.in-None.ensures (c.on_unknown.ensures.turn db)
 
 pub returns-in-Some-Undecided-clause-turn : goal.returns-in-Some-Undecided-clause-turn
 returns-in-Some-Undecided-clause-turn g c = λ db choice.
     let o = (volatile_of c.args.volatile.now).standing c.args.txn in
     let is : Some (standing.Undecided c.in-Some-Undecided.undecided) ≡ o = ap Some (sym c.in-Some-Undecided.field-0-is) ∙ c.in-Some-Undecided.ensures in
-    subst (λ p. IsAt db p → IfOk c.on_open.result (λ turn. IsTransition db c.args.txn p turn (on_desk_letter (txn_name c.args.txn) c.args.site.now turn.kept choice (replied db c.args.reply.now) (txn_of db p))))
+    subst (λ p. IsAt db p → IfOk c.on_open.result (λ turn. IsTransition db c.args.txn p turn (on_desk_letter (txn_name c.args.txn) c.args.site.now turn.kept choice (replied db c.args.site.now c.args.reply.now) (txn_of db p))))
     is (λ at. c.on_open.ensures.turn db choice at)
 
 pub returns-in-Some-Undecided-clause-keeps : goal.returns-in-Some-Undecided-clause-keeps
@@ -37,20 +37,20 @@ pub returns-in-Some-Committed-clause-turn : goal.returns-in-Some-Committed-claus
 returns-in-Some-Committed-clause-turn g c = λ db choice at.
     let o = (volatile_of c.args.volatile.now).standing c.args.txn in
     let is : Some (standing.Committed c.in-Some-Committed.committed) ≡ o = ap Some (sym c.in-Some-Committed.field-0-is) ∙ c.in-Some-Committed.ensures in
-    subst (λ p. IfOk c.on_row.result (λ turn. IsTransition db c.args.txn p turn (on_desk_letter (txn_name c.args.txn) c.args.site.now turn.kept choice (replied db c.args.reply.now) (txn_of db p))))
+    subst (λ p. IfOk c.on_row.result (λ turn. IsTransition db c.args.txn p turn (on_desk_letter (txn_name c.args.txn) c.args.site.now turn.kept choice (replied db c.args.site.now c.args.reply.now) (txn_of db p))))
     is (c.on_row.ensures.turn db)
 
 pub returns-in-Some-Undecided-clause-store : goal.returns-in-Some-Undecided-clause-store
 returns-in-Some-Undecided-clause-store g c =
     let o = (volatile_of c.args.volatile.now).standing c.args.txn in
     let is : Some (standing.Undecided c.in-Some-Undecided.undecided) ≡ o = ap Some (sym c.in-Some-Undecided.field-0-is) ∙ c.in-Some-Undecided.ensures in
-    steps_as (λ called. subst (λ p. (db : Database) → IsAt db p → CallsStore {L = language db} c.args.site.now (replied db c.args.reply.now) (txn_of db p)) is called) c.on_open.ensures.store
+    steps_as (λ called. subst (λ p. (db : Database) → IsAt db p → CallsStore {L = language db} c.args.site.now (replied db c.args.site.now c.args.reply.now) (txn_of db p)) is called) c.on_open.ensures.store
 
 pub returns-in-Some-Committed-clause-store : goal.returns-in-Some-Committed-clause-store
 returns-in-Some-Committed-clause-store g c =
     let o = (volatile_of c.args.volatile.now).standing c.args.txn in
     let is : Some (standing.Committed c.in-Some-Committed.committed) ≡ o = ap Some (sym c.in-Some-Committed.field-0-is) ∙ c.in-Some-Committed.ensures in
-    steps_as (λ called. subst (λ p. (db : Database) → IsAt db p → CallsStore {L = language db} c.args.site.now (replied db c.args.reply.now) (txn_of db p)) is (λ db at. called db)) c.on_row.ensures.store
+    steps_as (λ called. subst (λ p. (db : Database) → IsAt db p → CallsStore {L = language db} c.args.site.now (replied db c.args.site.now c.args.reply.now) (txn_of db p)) is (λ db at. called db)) c.on_row.ensures.store
 
 pub returns-in-Some-Undecided-clause-sites : goal.returns-in-Some-Undecided-clause-sites
 returns-in-Some-Undecided-clause-sites g c = λ db at.

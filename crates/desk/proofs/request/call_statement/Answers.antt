@@ -11,7 +11,7 @@ use Rattle.desk.proofs.request.call_statement.Goals as goal
 pub returns-clause-ok : goal.returns-clause-ok
 returns-clause-ok c = λ db kept of same fits.
     let statement = c.in_ok-statement.statement in
-    let schemas = of.schemas ∙ ap schemas_of same in
+    let schemas = of.schemas c.args.volatile.now.version ∙ ap schemas_of same in
     if_ok c.call_run.result (λ out runs. record {
       statement = statement;
       spelled = subst (λ (ss : List RelationSchema). IsTextOf ss c.args.text.now (Run statement)) (sym schemas) c.in_ok-statement.ensures.spelled;
@@ -21,17 +21,17 @@ returns-clause-ok c = λ db kept of same fits.
 
 pub returns-clause-told : goal.returns-clause-told
 returns-clause-told c = λ db other.
-    ran_told c.call_run.result _ _ _ _ _ (c.in_ok-may_state.ensures.accepted db c.in_ok-statement.statement) (c.in_ok-may_state.ensures.accepted db other) (c.call_run.ensures.told db)
+    ran_told c.call_run.result _ _ _ _ _ (c.in_ok-may_state.ensures.accepted db (c.args.volatile.now.version, c.in_ok-statement.statement)) (c.in_ok-may_state.ensures.accepted db (c.args.volatile.now.version, other)) (c.call_run.ensures.told db)
 
 pub returns-in_err-may_state-clause-told : goal.returns-in_err-may_state-clause-told
 returns-in_err-may_state-clause-told c = λ db statement.
     let is : c.from_residual.result ≡ Err c.in_err-may_state.field-0.0 = search rules in
-    told_by _ _ _ _ _ is (c.in_err-may_state.ensures.told db statement)
+    told_by _ _ _ _ _ is (c.in_err-may_state.ensures.told db (c.args.volatile.now.version, statement))
 
 pub returns-clause-full : goal.returns-clause-full
 returns-clause-full c = λ db kept of same fits full.
     let statement = c.in_ok-statement.statement in
-    let schemas = of.schemas ∙ ap schemas_of same in
+    let schemas = of.schemas c.args.volatile.now.version ∙ ap schemas_of same in
     record {
       statement = statement;
       spelled = subst (λ (ss : List RelationSchema). IsTextOf ss c.args.text.now (Run statement)) (sym schemas) c.in_ok-statement.ensures.spelled;

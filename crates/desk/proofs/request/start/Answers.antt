@@ -15,7 +15,7 @@ returns-in-Some-clause-goes c = λ db kept old of same fits here idle planned li
     let was = c.in-Some.standing.now in
     let found : (volatile_of volatile).standing c.args.txn ≡ Some was = search rules in
     let is : was ≡ standing.Undecided old = some_standing (sym found ∙ here) in
-    goes_ok db kept volatile _ c.args.txn old c.start_in.new.standing fits here (search rules) (λ choice x. on_request (txn_name c.args.txn) choice (State c.args.statement) x) c.start_in.result
+    goes_ok db kept volatile _ c.args.txn old c.start_in.new.standing fits here (search rules) (λ choice x. on_request (txn_name c.args.txn) choice (State (volatile.version, c.args.statement)) x) c.start_in.result
     (c.start_in.ensures.short (subst IsShort (sym is) (short_there db kept (volatile_of volatile) fits c.args.txn old here)))
     (c.start_in.ensures.does db old of same is (participants_there db kept (volatile_of volatile) fits c.args.txn old here of) idle planned list)
 
@@ -32,5 +32,5 @@ returns-in-Some-clause-full c = λ db kept old of same fits here idle planned li
     let was = c.in-Some.standing.now in
     let found : (volatile_of volatile).standing c.args.txn ≡ Some was = search rules in
     let is : was ≡ standing.Undecided old = some_standing (sym found ∙ here) in
-    long_in db volatile c.args.txn old here (λ choice x. on_request (txn_name c.args.txn) choice (State c.args.statement) x)
+    long_in db volatile c.args.txn old here (λ choice x. on_request (txn_name c.args.txn) choice (State (volatile.version, c.args.statement)) x)
     (c.start_in.ensures.full db old of same is (participants_there db kept (volatile_of volatile) fits c.args.txn old here of) idle planned list full)

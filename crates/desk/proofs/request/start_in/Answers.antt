@@ -15,7 +15,7 @@ returns-in-Undecided-clause-does c = λ db old of same here are idle planned lis
     let now = c.in-Undecided.undecided in
     let there : c.args.standing.now ≡ standing.Undecided now = search rules in
     let is : old ≡ now = undecided_is (sym here ∙ there) in
-    subst (λ (x : Undecided). IfOk c.start_reading.result (λ step. Does db c.args.txn c.start_reading.new.undecided step (λ choice. on_request (txn_name c.args.txn) choice (State c.args.statement) (Known (undecided_of db x))))) (sym is)
+    subst (λ (x : Undecided). IfOk c.start_reading.result (λ step. Does db c.args.version c.args.txn c.start_reading.new.undecided step (λ choice. on_request (txn_name c.args.txn) choice (State (c.args.version, c.args.statement)) (Known (undecided_of db x))))) (sym is)
     (c.start_reading.ensures.does db of same (subst (λ (x : Undecided). AreParticipants db x.participants) is are) (sym (ap (λ (x : Undecided). x.stage) is) ∙ idle) planned list)
 
 pub returns-in-Undecided-clause-full : goal.returns-in-Undecided-clause-full
@@ -23,5 +23,5 @@ returns-in-Undecided-clause-full c = λ db old of same here are idle planned lis
     let now = c.in-Undecided.undecided in
     let there : c.args.standing.now ≡ standing.Undecided now = search rules in
     let is : old ≡ now = undecided_is (sym here ∙ there) in
-    subst (λ (x : Undecided). IsLong db (λ choice. on_request (txn_name c.args.txn) choice (State c.args.statement) (Known (undecided_of db x)))) (sym is)
+    subst (λ (x : Undecided). IsLong db (λ choice. on_request (txn_name c.args.txn) choice (State (c.args.version, c.args.statement)) (Known (undecided_of db x)))) (sym is)
     (c.start_reading.ensures.full db of same (subst (λ (x : Undecided). AreParticipants db x.participants) is are) (sym (ap (λ (x : Undecided). x.stage) is) ∙ idle) planned list full)

@@ -20,18 +20,18 @@ use Rattle.desk.proofs.Explaining.{explained_of}
 use Rattle.desk.proofs.statement.evaluate.Goals as goal
 
 pub returns-clause-home : goal.returns-clause-home
-returns-clause-home c = λ db of same.
+returns-clause-home c = λ db n of same.
     let list = c.in_ok-outcome.outcome.writes in
-    let leaves : AllByRecursion (λ write. is_leaf_in (catalogue_leaves db.catalogue) (leaf_of write) ≡ true) list = subst (λ cat. AllByRecursion (λ write. is_leaf_in (catalogue_leaves cat) (leaf_of write) ≡ true) list) (sym same) c.in_ok-outcome.ensures.leaves in
+    let leaves : AllByRecursion (λ write. is_leaf_in (catalogue_leaves (db.catalogue n)) (leaf_of write) ≡ true) list = subst (λ cat. AllByRecursion (λ write. is_leaf_in (catalogue_leaves cat) (leaf_of write) ≡ true) list) (sym same) c.in_ok-outcome.ensures.leaves in
     let is : c.in_ok-unsent.unsent.items ≡ map (unsent_from (catalogue_of c.args.catalog.now)) list = search rules in
-    subst (UnsentAtHome db) (sym is) (subst (λ cat. UnsentAtHome db (map (unsent_from cat) list)) same (writes_home db of list leaves))
+    subst (UnsentAtHome db) (sym is) (subst (λ cat. UnsentAtHome db (map (unsent_from cat) list)) same (writes_home db of n list leaves))
 
 pub returns-clause-participants : goal.returns-clause-participants
-returns-clause-participants c = λ db participants of same those.
+returns-clause-participants c = λ db n participants of same those.
     let list = c.in_ok-outcome.outcome.writes in
-    let leaves : AllByRecursion (λ write. is_leaf_in (catalogue_leaves db.catalogue) (leaf_of write) ≡ true) list = subst (λ cat. AllByRecursion (λ write. is_leaf_in (catalogue_leaves cat) (leaf_of write) ≡ true) list) (sym same) c.in_ok-outcome.ensures.leaves in
+    let leaves : AllByRecursion (λ write. is_leaf_in (catalogue_leaves (db.catalogue n)) (leaf_of write) ≡ true) list = subst (λ cat. AllByRecursion (λ write. is_leaf_in (catalogue_leaves cat) (leaf_of write) ≡ true) list) (sym same) c.in_ok-outcome.ensures.leaves in
     let is : c.in_ok-unsent.unsent.items ≡ map (unsent_from (catalogue_of c.args.catalog.now)) list = search rules in
-    subst (λ us. HaveParticipants participants (write_sites us)) (sym is) (subst (λ cat. HaveParticipants participants (write_sites (map (unsent_from cat) list))) same (writes_participants db of participants those list leaves))
+    subst (λ us. HaveParticipants participants (write_sites us)) (sym is) (subst (λ cat. HaveParticipants participants (write_sites (map (unsent_from cat) list))) same (writes_participants db of n participants those list leaves))
 
 pub work-requires-clause-fetched : goal.work-requires-clause-fetched
 work-requires-clause-fetched c =
@@ -45,11 +45,11 @@ work-requires-clause-parts c =
     (subst (λ fetches. P c.as_slice.result.now fetches) c.fetches.ensures (c.are_all_parts.ensures.0 c.if-not-are_all_parts.false))
 
 pub returns-clause-explained : goal.returns-clause-explained
-returns-clause-explained c = λ db t of same planned.
+returns-clause-explained c = λ db n t of same planned.
     let list = c.in_ok-outcome.outcome.writes in
     let reduced = c.reduced-reduced.result.now in
-    let there : IsOfPlan db c.args.statement.now reduced c.args.asks.now = subst (λ r. IsOfPlan db c.args.statement.now r c.args.asks.now) (sym c.reduced-reduced.ensures.same) planned in
+    let there : IsOfPlan db n c.args.statement.now reduced c.args.asks.now = subst (λ r. IsOfPlan db n c.args.statement.now r c.args.asks.now) (sym c.reduced-reduced.ensures.same) planned in
     let rows : c.as_slice-2.result.now ≡ brought c.args.asks.now = c.as_slice-2.ensures.value ∙ c.in_ok-fetched.ensures in
     let is : c.in_ok-unsent.unsent.items ≡ map (unsent_from (catalogue_of c.args.catalog.now)) list = search rules in
-    explained_of db of c.leaf_names_are_unique.ensures c.args.statement.now reduced c.args.asks.now there t c.in_ok-outcome.outcome.answer list (catalogue_of c.args.catalog.now) same c.as_slice-2.result.now rows c.in_ok-unsent.unsent.items is
+    explained_of db of n c.leaf_names_are_unique.ensures c.args.statement.now reduced c.args.asks.now there t c.in_ok-outcome.outcome.answer list (catalogue_of c.args.catalog.now) same c.as_slice-2.result.now rows c.in_ok-unsent.unsent.items is
     c.in_ok-outcome.ensures.answer c.in_ok-outcome.ensures.writes

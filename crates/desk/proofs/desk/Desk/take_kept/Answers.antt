@@ -23,7 +23,7 @@ returns-then-not-is_among g c = record {
     store = no_call c.args.self.now.store _ c.passed_over-then-not-is_among.ensures.kept;
     ok = λ db reply of same clean sound fits body among.
         let letter = c.args.letter.now in
-        let there = among_there db of (catalogue_of c.args.self.now.catalog) same letter.site among in
+        let there = among_there db of c.args.self.now.volatile.version (catalogue_of c.args.self.now.catalog) same letter.site among in
         let gone : list_any (λ other. pointwise nat_eq other letter.site) c.args.self.now.catalog.0 ≡ false = search rules in
         let e : true ≡ false = sym there ∙ gone in
         absurd (cc);
@@ -48,7 +48,7 @@ returns-then-may_send g c = record {
         let kept = g.S.DeskStore.kept c.args.self.now.store in
         let here : letter.body ≡ body.Reply said = search rules in
         let is : said ≡ reply = said_is (sym here ∙ says) in
-        subst (λ x. IfOk c.on_reply.result (λ out. Takes db (volatile_of volatile) kept (volatile_of c.on_reply.new.volatile) letter.txn (λ choice. on_desk_letter (txn_name letter.txn) letter.site out.kept choice (replied db x) (txn_in db (volatile_of volatile) letter.txn)) out.letters out.replies)) is
+        subst (λ x. IfOk c.on_reply.result (λ out. Takes db (volatile_of volatile) kept (volatile_of c.on_reply.new.volatile) letter.txn (λ choice. on_desk_letter (txn_name letter.txn) letter.site out.kept choice (replied db letter.site x) (txn_in db (volatile_of volatile) letter.txn)) out.letters out.replies)) is
         (loud_takes db (volatile_of volatile) kept (volatile_of c.on_reply.new.volatile) letter.txn letter.site said c.on_reply.result c.on_reply.ensures.steps.kept (c.on_reply.ensures.ok db kept of same fits among));
     strange = λ strange.
         let letter = c.args.letter.now in
@@ -69,7 +69,7 @@ returns-then-may_send g c = record {
         let volatile = c.args.self.now.volatile in
         let here : letter.body ≡ body.Reply said = search rules in
         let is : said ≡ reply = said_is (sym here ∙ says) in
-        subst (λ x. IsPastLimits db (volatile_of volatile) letter.txn (λ choice. on_desk_letter (txn_name letter.txn) letter.site true choice (replied db x) (txn_in db (volatile_of volatile) letter.txn))) is
+        subst (λ x. IsPastLimits db (volatile_of volatile) letter.txn (λ choice. on_desk_letter (txn_name letter.txn) letter.site true choice (replied db letter.site x) (txn_in db (volatile_of volatile) letter.txn))) is
         (c.on_reply.ensures.full db (g.S.DeskStore.kept c.args.self.now.store) of same fits among full);
     full_at = λ reply says full.
         let letter = c.args.letter.now in
@@ -91,7 +91,7 @@ returns g c = record {
         let said = c.in-Reply.reply in
         let here : letter.body ≡ body.Reply said = search rules in
         let is : said ≡ reply = said_is (sym here ∙ says) in
-        subst (λ x. CallsStore {L = language db} letter.site (replied db x) (txn_in db (volatile_of c.args.self.now.volatile) letter.txn)) is (called db (subst AreDistinct (sym of.sites) of.formed.distinct) fits)) c.take.ensures.store;
+        subst (λ x. CallsStore {L = language db} letter.site (replied db letter.site x) (txn_in db (volatile_of c.args.self.now.volatile) letter.txn)) is (called db (subst AreDistinct (sym (of.sites c.args.self.now.volatile.version)) (of.formed c.args.self.now.volatile.version).distinct) fits)) c.take.ensures.store;
     ok = λ db reply of same clean sound fits says among.
         let letter = c.args.letter.now in
         let said = c.in-Reply.reply in
@@ -100,8 +100,8 @@ returns g c = record {
         let here : letter.body ≡ body.Reply said = search rules in
         let is : said ≡ reply = said_is (sym here ∙ says) in
         let rests : may_send ((volatile_of volatile).standing letter.txn) letter.site said ≡ false = search rules in
-        let distinct : AreDistinct db.sites = subst AreDistinct (sym of.sites) of.formed.distinct in
-        subst (λ x. IfOk c.take.result (λ out. Takes db (volatile_of volatile) new (volatile_of c.take.new.volatile) letter.txn (λ choice. on_desk_letter (txn_name letter.txn) letter.site out.kept choice (replied db x) (txn_in db (volatile_of volatile) letter.txn)) out.letters out.replies)) is
+        let distinct : AreDistinct db.sites = subst AreDistinct (sym (of.sites volatile.version)) (of.formed volatile.version).distinct in
+        subst (λ x. IfOk c.take.result (λ out. Takes db (volatile_of volatile) new (volatile_of c.take.new.volatile) letter.txn (λ choice. on_desk_letter (txn_name letter.txn) letter.site out.kept choice (replied db letter.site x) (txn_in db (volatile_of volatile) letter.txn)) out.letters out.replies)) is
         (quiet_takes db (volatile_of volatile) new (volatile_of c.take.new.volatile) letter.txn letter.site said rests c.take.result (λ choice. c.take.ensures.ok db choice distinct clean sound fits));
     strange = λ strange.
         let letter = c.args.letter.now in
