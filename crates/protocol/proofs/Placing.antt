@@ -77,7 +77,7 @@ module _ (M : Lang) (C : Catalogues M) (law : IsLawfulSite M) (a : M.Site) where
   full_placed : (g : M.Leaf) (x : M.Write) (i : M.Intentions) → is_full_at M (a, g) x (intended_at M C a i) ≡ M.is_full g x i
   full_placed g x i = by_empty (λ j. is_full_at M (a, g) x j ≡ M.is_full g x i) i (λ e. ap (M.is_full g x) (sym e)) (ap (M.is_full g x) (own_at i))
 
-  empty_placed : (i : M.Intentions) → is_nothing M (intended_at M C a i) ≡ M.is_empty i
+  pub empty_placed : (i : M.Intentions) → is_nothing M (intended_at M C a i) ≡ M.is_empty i
   empty_placed i = go (M.is_empty i)
     where
       go : (b : Bool) → is_nothing M (if b then Nothing else Some_at (only_at M a i)) ≡ b

@@ -30,7 +30,7 @@ use Rattle.world.specs.Client.{IsServed}
 use Rattle.world.specs.Machines.{Machines, world_of}
 use Rattle.world.specs.Recovery.{BeginsAnewLaw, GoesOnFrom, HaveNoTicket, IsBeginning, NothingStands}
 use Rattle.world.specs.Runs.{relations_after}
-use Rattle.world.specs.Settled.{AreDecided, after_committed}
+use Rattle.world.specs.Settled.{AreDecided, AreThoseOf, after_committed}
 use Rattle.world.specs.Sites.{IsSeated, Seat, state_at, states_of}
 use Rattle.world.proofs.Counting.{fit_counted, fit_uncounted, with_counts}
 use Rattle.world.proofs.Openings.{at_each}
@@ -66,6 +66,19 @@ module _ (S : Catalogues local) where
   all_unknown [] fits none = tt
   all_unknown (seat ∷ seats) fits none = (none_known_there S seat fits.0 none.0, all_unknown seats fits.1 none.1)
 
+-- ---- what was committed
+module _ (db : Database) (law : ReachedLaw (language db)) (whole : Relations) (machines : Machines) (past : List (Deed (language db))) (served : IsServed db whole machines past) where
+  abbrev opened : (language db).Whole
+  opened = (served.version, whole)
+
+  -- it makes whole relations
+  pub served_fits : FitsSchema db.schemas (after_committed db past whole)
+  served_fits = subst (FitsSchema db.schemas) (serial_whole_is local (statements db) past (committed past) opened) (law.is_whole opened (world_of db machines [] past) served.reached)
+
+  -- and the settled fragments are those
+  pub served_rebuilds : AreThoseOf db machines (after_committed db past whole)
+  served_rebuilds = (serial_list local (statements db) opened (world_of db machines [] past) (law.serial opened (world_of db machines [] past) served.reached)).rebuilt
+
 -- ---- the machines together
 module _ (db : Database) (law : ReachedLaw (language db)) (whole : Relations) (machines : Machines) (past : List (Deed (language db))) (served : IsServed db whole machines past) (still : NothingStands machines) where
   nobody_begun : (txn : txns.Txn) → machines.table.standing txn ≡ None
@@ -78,12 +91,9 @@ module _ (db : Database) (law : ReachedLaw (language db)) (whole : Relations) (m
   known_is : (a : List ℕ) → (states_of (statements db) machines.seats a).known ≡ []
   known_is = at_each (statements db) (λ s. s.known ≡ []) machines.seats refl (all_unknown (statements db) machines.seats served.fit.sites still.tickets)
 
-  abbrev opened : (language db).Whole
-  opened = (served.version, whole)
-
   anew : IsOpening (machines.table.version, after_committed db past whole) (world_of db machines [] [])
   anew = record {
-    is_whole = subst (FitsSchema db.schemas) (serial_whole_is local (statements db) past (committed past) opened) (law.is_whole opened (world_of db machines [] past) served.reached);
+    is_whole = served_fits db law whole machines past served;
     letters = refl;
     past = refl;
     visits = at_each (statements db) (λ s. (k : Name) → s.status k ≡ Dead) machines.seats (λ k. refl) (all_dead (statements db) machines.seats served.fit.sites still.tickets);
@@ -93,7 +103,7 @@ module _ (db : Database) (law : ReachedLaw (language db)) (whole : Relations) (m
     rebuilt = λ place.
         let s = states_of (statements db) machines.seats place.0 in
         sym (ap (λ names. with_all_decided (desk_of db machines.table) place s.status names (s.kept place)) (known_is place.0))
-        ∙ (serial_list local (statements db) opened (world_of db machines [] past) (law.serial opened (world_of db machines [] past) served.reached)).rebuilt place;
+        ∙ served_rebuilds db law whole machines past served place;
     in_force = refl;
   }
 

@@ -106,7 +106,7 @@ module _ (site : List ℕ) (txn : Name) (out : List letters.Letter) where
   abort_kept s k true (Prepared t i) = λ is. none_kept out is
   abort_kept s k false (Prepared t i) = λ is. none_kept out is
 
-  pub calls_kept : (db : Database) (s : SiteState local) (told : bodies.Body) → map letter_of out ≡ addressed site txn (said s (on_letter s txn (kept_in out) (body_of told))) → CallKept {L = language db} (kept_in out) (body_with (statements db) (body_of told))
+  pub calls_kept : (db : Database) (s : SiteState local) (told : bodies.Body) → map letter_of out ≡ addressed site txn (said s (on_letter s txn (kept_in out) (body_of told))) → CallKept {L = language db} (kept_in out) (body_at local (statements db) site (body_of told))
   calls_kept db s (body.Order order.Open) is = tt
   calls_kept db s (body.Order (order.Fetch fetch)) is = fetched_kept s (name_of fetch.ticket) fetch.op fetch.leaf fetch.conds (kept_in out) (s.status (name_of fetch.ticket)) is
   calls_kept db s (body.Order (order.Intend intention)) is = tt
@@ -121,14 +121,14 @@ module _ (site : List ℕ) (txn : Name) (out : List letters.Letter) where
   calls_kept db s (body.Reply (reply_kinds.Inquire ticket)) is = tt
 
 -- a site's reply is none of these
-pub reply_keeps : (db : Database) (told : bodies.Body) (kept : Bool) → is_order told ≡ false → CallKept {L = language db} kept (body_with (statements db) (body_of told))
-reply_keeps db (body.Order order) kept none = cc
-reply_keeps db (body.Reply (reply_kinds.Ticket ticket)) kept none = tt
-reply_keeps db (body.Reply (reply_kinds.Rows rows)) kept none = tt
-reply_keeps db (body.Reply (reply_kinds.Refused refusal)) kept none = tt
-reply_keeps db (body.Reply (reply_kinds.Voted voted)) kept none = tt
-reply_keeps db (body.Reply (reply_kinds.Ack ticket)) kept none = tt
-reply_keeps db (body.Reply (reply_kinds.Inquire ticket)) kept none = tt
+pub reply_keeps : (db : Database) (site : List ℕ) (told : bodies.Body) (kept : Bool) → is_order told ≡ false → CallKept {L = language db} kept (body_at local (statements db) site (body_of told))
+reply_keeps db site (body.Order order) kept none = cc
+reply_keeps db site (body.Reply (reply_kinds.Ticket ticket)) kept none = tt
+reply_keeps db site (body.Reply (reply_kinds.Rows rows)) kept none = tt
+reply_keeps db site (body.Reply (reply_kinds.Refused refusal)) kept none = tt
+reply_keeps db site (body.Reply (reply_kinds.Voted voted)) kept none = tt
+reply_keeps db site (body.Reply (reply_kinds.Ack ticket)) kept none = tt
+reply_keeps db site (body.Reply (reply_kinds.Inquire ticket)) kept none = tt
 
 pub any_ok : {T E : Type 0} {P : T → Type 0} (result : Result T E) → ((x : T) → P x) → IfOk result P
 any_ok (Ok x) all = all x

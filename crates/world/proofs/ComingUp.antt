@@ -81,15 +81,15 @@ module _ {S : Type 0} (is_clean is_sound : S → Type 0) (kept : S → SiteConte
     all_wake (suc place) names stores sites olds up.1 clean.1 have.1 (rest_of o.name n (map (λ (seat : Seat). seat.name) olds) names named) (rest_of o.kept (kept s) (map (λ (seat : Seat). seat.kept) olds) (map kept stores) same),
   )
 
-  module _ (db : Database) (whole : Relations) (distinct : AreDistinct db.sites) (places : IsPlaced db c whole) where
+  module _ (db : Database) (n : ℕ) (whole : Relations) (distinct : AreDistinct db.sites) (places : IsPlaced db n c whole) where
     all_have : (place : ℕ) (names : List (List ℕ)) (stores : List S) (sites : List (Site S)) → AreUp is_clean is_sound kept refused c place names stores sites → ((i : ℕ) (name : List ℕ) → slice_get names i ≡ Some name → slice_get db.sites (place + i) ≡ Some name) → AllByRecursion (HasItsLeaves db) (seats_in kept sites)
     all_have place [] [] [] up there = tt
     all_have place [] [] (x ∷ sites) up there = absurd up
     all_have place [] (s ∷ stores) sites up there = absurd up
-    all_have place (n ∷ names) [] sites up there = absurd up
-    all_have place (n ∷ names) (s ∷ stores) [] up there = absurd up
-    all_have place (n ∷ names) (s ∷ stores) (x ∷ sites) up there = (
-      has_its db c whole distinct places place n (seat_from kept x) up.0.called up.0.leaves (subst (λ p. slice_get db.sites p ≡ Some n) (let e : place + 0 ≡ place = omega arith in e) (there 0 n refl)),
+    all_have place (name ∷ names) [] sites up there = absurd up
+    all_have place (name ∷ names) (s ∷ stores) [] up there = absurd up
+    all_have place (name ∷ names) (s ∷ stores) (x ∷ sites) up there = (
+      has_its db n c whole distinct places place name (seat_from kept x) up.0.called up.0.leaves (subst (λ p. slice_get db.sites p ≡ Some name) (let e : place + 0 ≡ place = omega arith in e) (there 0 name refl)),
       all_have (suc place) names stores sites up.1 (λ i name got. subst (λ p. slice_get db.sites p ≡ Some name) (let e : place + suc i ≡ suc place + i = omega arith in e) (there (suc i) name got)),
     )
 

@@ -42,10 +42,10 @@ use Rattle.protocol.specs.StatementCourse.{AtSites}
 use Rattle.protocol.specs.Fitting.{Suits}
 use Rattle.protocol.specs.Parts.{In}
 use Rattle.protocol.specs.WithoutRefusal.{IsHoused}
-use Rattle.protocol.proofs.Basics.{both_true, every_in, left_true, right_true, some_is}
+use Rattle.protocol.proofs.Basics.{both_true, either, every_in, left_true, right_true, some_is}
 use Rattle.desk.specs.Database.{language}
-use Rattle.desk.specs.Transaction.{at_leaf}
-use Rattle.desk.specs.CatalogueDatabase.{content_of, database, fits, found, is_part, site_of, width_of}
+use Rattle.desk.specs.Place.{Place, fetch_in, home_in, write_in}
+use Rattle.desk.specs.CatalogueDatabase.{content_at, content_of, database, fits, found, is_home, is_part, width_of}
 use Rattle.world.proofs.DatabaseSites.{leaf_at_sites}
 use Rattle.world.proofs.DatabaseIsStored.{entries_stored, under}
 use Rattle.world.proofs.DatabaseIsWritten.{found_has, to_leaf}
@@ -205,13 +205,16 @@ module _ (catalogue : Catalogue) (formed : IsFormed catalogue) (unique : LeafNam
 
   -- a leaf of this name is at a site
   abbrev IsSited : Leaf → Type 0
-  IsSited name = In (site_of catalogue.sites (found catalogue name)) catalogue.sites
+  IsSited name = In (home_in catalogue name) catalogue.sites
+
+  abbrev IsAtSite : Place → Type 0
+  IsAtSite place = In place.0 catalogue.sites
 
   all_sited : AllByRecursion (λ leaf. IsSited leaf.name) (catalogue_leaves catalogue)
   all_sited = leaf_at_sites catalogue formed unique ascend
 
-  at_sites : (names : List Leaf) → AllByRecursion IsSited names → AtSites L names
-  at_sites names all name here = every_in IsSited names name all here
+  at_sites : (places : List Place) → AllByRecursion IsAtSite places → AtSites L places
+  at_sites places all place here = every_in IsAtSite places place all here
 
   named_sited : (name : List ℕ) (relations : List SplitRelation) → AllByRecursion (λ leaf. IsSited leaf.name) (flat_map leaves_of relations) → AllByRecursion (λ leaf. IsSited leaf.name) (leaves_in (relation_named name relations))
   named_sited name [] all = tt
@@ -231,8 +234,8 @@ module _ (catalogue : Catalogue) (formed : IsFormed catalogue) (unique : LeafNam
   fetches_sited (One need) = picked_sited need _ need.relation
   fetches_sited (Joined col need other) = all_both (λ fetch. IsSited fetch.leaf) _ _ (picked_sited need _ need.relation) (picked_sited other _ other.relation)
 
-  fetched : (statement : Statement) → AtSites L (map (λ f. f.0) (L.fetches statement))
-  fetched statement = at_sites _ (all_map IsSited (λ f. f.0) _ (all_map (λ f. IsSited f.0) (λ fetch. (fetch.leaf, fetch.conds)) (fetches_by catalogue statement) (fetches_sited (needs statement))))
+  fetched : (statement : Statement) → AtSites L (map (λ f. f.0) (map (fetch_in catalogue) (fetches_by catalogue statement)))
+  fetched statement = at_sites _ (all_map IsAtSite (λ f. f.0) _ (all_map (λ f. IsAtSite f.0) (fetch_in catalogue) (fetches_by catalogue statement) (fetches_sited (needs statement))))
 
   -- what writes between whole databases are
   abbrev writes : Relations → Relations → FragmentLeaf → List Write
@@ -245,7 +248,7 @@ module _ (catalogue : Catalogue) (formed : IsFormed catalogue) (unique : LeafNam
       all_given (λ write. IsSited (leaf_of write)) (λ key. write_between leaf.name key (row_at key first) (row_at key second)) (map key_of (merged_rows first second))
       (λ key write made. subst IsSited (sym (to_leaf leaf.name key (row_at key first) (row_at key second) write made)) is)
 
-  same_leaf_of : (write : Write) → IsSited (leaf_of write) → IsSited (at_leaf write).0
+  same_leaf_of : (write : Write) → IsSited (leaf_of write) → IsAtSite (write_in catalogue write).0
   same_leaf_of (Put leaf part) is = is
   same_leaf_of (Del leaf key) is = is
 
@@ -253,17 +256,21 @@ module _ (catalogue : Catalogue) (formed : IsFormed catalogue) (unique : LeafNam
   all_more P Q [] to all = tt
   all_more P Q (x ∷ xs) to all = (to x all.0, all_more P Q xs to all.1)
 
-  written : (before after : Relations) → AtSites L (map (λ x. x.0) (L.writes before after))
-  written before after = at_sites _ (all_map IsSited (λ x. x.0) _ (all_map (λ x. IsSited x.0) at_leaf (writes_between catalogue before after)
-      (all_more (λ write. IsSited (leaf_of write)) (λ write. IsSited (at_leaf write).0) _ same_leaf_of (all_flat (λ leaf. IsSited leaf.name) (λ write. IsSited (leaf_of write)) (writes before after) (catalogue_leaves catalogue) (leaf_sited before after) all_sited))))
+  written : (before after : Relations) → AtSites L (map (λ x. x.0) (map (write_in catalogue) (writes_between catalogue before after)))
+  written before after = at_sites _ (all_map IsAtSite (λ x. x.0) _ (all_map (λ x. IsAtSite x.0) (write_in catalogue) (writes_between catalogue before after)
+      (all_more (λ write. IsSited (leaf_of write)) (λ write. IsAtSite (write_in catalogue write).0) _ same_leaf_of (all_flat (λ leaf. IsSited leaf.name) (λ write. IsSited (leaf_of write)) (writes before after) (catalogue_leaves catalogue) (leaf_sited before after) all_sited))))
 
   -- contents fit
-  abbrev fit : Leaf → Content → Bool
+  abbrev fit : Place → Content → Bool
   fit = fits catalogue
 
-  contents : (whole : Relations) → FitsSchema (schemas_of catalogue) whole → (name : Leaf) → fit name (L.content name whole) ≡ true
-  contents whole is name = go (found catalogue name) refl
+  contents : (whole : Relations) → FitsSchema (schemas_of catalogue) whole → (place : Place) → fit place (content_at catalogue place whole) ≡ true
+  contents whole is place = either (λ (kept : Content). fit place kept ≡ true) (is_home catalogue place) (content_of (found catalogue name) whole) fin.empty
+      (go (found catalogue name) refl) (ap (list_all (is_part (width_of (found catalogue name)))) (entries_stored [] tt))
     where
+      name : Leaf
+      name = place.1
+
       go : (o : Option FragmentLeaf) → found catalogue name ≡ o → list_all (is_part (width_of o)) (fin.entries (content_of o whole)) ≡ true
       go None none = ap (list_all (is_part 0)) (entries_stored [] tt)
       go (Some leaf) there =
@@ -271,31 +278,31 @@ module _ (catalogue : Catalogue) (formed : IsFormed catalogue) (unique : LeafNam
           let are = found_has _ name leaf (catalogue_leaves catalogue) (ascend catalogue whole formed is) there in
           ap (list_all (is_part (length leaf.columns))) (entries_stored parts are.ascends) ∙ under_are_in (length leaf.columns) parts are.long
 
-  pub parts_fit : (name : Leaf) (conds : List Cond) (kept : Content) → fit name kept ≡ true → (database catalogue).well_formed name (L.parts conds kept) ≡ true
-  parts_fit name conds kept is = they_climb (width_of (found catalogue name)) (conds_hold conds) None (fin.entries kept) is (true_of _ (fin.entries_sorted kept)) tt
+  pub parts_fit : (n : ℕ) (place : Place) (conds : List Cond) (kept : Content) → fit place kept ≡ true → (database catalogue).well_formed n place (L.parts conds kept) ≡ true
+  parts_fit n place conds kept is = they_climb (width_of (found catalogue place.1)) (conds_hold conds) None (fin.entries kept) is (true_of _ (fin.entries_sorted kept)) tt
 
   -- writes keep them fitting
   one_suits : (before after : Relations) (leaf : FragmentLeaf) → found catalogue leaf.name ≡ Some leaf → AllByRecursion (λ part. length part ≡ length leaf.columns) (content (unnamed leaf) (rows_of after leaf.name.relation)) →
-      AllByRecursion (λ write. Suits L fit (at_leaf write)) (writes before after leaf)
+      AllByRecursion (λ write. Suits L fit (write_in catalogue write)) (writes before after leaf)
   one_suits before after leaf there wide =
       let first = content (unnamed leaf) (rows_of before leaf.name.relation) in
       let second = content (unnamed leaf) (rows_of after leaf.name.relation) in
-      all_given (λ write. Suits L fit (at_leaf write)) (λ key. write_between leaf.name key (row_at key first) (row_at key second)) (map key_of (merged_rows first second))
-      (λ key write made. put_part (λ write. Suits L fit (at_leaf write)) leaf.name key (row_at key first) (row_at key second) write
+      all_given (λ write. Suits L fit (write_in catalogue write)) (λ key. write_between leaf.name key (row_at key first) (row_at key second)) (map key_of (merged_rows first second))
+      (λ key write made. put_part (λ write. Suits L fit (write_in catalogue write)) leaf.name key (row_at key first) (row_at key second) write
       (λ at kept is. ap (list_all (is_part (width_of (found catalogue leaf.name)))) (removed kept at) ∙ fewer_are_in (width_of (found catalogue leaf.name)) (λ x. not (eq_by_cmp int_cmp at x)) (fin.entries kept) is)
       (λ part last kept is. ap (list_all (is_part (width_of (found catalogue leaf.name)))) (fin.entries-insert int_cmp_total kept (key_of part) part)
       ∙ put_is_in (width_of (found catalogue leaf.name)) part (fin.entries kept) (row_has (λ part. length part ≡ length leaf.columns) key second part wide last ∙ sym (ap width_of there)) is) made)
 
-  suits : (before after : Relations) → FitsSchema (schemas_of catalogue) after → AllByRecursion (Suits L fit) (L.writes before after)
-  suits before after is = all_map (Suits L fit) at_leaf (writes_between catalogue before after) (all_flat (λ leaf. (found catalogue leaf.name ≡ Some leaf) × AreParts _ leaf.columns (content (unnamed leaf) (rows_of after leaf.name.relation)))
-      (λ write. Suits L fit (at_leaf write)) (writes before after) (catalogue_leaves catalogue) (λ leaf both. one_suits before after leaf both.0 both.1.long)
+  suits : (before after : Relations) → FitsSchema (schemas_of catalogue) after → AllByRecursion (Suits L fit) (map (write_in catalogue) (writes_between catalogue before after))
+  suits before after is = all_map (Suits L fit) (write_in catalogue) (writes_between catalogue before after) (all_flat (λ leaf. (found catalogue leaf.name ≡ Some leaf) × AreParts _ leaf.columns (content (unnamed leaf) (rows_of after leaf.name.relation)))
+      (λ write. Suits L fit (write_in catalogue write)) (writes before after) (catalogue_leaves catalogue) (λ leaf both. one_suits before after leaf both.0 both.1.long)
       (all_two (λ leaf. found catalogue leaf.name ≡ Some leaf) _ (catalogue_leaves catalogue) (unique catalogue formed) (ascend catalogue after formed is)))
 
-  pub housed : IsHoused L 1 fit
-  housed = record {
-    fetched = λ statement is. fetched statement;
-    written = λ statement whole is fits tag. written whole _;
-    suits = λ statement whole is fits tag version low. suits whole _ (meaning_fits (schemas_of catalogue) statement whole is fits);
-    contents = λ whole is version. contents whole is;
-    rows = λ statement tag. parts_fit;
+  pub housed : (n : ℕ) → IsHoused L n fit
+  housed n = record {
+    fetched = λ statement is. fetched statement.1;
+    written = λ statement whole is fits tag. written whole.1 _;
+    suits = λ statement whole is fits tag version low. suits whole.1 _ (meaning_fits (schemas_of catalogue) statement.1 whole.1 is fits);
+    contents = λ whole is version. contents whole.1 is;
+    rows = λ statement tag. parts_fit statement.0;
   }

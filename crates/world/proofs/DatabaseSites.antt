@@ -11,7 +11,7 @@ use Rattle.plan.specs.Contents.{ContentsAscend}
 use Rattle.protocol.specs.Parts.{In}
 use Rattle.protocol.proofs.Basics.{some_is}
 use Rattle.protocol.proofs.Locks.{Once}
-use Rattle.desk.specs.CatalogueDatabase.{found, site_of}
+use Rattle.desk.specs.Place.{home_in}
 use Rattle.world.proofs.DatabaseIsLawful.{homes}
 
 not_later : (site : List ℕ) (sites : List (List ℕ)) → AllByRecursion (λ other. site ≢ other) sites → In site sites → ⊥
@@ -37,5 +37,5 @@ each_in sites home [] there = tt
 each_in sites home (leaf ∷ leaves) there = (in_at sites leaf.site (home leaf) there.0, each_in sites home leaves there.1)
 
 -- the home of each leaf is among the sites
-pub leaf_at_sites : (catalogue : Catalogue) → IsFormed catalogue → LeafNamesAreUnique → ContentsAscend → AllByRecursion (λ leaf. In (site_of catalogue.sites (found catalogue leaf.name)) catalogue.sites) (catalogue_leaves catalogue)
-leaf_at_sites catalogue formed unique ascend = each_in catalogue.sites (λ leaf. site_of catalogue.sites (found catalogue leaf.name)) (catalogue_leaves catalogue) (homes catalogue formed unique ascend)
+pub leaf_at_sites : (catalogue : Catalogue) → IsFormed catalogue → LeafNamesAreUnique → ContentsAscend → AllByRecursion (λ leaf. In (home_in catalogue leaf.name) catalogue.sites) (catalogue_leaves catalogue)
+leaf_at_sites catalogue formed unique ascend = each_in catalogue.sites (λ leaf. home_in catalogue leaf.name) (catalogue_leaves catalogue) (homes catalogue formed unique ascend)

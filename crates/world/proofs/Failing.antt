@@ -33,6 +33,8 @@ use Rattle.world.specs.Counted.{HaveRefused, NoFewer}
 use Rattle.world.specs.Fault.{FailsFor, is_memory}
 use Rattle.world.specs.Machines.{AreFit, Machines}
 use Rattle.world.specs.Settled.{AreDecided, AreThoseOf, brought_of}
+use Rattle.desk.specs.Place.{home_in}
+use Rattle.world.proofs.DatabasePlaces.{home_there}
 use Rattle.world.proofs.DatabaseIsHoused.{housed, parts_fit}
 use Rattle.world.proofs.Counting.{refused_since}
 
@@ -59,10 +61,10 @@ fit_still x y one other catalog same fit = subst (λ z. AreFit (database (catalo
 
 -- what came of fetches at the later ones is what they are to bring at the earlier ones
 pub came_so : (x y : List (List ℕ) × List SplitRelation) (one other : Machines) (whole : Relations) (decided : List Txn) (came : List FetchRows) (fetches : List Fetch) → y ≡ x → other ≡ one →
-    (AreFit (database (catalogue_of y)) other → AreThoseOf (database (catalogue_of y)) other whole → AreDecided other.table decided → came ≡ map (brought_of (database (catalogue_of y)) whole) fetches) →
-    AreFit (database (catalogue_of x)) one → AreThoseOf (database (catalogue_of x)) one whole → AreDecided one.table decided → came ≡ map (brought_of (database (catalogue_of x)) whole) fetches
+    (AreFit (database (catalogue_of y)) other → AreThoseOf (database (catalogue_of y)) other whole → AreDecided other.table decided → came ≡ map (brought_of (database (catalogue_of y)) other.table.version whole) fetches) →
+    AreFit (database (catalogue_of x)) one → AreThoseOf (database (catalogue_of x)) one whole → AreDecided one.table decided → came ≡ map (brought_of (database (catalogue_of x)) one.table.version whole) fetches
 came_so x y one other whole decided came fetches catalog same brings =
-    let Brings : List (List ℕ) × List SplitRelation → Machines → Type 0 = λ z machines. AreFit (database (catalogue_of z)) machines → AreThoseOf (database (catalogue_of z)) machines whole → AreDecided machines.table decided → came ≡ map (brought_of (database (catalogue_of z)) whole) fetches in
+    let Brings : List (List ℕ) × List SplitRelation → Machines → Type 0 = λ z machines. AreFit (database (catalogue_of z)) machines → AreThoseOf (database (catalogue_of z)) machines whole → AreDecided machines.table decided → came ≡ map (brought_of (database (catalogue_of z)) machines.table.version whole) fetches in
     subst (Brings x) same (subst (λ z. Brings z other) catalog brings)
 
 -- ---- what fetches bring
@@ -73,13 +75,16 @@ module _ (catalogue : Catalogue) (base : IsBase (database catalogue)) (unique : 
       let db = database catalogue in
       let all = catalogue_leaves catalogue in
       let leaf = is.leaf in
-      let house = housed catalogue base.of_catalogue.formed unique ascend in
+      let home = home_in catalogue leaf.name in
+      let place = (home, leaf.name) in
+      let house = housed catalogue (base.of_catalogue.formed 0) unique ascend 0 in
       let there : leaf_named fetch.leaf all ≡ Some leaf = ap (λ (f : Fetch). leaf_named f.leaf all) is.is ∙ is.here.unique in
-      let has = (found_so (HasContent db whole) (is_name_of fetch.leaf) all leaf (base.of_catalogue.content whole fits) there).0 in
-      let forms = (found_so (FormsParts db) (is_name_of fetch.leaf) all leaf base.of_catalogue.well_formed there).0 in
-      let well = parts_fit catalogue base.of_catalogue.formed unique ascend leaf.name fetch.conds (db.content leaf.name whole) (house.contents whole fits refl leaf.name) in
+      let own : leaf_named leaf.name all ≡ Some leaf = is.here.unique in
+      let has = (found_so (HasContent db 0 whole) (is_name_of fetch.leaf) all leaf (base.of_catalogue.content 0 whole fits) there).0 home (home_there catalogue (base.of_catalogue.formed 0) leaf.name leaf own) in
+      let forms = (found_so (FormsParts db 0) (is_name_of fetch.leaf) all leaf (base.of_catalogue.well_formed 0) there).0 home in
+      let well = parts_fit catalogue (base.of_catalogue.formed 0) unique ascend 0 place fetch.conds (db.content 0 place whole) (house.contents (0, whole) fits refl place) in
       subst (λ (columns : List ℕ). AreParts columns (brought whole fetch (leaf_named fetch.leaf all))) (sym (ap (λ (f : Fetch). f.columns) is.is))
-      (subst (AreParts leaf.columns) (ap (met fetch.conds) has ∙ sym (ap (brought whole fetch) there)) ((forms (parts fetch.conds (db.content leaf.name whole))).0 well))
+      (subst (AreParts leaf.columns) (ap (met fetch.conds) has ∙ sym (ap (brought whole fetch) there)) ((forms (parts fetch.conds (db.content 0 place whole))).0 well))
 
   -- so of each of some fetches
   all_fit : (need other : Need) (contents : Leaf → List (List Value)) (fetches : List Fetch) → AllByRecursion (IsEither (catalogue_leaves catalogue) need other) fetches → AreBrought catalogue whole fetches contents → AllByRecursion (λ read. AreParts read.columns (contents read.leaf)) fetches
@@ -92,5 +97,5 @@ module _ (catalogue : Catalogue) (base : IsBase (database catalogue)) (unique : 
   -- what the fetches of a statement bring is parts of their columns
   pub parts_come : (stated : Statement) (contents : Leaf → List (List Value)) (fetches : List Fetch) → IsStatementOf (schemas_of catalogue) stated → AreFetchesOf catalogue stated fetches → AreBrought catalogue whole fetches contents → AllByRecursion (λ read. AreParts read.columns (contents read.leaf)) fetches
   parts_come stated contents fetches of are came =
-      let known = are_of catalogue unique base.of_catalogue.formed stated fetches of are in
+      let known = are_of catalogue unique (base.of_catalogue.formed 0) stated fetches of are in
       all_fit known.need known.other contents fetches known.each came

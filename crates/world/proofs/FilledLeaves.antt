@@ -48,6 +48,19 @@ module _ (whole : Relations) (site : ℕ) where
       go true e is later = absurd cc
       go false e is later = passes leaf leaves name kept e ∙ later is
 
+  -- one of another site's keeps what it had
+  pub leaf_elsewhere : (leaves : List FragmentLeaf) (name : Leaf) (leaf : FragmentLeaf) (kept : Content) → HaveOwnNames leaves → leaf_named name leaves ≡ Some leaf → (leaf.site == site) ≡ false → filled whole site leaves name kept ≡ kept
+  leaf_elsewhere [] name leaf kept own there other = absurd cc
+  leaf_elsewhere (first ∷ leaves) name leaf kept own there other = go (is_name_of name first) refl there (λ later. leaf_elsewhere leaves name leaf kept own.1 later other)
+    where
+      go : (b : Bool) → is_name_of name first ≡ b → (if b then Some first else leaf_named name leaves) ≡ Some leaf → (leaf_named name leaves ≡ Some leaf → filled whole site leaves name kept ≡ kept) → filled whole site (first ∷ leaves) name kept ≡ kept
+      go false e is later = passes first leaves name kept e ∙ later is
+      go true e is later =
+          let same : first ≡ leaf = some_is is in
+          let named : first.name ≡ name = sym (leaf_is name first.name (sym (same_test name first) ∙ e)) in
+          ap (λ (b : Bool). filled whole site leaves name (if b then kept_with first (rows_of whole first.name.relation) name kept else kept)) (ap (λ (l : FragmentLeaf). l.site == site) same ∙ other)
+          ∙ subst (λ (n : Leaf). filled whole site leaves n kept ≡ kept) named (others_pass first leaves kept own.0)
+
   -- one of the site's has its parts
   pub leaf_filled : (leaves : List FragmentLeaf) (name : Leaf) (leaf : FragmentLeaf) (kept : Content) → HaveOwnNames leaves → leaf_named name leaves ≡ Some leaf → leaf.site ≡ site → filled whole site leaves name kept ≡ stored_in kept (content (unnamed leaf) (rows_of whole leaf.name.relation))
   leaf_filled [] name leaf kept own there here = absurd cc

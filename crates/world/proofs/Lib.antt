@@ -15,6 +15,7 @@ pub mod Filled
 pub mod Opened
 pub mod FilledLeaves
 pub mod Openings
+pub mod DatabasePlaces
 pub mod DatabaseIsStored
 pub mod DatabaseIsWritten
 pub mod DatabaseIsLawful

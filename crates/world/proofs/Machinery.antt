@@ -214,7 +214,7 @@ module _ (db : Database) (before : Machines) (seat : Seat) (after : List Seat) (
       let act : SiteState (language db) → Act (language db) = λ s. on_letter s (txn_name letter.txn) (kept_in out) said_to in
       let here = seat_named letter.site before.seats seat did.moves.there in
       site_leads letter.site did.new did.moves (λ w. comes w (kept_in out) choice (sent db letter)) (λ s. site_after s (act s)) (λ s. addressed letter.site (txn_name letter.txn) (said s (act s)))
-      (λ waiting past. ap (λ (b : Bool). comes_to b (world_of db before waiting past) (kept_in out) choice (sent db letter)) (order_is db letter.body order))
+      (λ waiting past. ap (λ (b : Bool). comes_to b (world_of db before waiting past) (kept_in out) choice (sent db letter)) (order_is db letter.site letter.body order))
       (letter_state S letter out seat did.new here did.moves.named did.does) (letter_said S letter out seat did.new here did.moves.named did.does)
       (site_homed (language db) (IsPlace db) (state_at S seat) letter.site (txn_name letter.txn) (kept_in out) said_to)
   done_leads (GiveUp site ticket) choice order did =
@@ -261,7 +261,7 @@ module _ (db : Database) (before : Machines) (seat : Seat) (after : List Seat) (
       let w = world_of db before [] [] in
       let said = body_at local S letter.site (body_of letter.body) in
       ap (λ (k : Bool). passes w k choice (sent db letter)) same_kept
-      ∙ ap (λ (b : Bool). passes_to b w (kept_in out) choice (sent db letter)) (order_is db letter.body order)
+      ∙ ap (λ (b : Bool). passes_to b w (kept_in out) choice (sent db letter)) (order_is db letter.site letter.body order)
       ∙ ap (λ s. is_within (site_after s (on_letter s (txn_name letter.txn) (kept_in out) said))) (state_there S letter.site before.seats seat did.moves.there)
       ∙ ap is_within (letter_state S letter out seat did.new (seat_named letter.site before.seats seat did.moves.there) did.moves.named did.does)
       ∙ (within_same local S local_lawful did.new.name (state_of did.new.kept did.new.table) ∙ fits_within did.new.kept did.new.table did.moves.seated)

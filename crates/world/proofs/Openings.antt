@@ -4,10 +4,10 @@ use Rattle.std.specs.FinMap as fin
 use Rattle.std.specs.Cmp.Lexicographic.{pointwise}
 use Rattle.std.specs.List.{AllByRecursion, filter, list_any}
 use Rattle.std.specs.Ordering.{is_eq}
-use Rattle.std.proofs.lemmas.Bool.{eq-eqb}
+use Rattle.std.proofs.lemmas.Bool.{eq-eqb, eqb-true}
 use Rattle.terms.specs.declared.leaf.Leaf.{Leaf}
 use Rattle.terms.specs.Leaf.{leaf_cmp}
-use Rattle.meaning.specs.Whole.{Relations}
+use Rattle.meaning.specs.Whole.{FitsSchema, Relations}
 use Rattle.reader.specs.Printable.{AreDistinct}
 use Rattle.catalog.specs.declared.fragment_leaf.FragmentLeaf.{FragmentLeaf}
 use Rattle.catalog.specs.Catalogue.{Catalogue}
@@ -22,22 +22,28 @@ use Rattle.protocol.specs.Local.{local}
 use Rattle.protocol.specs.Parts.{In}
 use Rattle.protocol.specs.Serial.{IsOpening}
 use Rattle.protocol.specs.Site.{Dead, SiteState}
-use Rattle.protocol.specs.Catalogues.{Catalogues, listed, status_at}
+use Rattle.protocol.specs.Catalogues.{Catalogues, listed, site_at, status_at}
 use Rattle.protocol.proofs.Basics.{clash, some_is}
+use Rattle.protocol.proofs.Placing.{kept_here}
 use Rattle.desk.specs.Database.{Database, language, statements}
+use Rattle.desk.specs.CatalogueDatabase.{is_site}
+use Rattle.desk.specs.Place.{Place, home_in, site_in}
 use Rattle.desk.specs.Transaction.{txn_of}
 use Rattle.desk.specs.Recovery as desk_starting
 use Rattle.desk.specs.State.{txn_at}
 use Rattle.site.specs.declared.tickets.TicketState as standings
 use Rattle.site.specs.declared.tickets.TicketState.TheVariants as standing
 use Rattle.site.specs.Recovery.{resting}
-use Rattle.site.specs.State.{stands, txn_in, visiting}
+use Rattle.site.specs.State.{stands, state_of, txn_in, visiting}
+use Rattle.site.proofs.Lawful.{local_lawful}
 use Rattle.world.specs.Machines.{AreFit, Machines, world_of}
 use Rattle.world.specs.Placed.{IsPlaced, Opens}
 use Rattle.world.specs.Start.{AllStarted, IsAtRest, IsStarted}
 use Rattle.world.specs.Sites.{Seat, is_called, nobody, seat_of, state_at, states_of}
-use Rattle.world.proofs.FilledLeaves.{leaf_filled, none_filled, same_test}
-use Rattle.world.proofs.Seating.{HasItsLeaves, name_is, name_self, state_there}
+use Rattle.world.specs.Filling.{filled}
+use Rattle.world.proofs.DatabasePlaces.{at_in, home_is, home_there}
+use Rattle.world.proofs.FilledLeaves.{leaf_elsewhere, leaf_filled, none_filled, same_test}
+use Rattle.world.proofs.Seating.{HasItsLeaves, name_is, name_self, seat_named, state_there}
 
 -- what holds of each started site holds of each
 started_all : (P : Seat → Type 0) (c : Catalogue) (whole : Relations) (place : ℕ) (names : List (List ℕ)) (seats : List Seat) → ((at : ℕ) (name : List ℕ) (seat : Seat) → IsStarted c whole at name seat → P seat) → AllStarted c whole place names seats → AllByRecursion P seats
@@ -101,12 +107,6 @@ one_place (n ∷ names) (suc i) zero name distinct one other = absurd (apart_at 
 one_place (n ∷ names) (suc i) (suc j) name distinct one other = ap suc (one_place names i j name distinct.1 one other)
 
 -- ---- a started site has the leaves that are at home there
-found_among : (names : List (List ℕ)) (i : ℕ) (name : List ℕ) → slice_get names i ≡ Some name → list_any (pointwise nat_eq name) names ≡ true
-found_among [] zero name got = cc
-found_among [] (suc i) name got = cc
-found_among (n ∷ names) zero name got = ap (λ (b : Bool). b || list_any (pointwise nat_eq name) names) (subst (λ m. pointwise nat_eq name m ≡ true) (sym (some_is got)) (name_self name))
-found_among (n ∷ names) (suc i) name got = ap (λ (b : Bool). pointwise nat_eq name n || b) (found_among names i name got) ∙ or_true (pointwise nat_eq name n)
-
 named_at : (at : ℕ) (name : Leaf) (leaf : FragmentLeaf) (leaves : List FragmentLeaf) → leaf_named name leaves ≡ Some leaf → leaf.site ≡ at → list_any (λ other. is_eq (leaf_cmp name other)) (names_at at leaves) ≡ true
 named_at at name leaf [] found here = cc
 named_at at name leaf (first ∷ leaves) found here = go (is_name_of name first) refl found (λ later. named_at at name leaf leaves later here)
@@ -122,14 +122,15 @@ named_at at name leaf (first ∷ leaves) found here = go (is_name_of name first)
         ap (λ (b : Bool). list_any (λ other. is_eq (leaf_cmp name other)) (map (λ (l : FragmentLeaf). l.name) (if b then first ∷ filter (λ (l : FragmentLeaf). l.site == at) leaves else filter (λ (l : FragmentLeaf). l.site == at) leaves))) at_site
         ∙ ap (λ (b : Bool). b || list_any (λ other. is_eq (leaf_cmp name other)) (names_at at leaves)) (sym (same_test name first) ∙ e)
 
-module _ (db : Database) (c : Catalogue) (whole : Relations) (distinct : AreDistinct db.sites) (places : IsPlaced db c whole) where
+module _ (db : Database) (n : ℕ) (c : Catalogue) (whole : Relations) (distinct : AreDistinct db.sites) (places : IsPlaced db n c whole) where
   pub has_its : (at : ℕ) (name : List ℕ) (seat : Seat) → seat.name ≡ name → seat.leaves ≡ names_at at (catalogue_leaves c) → slice_get db.sites at ≡ Some name → HasItsLeaves db seat
-  has_its at name seat called own there = λ leaf home. go leaf home (leaf_named leaf (catalogue_leaves c)) refl
+  has_its at name seat called own there = λ leaf home. go leaf (places.places (seat.name, leaf) home) (leaf_named leaf (catalogue_leaves c)) refl
     where
-      go : (leaf : Leaf) → db.home leaf ≡ seat.name → (found : Option FragmentLeaf) → leaf_named leaf (catalogue_leaves c) ≡ found → list_any (λ other. is_eq (leaf_cmp leaf other)) seat.leaves ≡ true
-      go leaf home None none = clash (found_among db.sites at (db.home leaf) (there ∙ ap Some (sym (home ∙ called)))) (places.homeless leaf none)
+      go : (leaf : Leaf) → site_in c leaf ≡ Some seat.name → (found : Option FragmentLeaf) → leaf_named leaf (catalogue_leaves c) ≡ found → list_any (λ other. is_eq (leaf_cmp leaf other)) seat.leaves ≡ true
+      go leaf home None none = absurd (let no : None ≡ Some seat.name = sym (ap (at_in c) none) ∙ home in cc)
       go leaf home (Some of) found =
-          let here : of.site ≡ at = one_place db.sites of.site at (db.home leaf) distinct (places.home leaf of found) (there ∙ ap Some (sym (home ∙ called))) in
+          let of_site : slice_get db.sites of.site ≡ Some name = ap (λ sites. slice_get sites of.site) places.sites ∙ sym (ap (at_in c) found) ∙ home ∙ ap Some called in
+          let here : of.site ≡ at = one_place db.sites of.site at name distinct of_site there in
           subst (λ (leaves : List Leaf). list_any (λ other. is_eq (leaf_cmp leaf other)) leaves ≡ true) (sym own) (named_at at leaf of (catalogue_leaves c) found here)
 
   all_have_theirs : (place : ℕ) (names : List (List ℕ)) (seats : List Seat) → AllStarted c whole place names seats → ((i : ℕ) (name : List ℕ) → slice_get names i ≡ Some name → slice_get db.sites (place + i) ≡ Some name) → AllByRecursion (HasItsLeaves db) seats
@@ -147,7 +148,7 @@ module _ (S : Catalogues local) (seat : Seat) (rests : IsAtRest seat) where
   stands_dead ticket = ap (λ (s : SiteState local). s.status (name_of ticket)) rests.begins.state ∙ ap resting (rests.prepared ticket)
 
   dead : (k : Name) → (state_at S seat).status k ≡ Dead
-  dead k = ap (status_with S) (stands_dead (ticket_of k))
+  dead k = ap (status_at local S seat.name) (stands_dead (ticket_of k))
 
   nobody_listed : (ticket : Ticket) → In ticket seat.table.tickets → ⊥
   nobody_listed ticket here = go (seat.table.standing ticket) refl (rests.begins.fits.lives ticket here)
@@ -181,8 +182,8 @@ all_so [] so all = tt
 all_so (seat ∷ seats) so all = (so seat all.0, all_so seats so all.1)
 
 -- the contents of its sites are those of whole relations
-module _ (db : Database) (whole : Relations) (machines : Machines) (is_whole : (language db).IsWhole whole) (names : map (λ seat. seat.name) machines.seats ≡ db.sites) (leaves : AllByRecursion (HasItsLeaves db) machines.seats) (rest : AllByRecursion IsAtRest machines.seats)
-    (keeps : (name : Leaf) → (states_of (statements db) machines.seats (db.home name)).kept name ≡ db.content name whole) (rises : desk_starting.Rises db machines.desk machines.table) (none : (txn : txns.Txn) → machines.desk.commits txn ≡ None) where
+module _ (db : Database) (whole : Relations) (machines : Machines) (is_whole : FitsSchema db.schemas whole) (names : map (λ seat. seat.name) machines.seats ≡ db.sites) (leaves : AllByRecursion (HasItsLeaves db) machines.seats) (rest : AllByRecursion IsAtRest machines.seats)
+    (keeps : (place : Place) → (states_of (statements db) machines.seats place.0).kept place ≡ db.content machines.table.version place whole) (rises : desk_starting.Rises db machines.desk machines.table) (none : (txn : txns.Txn) → machines.desk.commits txn ≡ None) where
   abbrev S : Catalogues local
   S = statements db
 
@@ -202,7 +203,7 @@ module _ (db : Database) (whole : Relations) (machines : Machines) (is_whole : (
   no_names [] lives = refl
   no_names (txn ∷ names) lives = let some = lives txn (inl refl) in let no : is_some (machines.table.standing txn) ≡ false = ap is_some (nothing_stands txn) in absurd cc
 
-  rested_world : IsOpening whole (world_of db machines [] [])
+  rested_world : IsOpening (machines.table.version, whole) (world_of db machines [] [])
   rested_world = record {
     is_whole = is_whole;
     letters = refl;
@@ -219,29 +220,68 @@ module _ (db : Database) (whole : Relations) (machines : Machines) (is_whole : (
   opens_at_rest = record { fit = rested_fit; opening = rested_world }
 
 -- ---- where all sites have started
-module _ (db : Database) (c : Catalogue) (whole : Relations) (machines : Machines) (distinct : AreDistinct db.sites) (own : HaveOwnNames (catalogue_leaves c)) (places : IsPlaced db c whole)
+module _ (db : Database) (c : Catalogue) (whole : Relations) (machines : Machines) (formed : IsFormed c) (distinct : AreDistinct db.sites) (own : HaveOwnNames (catalogue_leaves c)) (places : IsPlaced db machines.table.version c whole)
     (started : AllStarted c whole 0 db.sites machines.seats) (rises : desk_starting.Rises db machines.desk machines.table) (none : (txn : txns.Txn) → machines.desk.commits txn ≡ None) where
-  keeps_its : (name : Leaf) → (states_of (statements db) machines.seats (db.home name)).kept name ≡ db.content name whole
-  keeps_its name = go (leaf_named name (catalogue_leaves c)) refl
+  -- what a site has where it keeps nothing of a leaf
+  empty_at : (place : Place) (seat : Seat) → (seat.name ≡ place.0 → seat.kept.content place.1 ≡ fin.empty) → (state_at (statements db) seat).kept place ≡ fin.empty
+  empty_at place seat nothing = go (pointwise nat_eq place.0 seat.name) refl
     where
-      go : (o : Option FragmentLeaf) → leaf_named name (catalogue_leaves c) ≡ o → (states_of (statements db) machines.seats (db.home name)).kept name ≡ db.content name whole
-      go None e =
-          at_each (statements db) (λ s. s.kept name ≡ fin.empty) machines.seats refl
-          (started_all (λ seat. (state_at (statements db) seat).kept name ≡ fin.empty) c whole 0 db.sites machines.seats (λ at site seat is. is.content name ∙ none_filled whole at (catalogue_leaves c) name fin.empty e) started) (db.home name)
-          ∙ sym (places.nowhere name e)
-      go (Some leaf) e =
-          let here = found_at c whole 0 db.sites machines.seats leaf.site (db.home name) started distinct (places.home name leaf e) in
-          ap (λ (s : SiteState (language db)). s.kept name) (state_there (statements db) (db.home name) machines.seats here.seat here.there)
-          ∙ here.started.content name
+      go : (b : Bool) → pointwise nat_eq place.0 seat.name ≡ b → (if b then seat.kept.content place.1 else fin.empty) ≡ fin.empty
+      go true e = nothing (sym (name_is place.0 seat.name e))
+      go false e = refl
+
+  -- a site that no leaf of the name is at keeps nothing of it
+  keeps_nothing : (place : Place) → ((at : ℕ) → slice_get db.sites at ≡ Some place.0 → filled whole at (catalogue_leaves c) place.1 fin.empty ≡ fin.empty) → (states_of (statements db) machines.seats place.0).kept place ≡ fin.empty
+  keeps_nothing place nothing = at_each (statements db) (λ s. s.kept place ≡ fin.empty) machines.seats refl (all 0 db.sites machines.seats started (λ i name got. got))
+    where
+      all : (first : ℕ) (names : List (List ℕ)) (seats : List Seat) → AllStarted c whole first names seats → ((i : ℕ) (name : List ℕ) → slice_get names i ≡ Some name → slice_get db.sites (first + i) ≡ Some name) → AllByRecursion (λ seat. (state_at (statements db) seat).kept place ≡ fin.empty) seats
+      all first [] [] is there = tt
+      all first [] (s ∷ seats) is there = absurd is
+      all first (n ∷ names) [] is there = absurd is
+      all first (n ∷ names) (s ∷ seats) is there = (
+        empty_at place s (λ here. is.0.content place.1 ∙ nothing first (subst (λ p. slice_get db.sites p ≡ Some place.0) (let e : first + 0 ≡ first = omega arith in e) (there 0 n refl ∙ ap Some (sym is.0.called ∙ here)))),
+        all (suc first) names seats is.1 (λ i name got. subst (λ p. slice_get db.sites p ≡ Some name) (let e : first + suc i ≡ suc first + i = omega arith in e) (there (suc i) name got)),
+      )
+
+  keeps_its : (place : Place) → (states_of (statements db) machines.seats place.0).kept place ≡ db.content machines.table.version place whole
+  keeps_its place = go (leaf_named name (catalogue_leaves c)) refl
+    where
+      site : List ℕ
+      site = place.0
+
+      name : Leaf
+      name = place.1
+
+      at_site : (leaf : FragmentLeaf) → leaf_named name (catalogue_leaves c) ≡ Some leaf → (b : Bool) → pointwise nat_eq (home_in c name) site ≡ b → (states_of (statements db) machines.seats place.0).kept place ≡ db.content machines.table.version place whole
+      at_site leaf e true here =
+          let is : slice_get c.sites leaf.site ≡ Some site = home_there c formed name leaf e ∙ ap Some (name_is (home_in c name) site here) in
+          let at = found_at c whole 0 db.sites machines.seats leaf.site site started distinct (ap (λ sites. slice_get sites leaf.site) places.sites ∙ is) in
+          let state = state_of at.seat.kept at.seat.table in
+          ap (λ (s : SiteState (language db)). s.kept place) (state_there (statements db) site machines.seats at.seat at.there ∙ ap (λ n. site_at local (statements db) n state) (seat_named site machines.seats at.seat at.there))
+          ∙ kept_here local (statements db) local_lawful site state name
+          ∙ at.started.content name
           ∙ leaf_filled whole (0 + leaf.site) (catalogue_leaves c) name leaf fin.empty own e (let n : leaf.site ≡ 0 + leaf.site = omega arith in n)
-          ∙ sym (places.has name leaf e)
+          ∙ sym (places.has name leaf site e is)
+      at_site leaf e false other =
+          keeps_nothing place (λ at there. leaf_elsewhere whole at (catalogue_leaves c) name leaf fin.empty own e (apart at there (leaf.site == at) refl))
+          ∙ sym (places.nowhere place (ap (λ (o : Option (List ℕ)). is_site o site) (home_is c formed name leaf e) ∙ other))
+        where
+          apart : (at : ℕ) → slice_get db.sites at ≡ Some site → (b : Bool) → (leaf.site == at) ≡ b → b ≡ false
+          apart at there false e2 = refl
+          apart at there true e2 =
+              let one : Some (home_in c name) ≡ Some site = sym (home_there c formed name leaf e) ∙ ap (λ i. slice_get c.sites i) (eqb-true leaf.site at e2) ∙ ap (λ sites. slice_get sites at) (sym places.sites) ∙ there in
+              clash (subst (λ s. pointwise nat_eq (home_in c name) s ≡ true) (some_is one) (name_self (home_in c name))) other
+
+      go : (o : Option FragmentLeaf) → leaf_named name (catalogue_leaves c) ≡ o → (states_of (statements db) machines.seats place.0).kept place ≡ db.content machines.table.version place whole
+      go None e = keeps_nothing place (λ at there. none_filled whole at (catalogue_leaves c) name fin.empty e) ∙ sym (places.nowhere place (ap (λ (o : Option FragmentLeaf). is_site (at_in c o) site) e))
+      go (Some leaf) e = at_site leaf e (pointwise nat_eq (home_in c name) site) refl
 
   pub opens : Opens db whole machines
   opens = opens_at_rest db whole machines places.fits (started_names c whole 0 db.sites machines.seats started)
-      (all_have_theirs db c whole distinct places 0 db.sites machines.seats started (λ i name got. subst (λ p. slice_get db.sites p ≡ Some name) (let e : i ≡ 0 + i = omega arith in e) got))
+      (all_have_theirs db machines.table.version c whole distinct places 0 db.sites machines.seats started (λ i name got. subst (λ p. slice_get db.sites p ≡ Some name) (let e : i ≡ 0 + i = omega arith in e) got))
       (started_all IsAtRest c whole 0 db.sites machines.seats (λ at name seat is. is.rests) started) keeps_its rises none
 
 -- of the sites of the code and their catalogue
-pub opens_of : (db : Database) (c : Catalogue) (whole : Relations) (machines : Machines) → IsFormed c → IsPlaced db c whole → AllStarted c whole 0 c.sites machines.seats → desk_starting.Rises db machines.desk machines.table → ((txn : txns.Txn) → machines.desk.commits txn ≡ None) → Opens db whole machines
+pub opens_of : (db : Database) (c : Catalogue) (whole : Relations) (machines : Machines) → IsFormed c → IsPlaced db machines.table.version c whole → AllStarted c whole 0 c.sites machines.seats → desk_starting.Rises db machines.desk machines.table → ((txn : txns.Txn) → machines.desk.commits txn ≡ None) → Opens db whole machines
 opens_of db c whole machines formed places started rises none =
-    opens db c whole machines (subst AreDistinct (sym places.sites) formed.distinct) (own_names c.relations formed.ascending) places (subst (λ sites. AllStarted c whole 0 sites machines.seats) (sym places.sites) started) rises none
+    opens db c whole machines formed (subst AreDistinct (sym places.sites) formed.distinct) (own_names c.relations formed.ascending) places (subst (λ sites. AllStarted c whole 0 sites machines.seats) (sym places.sites) started) rises none

@@ -35,11 +35,12 @@ use Rattle.site.specs.declared.locks.Locks.{Locks}
 use Rattle.site.specs.Refusals as site
 use Rattle.site.specs.Locks.{leaves_in}
 use Rattle.site.specs.State.{state_of}
+use Rattle.site.proofs.Lawful.{local_lawful}
 use Rattle.site.proofs.Limited.{fits_within}
 use Rattle.desk.specs.declared.refusal.Refusal as refusals
 use Rattle.desk.specs.declared.refusal.Refusal.TheVariants as refusal
 use Rattle.desk.specs.Request.{txn_in}
-use Rattle.desk.specs.Database.{Database, language, replied, sent, statements}
+use Rattle.desk.specs.Database.{Database, IsPlace, language, replied, sent, statements}
 use Rattle.desk.specs.Does.{IsPastLimits}
 use Rattle.desk.specs.State.{desk_of}
 use Rattle.world.specs.declared.fault.Fault as faults
@@ -57,19 +58,19 @@ abbrev pub no_choice : (db : Database) → Choice (language db)
 no_choice db = (Exists, [])
 
 -- an order is for no coordinator
-pub order_is : (db : Database) (body : bodies.Body) → is_order body ≡ true → is_for_desk (body_with (statements db) (body_of body)) ≡ false
-order_is db (body.Order order.Open) is = refl
-order_is db (body.Order (order.Fetch fetch)) is = refl
-order_is db (body.Order (order.Intend intention)) is = refl
-order_is db (body.Order (order.Prepare prepare)) is = refl
-order_is db (body.Order (order.Commit ticket)) is = refl
-order_is db (body.Order (order.Abort ticket)) is = refl
-order_is db (body.Reply reply) is = absurd cc
+pub order_is : (db : Database) (site : List ℕ) (body : bodies.Body) → is_order body ≡ true → is_for_desk (body_at local (statements db) site (body_of body)) ≡ false
+order_is db site (body.Order order.Open) is = refl
+order_is db site (body.Order (order.Fetch fetch)) is = refl
+order_is db site (body.Order (order.Intend intention)) is = refl
+order_is db site (body.Order (order.Prepare prepare)) is = refl
+order_is db site (body.Order (order.Commit ticket)) is = refl
+order_is db site (body.Order (order.Abort ticket)) is = refl
+order_is db site (body.Reply reply) is = absurd cc
 
 -- sites that fit are within their limits
 pub seats_within : (db : Database) (seats : List Seat) (name : List ℕ) → AllByRecursion IsSeated seats → is_within (states_of (statements db) seats name) ≡ true
 seats_within db [] name seated = refl
-seats_within db (seat ∷ seats) name seated = go (is_called name seat) (within_same (statements db) (state_of seat.kept seat.table) ∙ fits_within seat.kept seat.table seated.0) (seats_within db seats name seated.1)
+seats_within db (seat ∷ seats) name seated = go (is_called name seat) (within_same local (statements db) local_lawful seat.name (state_of seat.kept seat.table) ∙ fits_within seat.kept seat.table seated.0) (seats_within db seats name seated.1)
   where
     go : (b : Bool) → is_within (state_at (statements db) seat) ≡ true → is_within (states_of (statements db) seats name) ≡ true →
         is_within (if b then state_at (statements db) seat else states_of (statements db) seats name) ≡ true
@@ -123,13 +124,13 @@ site_tells (Err site_fault.Stranger) seat locks letter same full strange calls =
 
 -- ---- what the coordinator tells
 pub passes_is : (db : Database) (machines : Machines) (letter : letters.Letter) (reply : replies.Reply) → letter.body ≡ body.Reply reply → (kept : Bool) (choice : Choice (language db)) →
-    passes (world_of db machines [] []) kept choice (sent db letter) ≡ is_desk_within (desk_after (desk_of db machines.table) (txn_name letter.txn) (on_desk_letter (txn_name letter.txn) letter.site kept choice (replied db reply) (txn_in db machines.table letter.txn)).txn)
+    passes (world_of db machines [] []) kept choice (sent db letter) ≡ is_desk_within (desk_after (desk_of db machines.table) (txn_name letter.txn) (on_desk_letter (txn_name letter.txn) letter.site kept choice (replied db letter.site reply) (txn_in db machines.table letter.txn)).txn)
 passes_is db machines letter reply is kept choice = ap (λ said. passes (world_of db machines [] []) kept choice (as_sent said)) is ∙ go reply
   where
     as_sent : bodies.Body → Letter (language db)
-    as_sent said = record { site = letter.site; txn = txn_name letter.txn; body = body_with (statements db) (body_of said) }
+    as_sent said = record { site = letter.site; txn = txn_name letter.txn; body = body_at local (statements db) letter.site (body_of said) }
 
-    go : (r : replies.Reply) → passes (world_of db machines [] []) kept choice (as_sent (body.Reply r)) ≡ is_desk_within (desk_after (desk_of db machines.table) (txn_name letter.txn) (on_desk_letter (txn_name letter.txn) letter.site kept choice (replied db r) (txn_in db machines.table letter.txn)).txn)
+    go : (r : replies.Reply) → passes (world_of db machines [] []) kept choice (as_sent (body.Reply r)) ≡ is_desk_within (desk_after (desk_of db machines.table) (txn_name letter.txn) (on_desk_letter (txn_name letter.txn) letter.site kept choice (replied db letter.site r) (txn_in db machines.table letter.txn)).txn)
     go (reply_kinds.Ticket ticket) = refl
     go (reply_kinds.Rows rows) = refl
     go (reply_kinds.Refused refusal) = refl
@@ -139,7 +140,7 @@ passes_is db machines letter reply is kept choice = ap (λ said. passes (world_o
 
 pub desk_tells : {T : Type 0} (db : Database) (machines : Machines) (letter : letters.Letter) (result : Result T refusals.Refusal) (reply : replies.Reply) → letter.body ≡ body.Reply reply → is_order letter.body ≡ false →
     IfErr result (λ told. (told ≡ refusal.Memory) ⊎ (told ≡ refusal.Full)) →
-    (result ≡ Err refusal.Full → IsPastLimits db machines.table letter.txn (λ choice. on_desk_letter (txn_name letter.txn) letter.site true choice (replied db reply) (txn_in db machines.table letter.txn))) → IfErr result (λ told. Tells db machines letter (fault.Desk told))
+    (result ≡ Err refusal.Full → IsPastLimits db machines.table letter.txn (λ choice. on_desk_letter (txn_name letter.txn) letter.site true choice (replied db letter.site reply) (txn_in db machines.table letter.txn))) → IfErr result (λ told. Tells db machines letter (fault.Desk told))
 desk_tells db machines letter (Ok x) reply is for_desk own full = tt
 desk_tells db machines letter (Err told) reply is for_desk (inl memory) full = inl memory
 desk_tells db machines letter (Err told) reply is for_desk (inr limit) full =
@@ -148,13 +149,13 @@ desk_tells db machines letter (Err told) reply is for_desk (inr limit) full =
       limit,
       record {
         choice = past.choice;
-        explained = subst (λ (said : bodies.Body). AllExplained (on_desk_letter (txn_name letter.txn) letter.site true past.choice (body_with (statements db) (body_of said)) (txn_in db machines.table letter.txn)).deeds) (sym is) past.explained;
+        explained = subst (λ (said : bodies.Body). AllExplained (on_desk_letter (txn_name letter.txn) letter.site true past.choice (body_at local (statements db) letter.site (body_of said)) (txn_in db machines.table letter.txn)).deeds) (sym is) past.explained;
         past = passes_is db machines letter reply is true past.choice ∙ past.past;
       },
     )
 
 -- ---- what a site tells, as the protocol has it
-order_deeds : (db : Database) (t : Name) (a : List ℕ) (choice : Choice (language db)) (order : orders.Order) (x : Txn (language db)) → AllExplained (on_desk_letter t a true choice (body_with (statements db) (body_of (body.Order order))) x).deeds
+order_deeds : (db : Database) (t : Name) (a : List ℕ) (choice : Choice (language db)) (order : orders.Order) (x : Txn (language db)) → AllExplained (on_desk_letter t a true choice (body_at local (statements db) a (body_of (body.Order order))) x).deeds
 order_deeds db t a choice order.Open Unknown = tt
 order_deeds db t a choice order.Open (Known u) = tt
 order_deeds db t a choice order.Open (Row voters acked) = tt
@@ -190,14 +191,17 @@ module _ (db : Database) (machines : Machines) (letter : letters.Letter) (fit : 
   abbrev act : Act local
   act = on_letter here (txn_name letter.txn) true (body_of letter.body)
 
+  named : seat.name ≡ letter.site
+  named = seat_named letter.site machines.seats seat there
+
   past_there : is_order letter.body ≡ true → (choice : Choice (language db)) → is_within (site_after here act) ≡ false → passes (world_of db machines [] []) true choice (sent db letter) ≡ false
   past_there order choice past =
       let S = statements db in
-      ap (λ (b : Bool). passes_to b (world_of db machines [] []) true choice (sent db letter)) (order_is db letter.body order)
-      ∙ ap (λ (s : SiteState (language db)). is_within (site_after s (on_letter s (txn_name letter.txn) true (body_with S (body_of letter.body))))) (state_there S letter.site machines.seats seat there)
-      ∙ ap (λ (a : Act (language db)). is_within (site_after (site_with S here) a)) (sym (act_same S here (txn_name letter.txn) true (body_of letter.body)))
-      ∙ ap is_within (sym (after_same S here act))
-      ∙ within_same S (site_after here act)
+      ap (λ (b : Bool). passes_to b (world_of db machines [] []) true choice (sent db letter)) (order_is db letter.site letter.body order)
+      ∙ ap (λ (s : SiteState (language db)). is_within (site_after s (on_letter s (txn_name letter.txn) true (body_at local S letter.site (body_of letter.body))))) (state_there S letter.site machines.seats seat there ∙ ap (λ n. site_at local S n here) named)
+      ∙ ap (λ (a : Act (language db)). is_within (site_after (site_at local S letter.site here) a)) (sym (act_same local S local_lawful letter.site here (txn_name letter.txn) true (body_of letter.body)))
+      ∙ ap is_within (sym (after_same local S local_lawful letter.site here act))
+      ∙ within_same local S local_lawful letter.site (site_after here act)
       ∙ past
 
   -- a site that is full
@@ -207,20 +211,20 @@ module _ (db : Database) (machines : Machines) (letter : letters.Letter) (fit : 
       go : (said : bodies.Body) → letter.body ≡ said → AreAtLimit db machines letter
       go (body.Order order) is = record {
         choice = no_choice db;
-        explained = subst (λ (said : bodies.Body). AllExplained (on_desk_letter (txn_name letter.txn) letter.site true (no_choice db) (body_with (statements db) (body_of said)) (txn_in db machines.table letter.txn)).deeds) (sym is) (order_deeds db (txn_name letter.txn) letter.site (no_choice db) order (txn_in db machines.table letter.txn));
+        explained = subst (λ (said : bodies.Body). AllExplained (on_desk_letter (txn_name letter.txn) letter.site true (no_choice db) (body_at local (statements db) letter.site (body_of said)) (txn_in db machines.table letter.txn)).deeds) (sym is) (order_deeds db (txn_name letter.txn) letter.site (no_choice db) order (txn_in db machines.table letter.txn));
         past = past_there (ap is_order is) (no_choice db) past;
       }
       go (body.Reply reply) is = absurd (clash (fits_within seat.kept seat.table (seat_has IsSeated letter.site machines.seats seat there fit.sites))
           (sym (reply_within here (txn_name letter.txn) reply) ∙ subst (λ (said : bodies.Body). is_within (site_after here (on_letter here (txn_name letter.txn) true (body_of said))) ≡ false) is past))
 
-  -- a site that hasn't the leaf isn't its home
-  astray_at : SiteTells seat letter site_fault.Stranger → IsHomed (sent db letter) → ⊥
+  -- where a site hasn't the leaf no catalogue puts it
+  astray_at : SiteTells seat letter site_fault.Stranger → IsHomed (language db) (IsPlace db) (sent db letter) → ⊥
   astray_at strange homed = go letter.body (subst (λ (leaves : List Leaf). AsksElsewhere leaves letter.body) strange.1 (elsewhere strange.0 letter.body strange.2)) homed
     where
-      here_is : (leaf : Leaf) → db.home leaf ≡ letter.site → list_any (λ other. is_eq (leaf_cmp leaf other)) seat.leaves ≡ false → ⊥
-      here_is leaf home none = clash (seat_has (HasItsLeaves db) letter.site machines.seats seat there fit.leaves leaf (home ∙ sym (seat_named letter.site machines.seats seat there))) none
+      here_is : (leaf : Leaf) → IsPlace db (letter.site, leaf) → list_any (λ other. is_eq (leaf_cmp leaf other)) seat.leaves ≡ false → ⊥
+      here_is leaf home none = clash (seat_has (HasItsLeaves db) letter.site machines.seats seat there fit.leaves leaf (subst (λ n. IsPlace db (n, leaf)) (sym named) home)) none
 
-      go : (said : bodies.Body) → AsksElsewhere seat.leaves said → IsAtHome {L = language db} letter.site (body_with (statements db) (body_of said)) → ⊥
+      go : (said : bodies.Body) → AsksElsewhere seat.leaves said → IsAtHome (language db) (IsPlace db) (body_at local (statements db) letter.site (body_of said)) → ⊥
       go (body.Order order.Open) none home = none
       go (body.Order (order.Fetch fetch)) none home = here_is fetch.leaf home none
       go (body.Order (order.Intend intention)) none home = here_is (leaf_of intention.write) home none
@@ -324,14 +328,14 @@ turned_ranks db machines letter fit why = by_reason why
     ticket_rank true k = omega arith
     ticket_rank false k = omega arith
 
-    at_desk : (choice : Choice (language db)) (reply : replies.Reply) → is_desk_within (desk_after d (txn_name letter.txn) (on_desk_letter (txn_name letter.txn) letter.site true choice (replied db reply) x).txn) ≡ false → 2 ≤ rank (is_reading x) (replied db reply)
+    at_desk : (choice : Choice (language db)) (reply : replies.Reply) → is_desk_within (desk_after d (txn_name letter.txn) (on_desk_letter (txn_name letter.txn) letter.site true choice (replied db letter.site reply) x).txn) ≡ false → 2 ≤ rank (is_reading x) (replied db letter.site reply)
     at_desk choice (reply_kinds.Ticket ticket) past = ticket_rank (is_reading x) _
     at_desk choice (reply_kinds.Refused refusal) past = omega arith
     at_desk choice (reply_kinds.Voted voted) past = omega arith
     at_desk choice (reply_kinds.Inquire ticket) past = omega arith
     at_desk choice (reply_kinds.Ack ticket) past = clash (calms_within d (txn_name letter.txn) _ (ack_calm (txn_name letter.txn) letter.site true choice _ x) fit.within) past
     at_desk choice (reply_kinds.Rows rows) past = ⊎_elim
-        (λ reads. subst (λ (r : Bool). 2 ≤ rank {L = language db} r (replied db (reply_kinds.Rows rows))) (sym reads) (omega arith))
+        (λ reads. subst (λ (r : Bool). 2 ≤ rank {L = language db} r (replied db letter.site (reply_kinds.Rows rows))) (sym reads) (omega arith))
         (λ idle. clash (calms_within d (txn_name letter.txn) _ (same_calms x _ (rows_calm (txn_name letter.txn) letter.site true choice _ _ _ x idle)) fit.within) past)
         (by_test (is_reading x))
 
@@ -339,26 +343,26 @@ turned_ranks db machines letter fit why = by_reason why
     no_end : (limit : AreAtLimit db machines letter) → OfTheEnd (sent db letter).body → ⊥
     no_end limit end = clash (end_passes (world_of db machines [] []) true limit.choice (sent db letter) (seats_within db machines.seats letter.site fit.sites) end) limit.past
 
-    at_limit : AreAtLimit db machines letter → (said : bodies.Body) → letter.body ≡ said → 2 ≤ rank (is_reading x) (body_with (statements db) (body_of said))
+    at_limit : AreAtLimit db machines letter → (said : bodies.Body) → letter.body ≡ said → 2 ≤ rank (is_reading x) (body_at local (statements db) letter.site (body_of said))
     at_limit limit (body.Order order.Open) is = open_rank (is_reading x)
     at_limit limit (body.Order (order.Fetch fetch)) is = fetch_rank (is_reading x) _ _ _ _
     at_limit limit (body.Order (order.Intend intention)) is = omega arith
-    at_limit limit (body.Order (order.Prepare prepare)) is = absurd (no_end limit (subst (λ said. OfTheEnd {L = language db} (body_with (statements db) (body_of said))) (sym is) tt))
-    at_limit limit (body.Order (order.Commit ticket)) is = absurd (no_end limit (subst (λ said. OfTheEnd {L = language db} (body_with (statements db) (body_of said))) (sym is) tt))
-    at_limit limit (body.Order (order.Abort ticket)) is = absurd (no_end limit (subst (λ said. OfTheEnd {L = language db} (body_with (statements db) (body_of said))) (sym is) tt))
+    at_limit limit (body.Order (order.Prepare prepare)) is = absurd (no_end limit (subst (λ said. OfTheEnd {L = language db} (body_at local (statements db) letter.site (body_of said))) (sym is) tt))
+    at_limit limit (body.Order (order.Commit ticket)) is = absurd (no_end limit (subst (λ said. OfTheEnd {L = language db} (body_at local (statements db) letter.site (body_of said))) (sym is) tt))
+    at_limit limit (body.Order (order.Abort ticket)) is = absurd (no_end limit (subst (λ said. OfTheEnd {L = language db} (body_at local (statements db) letter.site (body_of said))) (sym is) tt))
     at_limit limit (body.Reply reply) is = at_desk limit.choice reply (sym (passes_is db machines letter reply is true limit.choice) ∙ limit.past)
 
     -- an operation ranks so
-    astray : (IsHomed (sent db letter) → ⊥) → (said : bodies.Body) → letter.body ≡ said → 2 ≤ rank (is_reading x) (body_with (statements db) (body_of said))
+    astray : (IsHomed (language db) (IsPlace db) (sent db letter) → ⊥) → (said : bodies.Body) → letter.body ≡ said → 2 ≤ rank (is_reading x) (body_at local (statements db) letter.site (body_of said))
     astray away (body.Order order.Open) is = open_rank (is_reading x)
     astray away (body.Order (order.Fetch fetch)) is = fetch_rank (is_reading x) _ _ _ _
     astray away (body.Order (order.Intend intention)) is = omega arith
-    astray away (body.Order (order.Prepare prepare)) is = absurd (away (subst (λ said. IsAtHome {L = language db} letter.site (body_with (statements db) (body_of said))) (sym is) tt))
-    astray away (body.Order (order.Commit ticket)) is = absurd (away (subst (λ said. IsAtHome {L = language db} letter.site (body_with (statements db) (body_of said))) (sym is) tt))
-    astray away (body.Order (order.Abort ticket)) is = absurd (away (subst (λ said. IsAtHome {L = language db} letter.site (body_with (statements db) (body_of said))) (sym is) tt))
-    astray away (body.Reply reply) is = absurd (away (subst (λ said. IsAtHome {L = language db} letter.site (body_with (statements db) (body_of said))) (sym is) (reply_homed reply)))
+    astray away (body.Order (order.Prepare prepare)) is = absurd (away (subst (λ said. IsAtHome (language db) (IsPlace db) (body_at local (statements db) letter.site (body_of said))) (sym is) tt))
+    astray away (body.Order (order.Commit ticket)) is = absurd (away (subst (λ said. IsAtHome (language db) (IsPlace db) (body_at local (statements db) letter.site (body_of said))) (sym is) tt))
+    astray away (body.Order (order.Abort ticket)) is = absurd (away (subst (λ said. IsAtHome (language db) (IsPlace db) (body_at local (statements db) letter.site (body_of said))) (sym is) tt))
+    astray away (body.Reply reply) is = absurd (away (subst (λ said. IsAtHome (language db) (IsPlace db) (body_at local (statements db) letter.site (body_of said))) (sym is) (reply_homed reply)))
       where
-        reply_homed : (r : replies.Reply) → IsAtHome {L = language db} letter.site (body_with (statements db) (body_of (body.Reply r)))
+        reply_homed : (r : replies.Reply) → IsAtHome (language db) (IsPlace db) (body_at local (statements db) letter.site (body_of (body.Reply r)))
         reply_homed (reply_kinds.Ticket ticket) = tt
         reply_homed (reply_kinds.Rows rows) = tt
         reply_homed (reply_kinds.Refused refusal) = tt

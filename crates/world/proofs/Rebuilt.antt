@@ -28,7 +28,6 @@ use Rattle.catalog.specs.Catalogue.{Catalogue, SplitRelation}
 use Rattle.catalog.specs.Formed.{IsFormed, IsFormedRelation}
 use Rattle.catalog.specs.FragmentLeaf.{catalogue_leaves, is_name_of, leaf_named, schemas_of}
 use Rattle.catalog.specs.Laws.{LeafNamesAreUnique}
-use Rattle.catalog.proofs.FormedCatalogues.{sited}
 use Rattle.plan.specs.declared.fetch.Fetch.{Fetch}
 use Rattle.plan.specs.declared.reduce.Reduced.{Reduced}
 use Rattle.plan.specs.Given.{AreBrought}
@@ -46,15 +45,16 @@ use Rattle.protocol.proofs.Basics.{some_is}
 use Rattle.desk.specs.declared.fetches.Ask.{Ask}
 use Rattle.desk.specs.Fetches.{brought}
 use Rattle.desk.specs.Database.{Database, language, statements}
-use Rattle.desk.specs.Planned.{IsOfPlan, asked, fetched, site_in}
+use Rattle.desk.specs.Place.{fetch_in, home_in, placed_in, site_in}
+use Rattle.desk.specs.Planned.{IsOfPlan, asked}
 use Rattle.desk.specs.Transaction.{ask_of}
 use Rattle.desk.proofs.AtHomes.{found_so}
 use Rattle.desk.proofs.Explaining.{are_brought}
-use Rattle.desk.specs.CatalogueDatabase.{IsBase, content_of, database, found, site_of}
+use Rattle.desk.specs.CatalogueDatabase.{IsBase, content_at, database}
 use Rattle.world.specs.Machines.{AreFit, Machines}
 use Rattle.world.specs.Sites.{Seat, seat_of, states_of}
 use Rattle.world.specs.Settled.{AreDecided, AreThoseOf, brought_of, everything, parts_kept, settled_at, settled_in}
-use Rattle.world.proofs.DatabaseIsLawful.{site_there}
+use Rattle.world.proofs.DatabasePlaces.{content_nowhere, home_there}
 use Rattle.world.proofs.DatabaseIsStored.{values_stored}
 use Rattle.world.proofs.Seating.{name_is, name_self, seat_there}
 use Rattle.world.proofs.SettledSites.{kept_there, settled_there}
@@ -80,28 +80,23 @@ site_seated catalogue machines leaf place fit is = go (leaf_named leaf (catalogu
     go (Some there) is = seat_there place machines.seats (subst (λ names. list_any (λ other. pointwise nat_eq other place) names ≡ true) (sym fit.names) (named_there catalogue.sites there.site place is))
 
 module _ (catalogue : Catalogue) (formed : IsFormed catalogue) where
-  homed : (leaf : Leaf) (there : FragmentLeaf) → leaf_named leaf (catalogue_leaves catalogue) ≡ Some there → slice_get catalogue.sites there.site ≡ Some (site_of catalogue.sites (found catalogue leaf))
-  homed leaf there is =
-      let within = (found_so (λ l. l.site < length catalogue.sites) (is_name_of leaf) (catalogue_leaves catalogue) there (sited catalogue (catalogue_leaves catalogue) refl formed) is).0 in
-      site_there catalogue.sites there.site within ∙ ap (λ (o : Option FragmentLeaf). Some (site_of catalogue.sites o)) (sym is)
-
-  seated : (machines : Machines) (leaf : Leaf) (there : FragmentLeaf) → AreFit (database catalogue) machines → leaf_named leaf (catalogue_leaves catalogue) ≡ Some there → (seat : Seat) × (seat_of (site_of catalogue.sites (found catalogue leaf)) machines.seats ≡ Some seat)
+  seated : (machines : Machines) (leaf : Leaf) (there : FragmentLeaf) → AreFit (database catalogue) machines → leaf_named leaf (catalogue_leaves catalogue) ≡ Some there → (seat : Seat) × (seat_of (home_in catalogue leaf) machines.seats ≡ Some seat)
   seated machines leaf there fit is =
-      let site = site_of catalogue.sites (found catalogue leaf) in
-      seat_there site machines.seats (subst (λ names. list_any (λ other. pointwise nat_eq other site) names ≡ true) (sym fit.names) (named_there catalogue.sites there.site site (homed leaf there is)))
+      let site = home_in catalogue leaf in
+      seat_there site machines.seats (subst (λ names. list_any (λ other. pointwise nat_eq other site) names ≡ true) (sym fit.names) (named_there catalogue.sites there.site site (home_there catalogue formed leaf there is)))
 
   -- what the code finds of a leaf, and what is kept or settled there
   abbrev pub Found : Machines → List Txn → Leaf → Option (List (List Value)) → Type 0
   Found machines decided leaf shown = shown ≡ option_and_then (λ place. option_map (λ content. fin.values content) (settled_at decided leaf machines.seats place)) (site_in catalogue leaf)
 
   at_home : (machines : Machines) (decided : List Txn) (leaf : Leaf) (there : FragmentLeaf) (shown : Option (List (List Value))) → AreFit (database catalogue) machines → leaf_named leaf (catalogue_leaves catalogue) ≡ Some there → Found machines decided leaf shown →
-      (content : Content) × (settled_at decided leaf machines.seats (site_of catalogue.sites (found catalogue leaf)) ≡ Some content) × (shown ≡ Some (fin.values content))
+      (content : Content) × (settled_at decided leaf machines.seats (home_in catalogue leaf) ≡ Some content) × (shown ≡ Some (fin.values content))
   at_home machines decided leaf there shown fit is so =
       let one = seated machines leaf there fit is in
       let settled_so = ap (option_map (settled_in decided leaf)) one.1 in (
         settled_in decided leaf one.0,
         settled_so,
-        so ∙ ap (option_and_then (λ place. option_map (λ content. fin.values content) (settled_at decided leaf machines.seats place))) (ap (option_and_then (λ (l : FragmentLeaf). slice_get catalogue.sites l.site)) is ∙ homed leaf there is)
+        so ∙ ap (option_and_then (λ place. option_map (λ content. fin.values content) (settled_at decided leaf machines.seats place))) (ap (option_and_then (λ (l : FragmentLeaf). slice_get catalogue.sites l.site)) is ∙ home_there catalogue formed leaf there is)
             ∙ ap (option_map (λ (content : Content). fin.values content)) settled_so,
       )
 
@@ -113,55 +108,56 @@ module _ (catalogue : Catalogue) (formed : IsFormed catalogue) where
   kept_is machines leaf shown fit so = go (leaf_named leaf (catalogue_leaves catalogue)) refl
     where
       shows : Option (List ℕ) → Option (List (List Value))
-      shows place = option_map (λ site. fin.values ((states_of (statements (database catalogue)) machines.seats site).kept leaf)) place
+      shows place = option_map (λ site. fin.values ((states_of (statements (database catalogue)) machines.seats site).kept (site, leaf))) place
 
       go : (o : Option FragmentLeaf) → leaf_named leaf (catalogue_leaves catalogue) ≡ o → shown ≡ parts_kept (database catalogue) machines leaf
       go None is = not_there machines [] leaf shown is so ∙ sym (ap shows (ap (option_and_then (λ (l : FragmentLeaf). slice_get catalogue.sites l.site)) is))
       go (Some there) is =
           let one = at_home machines [] leaf there shown fit is so in
-          let kept = kept_there (database catalogue) machines leaf (site_of catalogue.sites (found catalogue leaf)) one.0 one.1 in
-          one.2 ∙ ap (λ (content : Content). Some (fin.values content)) (sym kept) ∙ sym (ap shows (ap (option_and_then (λ (l : FragmentLeaf). slice_get catalogue.sites l.site)) is ∙ homed leaf there is))
+          let kept = kept_there (database catalogue) machines leaf (home_in catalogue leaf) one.0 one.1 in
+          one.2 ∙ ap (λ (content : Content). Some (fin.values content)) (sym kept) ∙ sym (ap shows (ap (option_and_then (λ (l : FragmentLeaf). slice_get catalogue.sites l.site)) is ∙ home_there catalogue formed leaf there is))
 
   -- what a fetch brings
   pub brought_is : (machines : Machines) (whole : Relations) (decided : List Txn) (leaf : Leaf) (conds : List Cond) (shown : Option (List (List Value))) → AreFit (database catalogue) machines → AreThoseOf (database catalogue) machines whole → AreDecided machines.table decided → Found machines decided leaf shown →
-      filter (conds_hold conds) (unwrap_or shown []) ≡ parts conds ((database catalogue).content leaf whole)
+      filter (conds_hold conds) (unwrap_or shown []) ≡ parts conds (content_at catalogue (placed_in catalogue leaf) whole)
   brought_is machines whole decided leaf conds shown fit those are so = go (leaf_named leaf (catalogue_leaves catalogue)) refl
     where
-      go : (o : Option FragmentLeaf) → leaf_named leaf (catalogue_leaves catalogue) ≡ o → filter (conds_hold conds) (unwrap_or shown []) ≡ parts conds ((database catalogue).content leaf whole)
+      go : (o : Option FragmentLeaf) → leaf_named leaf (catalogue_leaves catalogue) ≡ o → filter (conds_hold conds) (unwrap_or shown []) ≡ parts conds (content_at catalogue (placed_in catalogue leaf) whole)
       go None is =
           ap (λ (o : Option (List (List Value))). filter (conds_hold conds) (unwrap_or o [])) (not_there machines decided leaf shown is so)
           ∙ ap (filter (conds_hold conds)) (sym (values_stored [] tt))
-          ∙ sym (ap (λ (o : Option FragmentLeaf). parts conds (content_of o whole)) is)
+          ∙ sym (ap (parts conds) (content_nowhere catalogue (home_in catalogue leaf) leaf whole is))
       go (Some there) is =
           let one = at_home machines decided leaf there shown fit is so in
-          let settled_so = settled_there (database catalogue) machines decided leaf one.0 are one.1 in
+          let settled_so = settled_there (database catalogue) machines decided (placed_in catalogue leaf) one.0 are one.1 in
           ap (λ (o : Option (List (List Value))). filter (conds_hold conds) (unwrap_or o [])) one.2
-          ∙ ap (parts conds) (sym settled_so ∙ those leaf)
+          ∙ ap (parts conds) (sym settled_so ∙ those (placed_in catalogue leaf))
 
 -- ---- a plan's fetches bring what they are to bring
-abbrev ghost_ask : Database → Relations → Fetch → Ask
-ghost_ask db whole fetch = record { leaf = fetch.leaf; site = []; conds = fetch.conds; number = None; rows = Some (parts fetch.conds (db.content fetch.leaf whole)) }
+module _ (db : Database) (n : ℕ) (whole : Relations) where
+  abbrev ghost_ask : Fetch → Ask
+  ghost_ask fetch = record { leaf = fetch.leaf; site = home_in (db.catalogue n) fetch.leaf; conds = fetch.conds; number = None; rows = Some (parts fetch.conds (db.content n (placed_in (db.catalogue n) fetch.leaf) whole)) }
 
-in_order : (db : Database) (whole : Relations) (fetches : List Fetch) → map asked (map (ghost_ask db whole) fetches) ≡ map fetched fetches
-in_order db whole [] = refl
-in_order db whole (fetch ∷ fetches) = ap (λ rest. (fetch.leaf, fetch.conds) ∷ rest) (in_order db whole fetches)
+  in_order : (fetches : List Fetch) → map asked (map ghost_ask fetches) ≡ map (fetch_in (db.catalogue n)) fetches
+  in_order [] = refl
+  in_order (fetch ∷ fetches) = ap (λ rest. fetch_in (db.catalogue n) fetch ∷ rest) (in_order fetches)
 
-all_given : (db : Database) (whole : Relations) (fetches : List Fetch) → Gives {L = language db} whole (map (ask_of db) (map (ghost_ask db whole) fetches))
-all_given db whole [] = tt
-all_given db whole (fetch ∷ fetches) = (refl, all_given db whole fetches)
+  all_given : (fetches : List Fetch) → Gives {L = language db} (n, whole) (map (ask_of db) (map ghost_ask fetches))
+  all_given [] = tt
+  all_given (fetch ∷ fetches) = (refl, all_given fetches)
 
-all_brought : (db : Database) (whole : Relations) (fetches : List Fetch) → brought (map (ghost_ask db whole) fetches) ≡ map (brought_of db whole) fetches
-all_brought db whole [] = refl
-all_brought db whole (fetch ∷ fetches) = ap (λ rest. brought_of db whole fetch ∷ rest) (all_brought db whole fetches)
+  all_brought : (fetches : List Fetch) → brought (map ghost_ask fetches) ≡ map (brought_of db n whole) fetches
+  all_brought [] = refl
+  all_brought (fetch ∷ fetches) = ap (λ rest. brought_of db n whole fetch ∷ rest) (all_brought fetches)
 
-pub are_all_brought : (catalogue : Catalogue) → IsBase (database catalogue) → LeafNamesAreUnique → (stated : Statement) (reduced : Reduced) (whole : Relations) → IsStatementOf (schemas_of catalogue) stated → AreFetchesOf catalogue stated reduced.fetches.items → FindsAll catalogue stated reduced.fetches.items (shape reduced.plan) →
-    FitsSchema (schemas_of catalogue) whole → (rows : List FetchRows) → rows ≡ map (brought_of (database catalogue) whole) reduced.fetches.items → AreBrought catalogue whole reduced.fetches.items (given rows)
-are_all_brought catalogue base unique stated reduced whole of fetches finds fits rows are =
+pub are_all_brought : (catalogue : Catalogue) → IsBase (database catalogue) → LeafNamesAreUnique → (n : ℕ) (stated : Statement) (reduced : Reduced) (whole : Relations) → IsStatementOf (schemas_of catalogue) stated → AreFetchesOf catalogue stated reduced.fetches.items → FindsAll catalogue stated reduced.fetches.items (shape reduced.plan) →
+    FitsSchema (schemas_of catalogue) whole → (rows : List FetchRows) → rows ≡ map (brought_of (database catalogue) n whole) reduced.fetches.items → AreBrought catalogue whole reduced.fetches.items (given rows)
+are_all_brought catalogue base unique n stated reduced whole of fetches finds fits rows are =
     let db = database catalogue in
-    let asks = map (ghost_ask db whole) reduced.fetches.items in
-    let planned : IsOfPlan db stated reduced asks = record { statement = of; fetches = fetches; finds = finds; in_order = in_order db whole reduced.fetches.items } in
-    subst (λ rs. AreBrought catalogue whole reduced.fetches.items (given rs)) (all_brought db whole reduced.fetches.items ∙ sym are)
-    (are_brought db base.of_catalogue unique stated reduced asks planned whole fits (all_given db whole reduced.fetches.items))
+    let asks = map (ghost_ask db n whole) reduced.fetches.items in
+    let planned : IsOfPlan db n stated reduced asks = record { statement = of; fetches = fetches; finds = finds; in_order = in_order db n whole reduced.fetches.items } in
+    subst (λ rs. AreBrought catalogue whole reduced.fetches.items (given rs)) (all_brought db n whole reduced.fetches.items ∙ sym are)
+    (are_brought db base.of_catalogue n unique stated reduced asks planned whole fits (all_given db n whole reduced.fetches.items))
 
 -- ---- the SELECT of all columns
 below : (first n : ℕ) → AllByRecursion (λ col. col < first + n) (range_with_len first n)

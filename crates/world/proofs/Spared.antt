@@ -12,10 +12,13 @@ use Rattle.protocol.specs.Letter.{Body, Open, Fetch, Write, Prepare, Commit, Abo
 use Rattle.protocol.specs.Letters.{body_of, name_of, txn_name}
 use Rattle.protocol.specs.Site.{SiteState, is_within, on_letter, on_prepare, said, site_after}
 use Rattle.protocol.specs.Catalogues.{body_at, status_at}
+use Rattle.protocol.specs.Local.{local}
+use Rattle.protocol.proofs.Placing.{empty_placed}
 use Rattle.protocol.specs.World.{World, addressed, comes_to, site_steps}
 use Rattle.protocol.specs.StatementCourse.{passes_to}
 use Rattle.desk.specs.declared.reply.Notice.{Notice}
 use Rattle.desk.specs.Database.{Database, language, sent, statements}
+use Rattle.site.proofs.Lawful.{local_lawful}
 use Rattle.site.specs.declared.tickets.TicketState as standings
 use Rattle.site.specs.declared.tickets.TicketState.TheVariants as standing
 use Rattle.site.specs.Refusals.{AsksToKeep}
@@ -52,37 +55,38 @@ asks_or_not table (body.Order (order.Abort ticket)) = inr (λ no_call. no_call)
 asks_or_not table (body.Reply reply) = inr (λ no_call. no_call)
 
 -- what is done with a visit where no row is kept
-same_choice : {A B : Type 0} (b c : Bool) (read keeps none : B) (x y z n : A) → ((if b then (if c then read else keeps) else none) ≡ keeps → ⊥) → (if b then (if c then x else y) else n) ≡ (if b then (if c then x else z) else n)
-same_choice true true read keeps none x y z n not_so = refl
-same_choice true false read keeps none x y z n not_so = absurd (not_so refl)
-same_choice false c read keeps none x y z n not_so = refl
+same_choice : {A B : Type 0} (b c also : Bool) → also ≡ c → (read keeps none : B) (x y z n : A) → ((if b then (if c then read else keeps) else none) ≡ keeps → ⊥) → (if b then (if also then x else y) else n) ≡ (if b then (if also then x else z) else n)
+same_choice true c true is read keeps none x y z n not_so = refl
+same_choice true true false is read keeps none x y z n not_so = absurd cc
+same_choice true false false is read keeps none x y z n not_so = absurd (not_so refl)
+same_choice false c also is read keeps none x y z n not_so = refl
 
 module _ (db : Database) where
   -- a Prepare of what stands there
-  same_prepare : (table : VolatileState) (prepare : ToPrepare) (t k : Name) (row : Option Row) (o : Option standings.TicketState) → table.standing prepare.ticket ≡ o → (Asks table prepare o → ⊥) →
-      on_prepare false t k prepare.count (status_with (statements db) (stands table prepare.ticket row)) ≡ on_prepare true t k prepare.count (status_with (statements db) (stands table prepare.ticket row))
-  same_prepare table prepare t k (Some row) o is keeps_nothing = refl
-  same_prepare table prepare t k None o is keeps_nothing =
-      ap (λ x. on_prepare false t k prepare.count (status_with (statements db) (visiting table.locks prepare.ticket x))) is ∙ of_standing o keeps_nothing
-      ∙ sym (ap (λ x. on_prepare true t k prepare.count (status_with (statements db) (visiting table.locks prepare.ticket x))) is)
+  same_prepare : (a : List ℕ) (table : VolatileState) (prepare : ToPrepare) (t k : Name) (row : Option Row) (o : Option standings.TicketState) → table.standing prepare.ticket ≡ o → (Asks table prepare o → ⊥) →
+      on_prepare false t k prepare.count (status_at local (statements db) a (stands table prepare.ticket row)) ≡ on_prepare true t k prepare.count (status_at local (statements db) a (stands table prepare.ticket row))
+  same_prepare a table prepare t k (Some row) o is keeps_nothing = refl
+  same_prepare a table prepare t k None o is keeps_nothing =
+      ap (λ x. on_prepare false t k prepare.count (status_at local (statements db) a (visiting table.locks prepare.ticket x))) is ∙ of_standing o keeps_nothing
+      ∙ sym (ap (λ x. on_prepare true t k prepare.count (status_at local (statements db) a (visiting table.locks prepare.ticket x))) is)
     where
       of_standing : (o : Option standings.TicketState) → (Asks table prepare o → ⊥) →
-          on_prepare false t k prepare.count (status_with (statements db) (visiting table.locks prepare.ticket o)) ≡ on_prepare true t k prepare.count (status_with (statements db) (visiting table.locks prepare.ticket o))
+          on_prepare false t k prepare.count (status_at local (statements db) a (visiting table.locks prepare.ticket o)) ≡ on_prepare true t k prepare.count (status_at local (statements db) a (visiting table.locks prepare.ticket o))
       of_standing None not_so = refl
       of_standing (Some (standing.Prepared txn)) not_so = refl
-      of_standing (Some (standing.Active visit)) not_so = same_choice (visit.done == prepare.count) (nat_eq (fin.len visit.changes) 0) _ _ _ _ _ _ _ not_so
+      of_standing (Some (standing.Active visit)) not_so = same_choice (visit.done == prepare.count) (nat_eq (fin.len visit.changes) 0) _ (empty_placed local (statements db) local_lawful a visit.changes) _ _ _ _ _ _ _ not_so
 
   -- a letter at a site
-  same_act : (seat : Seat) (t : Name) (told : bodies.Body) → is_order told ≡ true → CallKept false (body_with (statements db) (body_of told)) → (AsksToKeep seat.table told → ⊥) →
-      on_letter (state_at (statements db) seat) t false (body_with (statements db) (body_of told)) ≡ on_letter (state_at (statements db) seat) t true (body_with (statements db) (body_of told))
-  same_act seat t (body.Order order.Open) is kept asks_nothing = refl
-  same_act seat t (body.Order (order.Fetch fetch)) is kept asks_nothing = cc
-  same_act seat t (body.Order (order.Intend intention)) is kept asks_nothing = refl
-  same_act seat t (body.Order (order.Prepare prepare)) is kept asks_nothing =
-      same_prepare seat.table prepare t (name_of prepare.ticket) (seat.kept.prepared prepare.ticket) (seat.table.standing prepare.ticket) refl asks_nothing
-  same_act seat t (body.Order (order.Commit ticket)) is kept asks_nothing = cc
-  same_act seat t (body.Order (order.Abort ticket)) is kept asks_nothing = cc
-  same_act seat t (body.Reply reply) is kept asks_nothing = cc
+  same_act : (site : List ℕ) (seat : Seat) (t : Name) (told : bodies.Body) → is_order told ≡ true → CallKept {L = language db} false (body_at local (statements db) site (body_of told)) → (AsksToKeep seat.table told → ⊥) →
+      on_letter (state_at (statements db) seat) t false (body_at local (statements db) site (body_of told)) ≡ on_letter (state_at (statements db) seat) t true (body_at local (statements db) site (body_of told))
+  same_act site seat t (body.Order order.Open) is kept asks_nothing = refl
+  same_act site seat t (body.Order (order.Fetch fetch)) is kept asks_nothing = cc
+  same_act site seat t (body.Order (order.Intend intention)) is kept asks_nothing = refl
+  same_act site seat t (body.Order (order.Prepare prepare)) is kept asks_nothing =
+      same_prepare seat.name seat.table prepare t (name_of prepare.ticket) (seat.kept.prepared prepare.ticket) (seat.table.standing prepare.ticket) refl asks_nothing
+  same_act site seat t (body.Order (order.Commit ticket)) is kept asks_nothing = cc
+  same_act site seat t (body.Order (order.Abort ticket)) is kept asks_nothing = cc
+  same_act site seat t (body.Reply reply) is kept asks_nothing = cc
 
   -- so it may be said to be kept
   pub came_kept : (letter : letters.Letter) (before after : Machines) (seat : Seat) (out : List letters.Letter) (notices : List Notice) → seat_of letter.site before.seats ≡ Some seat → is_order letter.body ≡ true → CallKept false (sent db letter).body → (AsksToKeep seat.table letter.body → ⊥) →
@@ -99,6 +103,8 @@ module _ (db : Database) where
           ap (λ (b : Bool). comes_to b v true came.choice (sent db letter)) no_desk
           ∙ ap (λ act. site_steps v letter.site (site_after (here before.seats) act) (addressed letter.site (txn_name letter.txn) (said (here before.seats) act))) (sym act_same)
           ∙ sym (ap (λ (b : Bool). comes_to b v false came.choice (sent db letter)) no_desk) ∙ came.leads.is waiting past;
+      version = came.leads.version;
+      placed = came.leads.placed;
       explained = came.leads.explained;
       replies = came.leads.replies;
     };
@@ -111,10 +117,10 @@ module _ (db : Database) where
       w = world_of db before [] []
 
       no_desk : is_for_desk (sent db letter).body ≡ false
-      no_desk = order_is db letter.body is
+      no_desk = order_is db letter.site letter.body is
 
       act_same : on_letter (here before.seats) (txn_name letter.txn) false (sent db letter).body ≡ on_letter (here before.seats) (txn_name letter.txn) true (sent db letter).body
-      act_same = subst (λ s. on_letter s (txn_name letter.txn) false (sent db letter).body ≡ on_letter s (txn_name letter.txn) true (sent db letter).body) (sym (state_there (statements db) letter.site before.seats seat there)) (same_act seat (txn_name letter.txn) letter.body is kept asks_nothing)
+      act_same = subst (λ s. on_letter s (txn_name letter.txn) false (sent db letter).body ≡ on_letter s (txn_name letter.txn) true (sent db letter).body) (sym (state_there (statements db) letter.site before.seats seat there)) (same_act letter.site seat (txn_name letter.txn) letter.body is kept asks_nothing)
 
 -- a store call that is kept
 true_keeps : {L : Lang} (said : Body L) → CallKept true said

@@ -151,12 +151,12 @@ module _ (c : Catalogue) (whole : Relations) (empty : HasNoRows whole) where
   were_served formed of_desk of_sites fits size nothing =
       let seats = unborn_seats 0 c.sites of_sites in
       let machines : Machines = record { desk = of_desk; table = unborn_table (database c) of_desk nothing.commits nothing.life; seats = seats; refused = [] } in
-      let opens = opens_of (database c) c whole machines formed (placed c whole formed fits) (unborn_started 0 c.sites of_sites size nothing.leaves nothing.sites) (unborn_rises (database c) of_desk nothing.commits nothing.life) nothing.commits in
+      let opens = opens_of (database c) c whole machines formed (placed c machines.table.version whole formed fits) (unborn_started 0 c.sites of_sites size nothing.leaves nothing.sites) (unborn_rises (database c) of_desk nothing.commits nothing.life) nothing.commits in
       record {
         machines = machines;
         kept = record { desk = refl; sites = unborn_kept 0 c.sites of_sites size };
         memory = record { entries = []; is = refl; ascend = none_sorted txn_cmp };
-        served = record { reached = record { opening = world_of (database c) machines [] []; opens = opens.opening; events = []; gone = []; is = refl; explained = tt }; fit = opens.fit };
+        served = record { version = machines.table.version; reached = record { opening = world_of (database c) machines [] []; opens = opens.opening; events = []; gone = []; is = refl; explained = tt }; fit = opens.fit };
       }
 
 pub new_stores_law : (c : Catalogue) → IsFormed c → NewStoresLaw c

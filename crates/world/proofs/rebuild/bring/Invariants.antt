@@ -21,5 +21,5 @@ invariant-loop-fetch g l =
     × (clean l.machines → sound l.initial.machines → of l.machines ≡ of l.initial.machines)
     × (l.machines.desk.catalog ≡ l.initial.machines.desk.catalog)
     × ((whole : Relations) → clean l.machines → sound l.initial.machines → AreFit db (of l.initial.machines) → AreThoseOf db (of l.initial.machines) whole → AreDecided (of l.initial.machines).table l.decided
-    → l.brought.items ≡ map (brought_of db whole) (take l.fetch-index l.fetches))
+    → l.brought.items ≡ map (brought_of db l.initial.machines.desk.volatile.version whole) (take l.fetch-index l.fetches))
     × NoFewer (counts g.D.DeskStore.refused g.S.SiteStore.refused l.initial.machines) (counts g.D.DeskStore.refused g.S.SiteStore.refused l.machines)

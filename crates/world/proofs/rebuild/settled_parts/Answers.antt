@@ -4,7 +4,7 @@ use Rattle.std.specs.List.{AllByRecursion}
 use Rattle.std.specs.Vec.{with_items}
 use Rattle.std.proofs.lemmas.List.{with_items_is}
 use Rattle.catalog.specs.Relation.{catalogue_of}
-use Rattle.desk.specs.Planned.{site_in}
+use Rattle.desk.specs.Place.{site_in}
 use Rattle.world.specs.declared.fault.Fault.TheVariants as fault
 use Rattle.world.specs.Counted.{counts, counts_of}
 use Rattle.world.specs.Fault.{FailsFor}

@@ -9,4 +9,4 @@ use Rattle.world.proofs.world.open.Goals as goal
 
 pub returns-in-Ok-clause-ok : goal.returns-in-Ok-clause-ok
 returns-in-Ok-clause-ok c = λ fits.
-    opens_run (catalogue_of c.args.catalog.now) c.args.whole.now (held desk_kept kept_of c.in-Ok.machines) c.database_is_of_catalogue.ensures.of_catalogue.formed fits (c.in-Ok.ensures.opens (database (catalogue_of c.args.catalog.now)))
+    opens_run (catalogue_of c.args.catalog.now) c.args.whole.now (held desk_kept kept_of c.in-Ok.machines) (c.database_is_of_catalogue.ensures.of_catalogue.formed 0) fits (c.in-Ok.ensures.opens (database (catalogue_of c.args.catalog.now)))

@@ -7,4 +7,4 @@ use Rattle.world.proofs.world.open_on.Goals as goal
 
 pub returns-in-Ok-clause-ok : goal.returns-in-Ok-clause-ok
 returns-in-Ok-clause-ok g c = λ clean new fits.
-    opens_run (catalogue_of c.args.catalog.now) c.args.whole.now (held g.D.DeskStore.kept g.S.SiteStore.kept c.in-Ok.machines) c.database_is_of_catalogue.ensures.of_catalogue.formed fits (c.in-Ok.ensures.opens clean new (database (catalogue_of c.args.catalog.now)))
+    opens_run (catalogue_of c.args.catalog.now) c.args.whole.now (held g.D.DeskStore.kept g.S.SiteStore.kept c.in-Ok.machines) (c.database_is_of_catalogue.ensures.of_catalogue.formed 0) fits (c.in-Ok.ensures.opens clean new (database (catalogue_of c.args.catalog.now)))

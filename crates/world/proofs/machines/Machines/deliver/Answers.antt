@@ -44,7 +44,7 @@ returns-in-Ok-at_site-clause-keeps g c = λ db of is clean sound fit of_site.
     c.in-Ok-at_site.ensures.keeps db seat.0 c.args.letter clean sound fit refl seat.1
 
 pub returns-then-not-is_order-clause-keeps : goal.returns-then-not-is_order-clause-keeps
-returns-then-not-is_order-clause-keeps g c = λ db of is clean sound fit of_site. any_ok _ (λ out. reply_keeps db c.args.letter.body out.kept (sym c.is_order.ensures ∙ c.if-not-is_order.true))
+returns-then-not-is_order-clause-keeps g c = λ db of is clean sound fit of_site. any_ok _ (λ out. reply_keeps db c.args.letter.site c.args.letter.body out.kept (sym c.is_order.ensures ∙ c.if-not-is_order.true))
 
 pub returns-in-Ok-at_site-clause-spared : goal.returns-in-Ok-at_site-clause-spared
 returns-in-Ok-at_site-clause-spared g c = λ db of is clean sound fit of_site.
@@ -67,7 +67,7 @@ returns-then-not-is_order-clause-spared g c = λ db of is clean sound fit of_sit
     let no_order = sym c.is_order.ensures ∙ c.if-not-is_order.true in
     elim c.match-reply.branch [
       | in-Ok w ↦ subst (λ result. IfOk result (λ out. CameUnless Refused db c.args.letter before after out.letters out.replies)) (sym w.result-is)
-          (reply_spared Refused db c.args.letter before after w.in-Ok.out.letters w.in-Ok.out.replies w.in-Ok.out.kept (reply_keeps db c.args.letter.body w.in-Ok.out.kept no_order) (w.in-Ok.ensures.ok db of is clean sound fit no_order of_site) w.in-Ok.ensures.refusal)
+          (reply_spared Refused db c.args.letter before after w.in-Ok.out.letters w.in-Ok.out.replies w.in-Ok.out.kept (reply_keeps db c.args.letter.site c.args.letter.body w.in-Ok.out.kept no_order) (w.in-Ok.ensures.ok db of is clean sound fit no_order of_site) w.in-Ok.ensures.refusal)
       | in-Err w ↦ subst (λ result. IfOk result (λ out. CameUnless Refused db c.args.letter before after out.letters out.replies)) (sym w.result-is) tt
     ]
 

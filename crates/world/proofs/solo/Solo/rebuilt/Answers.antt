@@ -6,8 +6,8 @@ use Rattle.desk.specs.Database.{language}
 use Rattle.desk.specs.CatalogueDatabase.{database}
 use Rattle.world.specs.Counted.{counts}
 use Rattle.world.specs.Contents.{counted, held}
-use Rattle.world.specs.Machines.{world_of}
 use Rattle.world.specs.Settled.{after_committed}
+use Rattle.world.proofs.Anew.{served_fits, served_rebuilds}
 use Rattle.world.proofs.Counting.{fit_uncounted}
 use Rattle.world.proofs.solo.Solo.rebuilt.Goals as goal
 
@@ -16,16 +16,14 @@ returns-clause-served g c = λ whole past clean sound served.
     let db = database (catalogue_of c.args.self.now.machines.desk.catalog) in
     let machines = counted g.D.DeskStore.kept g.S.SiteStore.kept g.D.DeskStore.refused g.S.SiteStore.refused c.args.self.now.machines in
     let law = subst (λ x. ReachedLaw (language (database (catalogue_of x)))) c.catalog.ensures c.one_client_is_a_run.ensures in
-    let rests = world_of db machines [] past in
-    c.rebuilt.ensures.rows (after_committed db past whole) clean sound (fit_uncounted db (held g.D.DeskStore.kept g.S.SiteStore.kept c.args.self.now.machines) (counts g.D.DeskStore.refused g.S.SiteStore.refused c.args.self.now.machines) served.fit) (law.serial whole rests served.reached).rebuilt (law.is_whole whole rests served.reached)
+    c.rebuilt.ensures.rows (after_committed db past whole) clean sound (fit_uncounted db (held g.D.DeskStore.kept g.S.SiteStore.kept c.args.self.now.machines) (counts g.D.DeskStore.refused g.S.SiteStore.refused c.args.self.now.machines) served.fit) (served_rebuilds db law whole machines past served) (served_fits db law whole machines past served)
 
 pub returns-clause-fails_after : goal.returns-clause-fails_after
 returns-clause-fails_after g c = λ whole past clean sound served.
     let db = database (catalogue_of c.args.self.now.machines.desk.catalog) in
     let machines = counted g.D.DeskStore.kept g.S.SiteStore.kept g.D.DeskStore.refused g.S.SiteStore.refused c.args.self.now.machines in
     let law = subst (λ x. ReachedLaw (language (database (catalogue_of x)))) c.catalog.ensures c.one_client_is_a_run.ensures in
-    let rests = world_of db machines [] past in
-    c.rebuilt.ensures.fails (after_committed db past whole) clean sound (fit_uncounted db (held g.D.DeskStore.kept g.S.SiteStore.kept c.args.self.now.machines) (counts g.D.DeskStore.refused g.S.SiteStore.refused c.args.self.now.machines) served.fit) (law.serial whole rests served.reached).rebuilt (law.is_whole whole rests served.reached)
+    c.rebuilt.ensures.fails (after_committed db past whole) clean sound (fit_uncounted db (held g.D.DeskStore.kept g.S.SiteStore.kept c.args.self.now.machines) (counts g.D.DeskStore.refused g.S.SiteStore.refused c.args.self.now.machines) served.fit) (served_rebuilds db law whole machines past served) (served_fits db law whole machines past served)
 
 pub returns-clause-rows : goal.returns-clause-rows
 returns-clause-rows g c = λ whole clean sound fit those fits.
