@@ -48,9 +48,9 @@ uncounted_fit db machines fit = record { names = fit.names; leaves = fit.leaves;
 
 served_still : (db : Database) (whole : Relations) (old new : Machines) (past : List (Deed (language db))) → uncounted new ≡ uncounted old → IsServed db whole old past → IsServed db whole new past
 served_still db whole old new past same served =
-    let before : IsServed db whole (uncounted old) past = record { reached = served.reached; fit = uncounted_fit db old served.fit } in
+    let before : IsServed db whole (uncounted old) past = record { version = served.version; reached = served.reached; fit = uncounted_fit db old served.fit } in
     let after = subst (λ (machines : Machines). IsServed db whole machines past) (sym same) before in
-    record { reached = after.reached; fit = counted_fit db new after.fit }
+    record { version = after.version; reached = after.reached; fit = counted_fit db new after.fit }
 
 uncounted_stands : (catalogue : Catalogue) (current : Option Txn) (machines : Machines) (past : List (Deed (language (database catalogue)))) → Stands (database catalogue) (fits catalogue) current machines past → Stands (database catalogue) (fits catalogue) current (uncounted machines) past
 uncounted_stands catalogue None machines past stands = stands

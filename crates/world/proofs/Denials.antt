@@ -28,7 +28,7 @@ use Rattle.world.specs.Commands.{IsUnreadable}
 use Rattle.world.specs.Course.{IsTurnedDown}
 use Rattle.world.specs.Machines.{AreFit, Machines, world_of}
 use Rattle.world.specs.Refused.{IsRefused}
-use Rattle.world.specs.Smoothly.{rests}
+use Rattle.world.specs.Smoothly.{IsReady}
 use Rattle.world.specs.Stopping.{is_stop}
 
 -- ---- what stops

@@ -232,7 +232,7 @@ module _ (db : Database) (c : Catalogue) (whole : Relations) (machines : Machine
 
   -- a site that no leaf of the name is at keeps nothing of it
   keeps_nothing : (place : Place) → ((at : ℕ) → slice_get db.sites at ≡ Some place.0 → filled whole at (catalogue_leaves c) place.1 fin.empty ≡ fin.empty) → (states_of (statements db) machines.seats place.0).kept place ≡ fin.empty
-  keeps_nothing place nothing = at_each (statements db) (λ s. s.kept place ≡ fin.empty) machines.seats refl (all 0 db.sites machines.seats started (λ i name got. got))
+  keeps_nothing place nothing = at_each (statements db) (λ s. s.kept place ≡ fin.empty) machines.seats refl (all 0 db.sites machines.seats started (λ i name got. subst (λ p. slice_get db.sites p ≡ Some name) (let e : i ≡ 0 + i = omega arith in e) got)) place.0
     where
       all : (first : ℕ) (names : List (List ℕ)) (seats : List Seat) → AllStarted c whole first names seats → ((i : ℕ) (name : List ℕ) → slice_get names i ≡ Some name → slice_get db.sites (first + i) ≡ Some name) → AllByRecursion (λ seat. (state_at (statements db) seat).kept place ≡ fin.empty) seats
       all first [] [] is there = tt

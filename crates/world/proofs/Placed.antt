@@ -40,7 +40,7 @@ module _ (db : Database) where
     where
       go : (o : Option TxnState) → table.standing (txn_at t) ≡ o → TxnHomed (language db) (IsPlace db) (txn_of db o)
       go None is = tt
-      go (Some (standing.Undecided undecided)) is = stage_placed undecided.participants undecided.stage (fits.sites (txn_at t) (standing.Undecided undecided) is).1.0
+      go (Some (standing.Undecided undecided)) is = stage_placed undecided.participants undecided.stage (fits.sites (txn_at t) (standing.Undecided undecided) is).1
       go (Some (standing.Committed committed)) is = tt
 
   -- letters behind others

@@ -1,5 +1,5 @@
 -- What one client does leads from reached worlds to reached worlds.
-use Rattle.std.proofs.Common.{◌≡◌, refl, sym, subst, Bool, true, false, List, [], ◌∷◌, ◌++◌, append_assoc, if◌then◌else◌, Result, Ok, Err, IfOk, OnErr, inl, inr}
+use Rattle.std.proofs.Common.{◌≡◌, refl, sym, subst, ℕ, Bool, true, false, List, [], ◌∷◌, ◌++◌, append_assoc, if◌then◌else◌, Result, Ok, Err, IfOk, OnErr, inl, inr}
 use Rattle.std.proofs.lemmas.List.{append-nil}
 use Rattle.meaning.specs.Whole.{Relations}
 use Rattle.protocol.specs.Client.{first, rest_of, IsReached, ReachedLaw}
@@ -14,7 +14,7 @@ use Rattle.desk.specs.declared.reply.Out.{Out}
 use Rattle.desk.specs.Database.{Database, language}
 use Rattle.world.proofs.InForce.{asks_in_force, begins_in_force}
 use Rattle.world.specs.Counted.{NoFewer}
-use Rattle.world.specs.Mailbox.{Ask, Breaks, Coming, Fails, Goes, Passed_over, Serves, Taken, To_begin, To_do, Turned_away, all_come, asked, come, first_comes, settled}
+use Rattle.world.specs.Mailbox.{Ask, AsksForNow, Breaks, Coming, Fails, Goes, Passed_over, Serves, Taken, To_begin, To_do, Turned_away, all_come, asked, come, first_comes, settled}
 use Rattle.world.specs.Machines.{AreFit, Leads, Machines, world_of}
 use Rattle.world.specs.Client.{IsServed, IsServedOn}
 use Rattle.world.specs.Taking.{put_out_by}
@@ -89,7 +89,7 @@ module _ (db : Database) (law : ReachedLaw (language db)) (whole : Relations) wh
   pub on_ask : (ask : Ask (language db)) (before after : Machines) (past deeds : List (Deed (language db))) (comings : List (Coming (language db))) (left : List (Letter (language db))) → AsksForNow db before.table.version ask → IsServed db whole before past → AllExplained deeds →
       all_come comings (asked ask (world_of db before [] past)) ≡ world_of db after left (past ++ deeds) → AreFit db after → IsServed db whole after (past ++ deeds)
   on_ask ask before after past deeds comings left now served explained is fit =
-      let opened = (served.version, whole) in
+      let opened : (language db).Whole = (served.version, whole) in
       let w = world_of db before [] past in
       let all : AllExplained (past ++ deeds) = all_both Explained past deeds served.reached.explained explained in
       let all_here : AllExplained (all_come comings (asked ask w)).past = subst (λ (v : World (language db)). AllExplained v.past) (sym is) all in
@@ -111,7 +111,7 @@ module _ (db : Database) (law : ReachedLaw (language db)) (whole : Relations) wh
 
   pub fails_on : (before after : Machines) (past : List (Deed (language db))) → IsServed db whole before past → Fails db before after → IsServedOn db whole after past
   fails_on before after past served (inl same) = same_on before after past served same
-  fails_on before after past served (inr breaks) = let broke = breaks.1.1 in record { deeds = broke.deeds; served = on_ask breaks.0 before after past broke.deeds broke.comings broke.left breaks.1.0 served broke.explained (broke.is past) broke.fit }
+  fails_on before after past served (inr breaks) = let broke = breaks.2 in record { deeds = broke.deeds; served = on_ask breaks.0 before after past broke.deeds broke.comings broke.left breaks.1 served broke.explained (broke.is past) broke.fit }
 
   -- one call after another
   pub then_on : (before mid after : Machines) (past : List (Deed (language db))) → IsServedOn db whole mid past → ((more : List (Deed (language db))) → IsServed db whole mid more → IsServedOn db whole after more) → IsServedOn db whole after past

@@ -309,7 +309,7 @@ module _ (db : Database) where
       scene.waiting ≡ asked → (same : (ls : List (Letter L)) (ds : List (Deed L)) → world_of db scene.machines ls ds ≡ world_of db mid ls ds) → AreFit db scene.machines →
       Goes db (λ w. w) scene (settled after heard) → GoesOnFrom db whole past after
   recovers law recovery distinct whole past before mid after commits asked notices heard scene served up leads more waits same fit goes =
-      let opened = (served.version, whole) in
+      let opened : L.Whole = (served.version, whole) in
       let now = past ++ leads.deeds in
       let w1 = world_of db before [] past in
       let w2 = world_of db mid (map (sent db) commits) now in

@@ -302,8 +302,8 @@ module _ (db : Database) where
       (IsReady db fits txn after (past ++ serves.deeds) × ((answer : AnswerNow) × (map notice_of heard ≡ (txn, Answer answer) ∷ []))) ⊎ (IsQuiet (rests db after (past ++ serves.deeds)) × (tells is_end heard ≡ true))
   quiet_or_ready fits law once housed whole before after past txn statement choice heard served ready is room serves =
       let n = before.table.version in
-      let opened = (served.version, whole) in
-      let s = (n, statement) in
+      let opened : D.Whole = (served.version, whole) in
+      let s : D.Statement = (n, statement) in
       let here = rests db before past in
       let ask = To_do txn (State s) choice in
       let start = called here txn choice (State s) in

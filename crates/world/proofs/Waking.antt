@@ -7,13 +7,16 @@ use Rattle.std.specs.List.Sorted.{IsStrictlySortedBy}
 use Rattle.meaning.specs.Whole.{Relations}
 use Rattle.reader.specs.Printable.{AreDistinct}
 use Rattle.store.specs.Name.{txn_cmp}
+use Rattle.protocol.specs.Catalogues.{site_at}
 use Rattle.protocol.specs.Client.{IsReached, ReachedLaw}
 use Rattle.protocol.specs.Desk.{Deed, Desk, desk_restarted, is_desk_within}
 use Rattle.protocol.specs.Letter.{Letter}
+use Rattle.protocol.specs.Local.{local}
 use Rattle.protocol.specs.Site.{SiteState, is_within, site_restarted}
 use Rattle.protocol.specs.World.{World, desk_lives, restarts, site_steps, with_site}
 use Rattle.protocol.proofs.Basics.{In, by_test, either, if_true, or_left, or_right}
 use Rattle.site.specs.Recovery.{Restarts}
+use Rattle.site.specs.State.{state_of}
 use Rattle.site.proofs.Restarting.{restarts as site_restarts}
 use Rattle.desk.specs.Database.{Database, language, statements}
 use Rattle.desk.specs.State.{IsMemory, desk_of}
