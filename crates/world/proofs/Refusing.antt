@@ -4,7 +4,7 @@ use Rattle.std.specs.Option.{option_map}
 use Rattle.meaning.specs.declared.statement.Statement.{Statement}
 use Rattle.meaning.specs.declared.statement.Statement.TheVariants as statements
 use Rattle.catalog.specs.declared.relation.SplitRelation.{SplitRelation}
-use Rattle.catalog.specs.Catalogue.{Catalogue}
+use Rattle.meaning.specs.declared.schema.RelationSchema.{RelationSchema}
 use Rattle.catalog.specs.FragmentLeaf.{schemas_of}
 use Rattle.catalog.specs.Relation.{catalogue_of}
 use Rattle.store.specs.declared.name.Txn as names

@@ -1,5 +1,5 @@
 -- A letter that asks for no store call does the same whether one would be kept or not.
-use Rattle.std.proofs.Common.{◌≡◌, refl, sym, ap, ◌∙◌, subst, ◌==◌, nat_eq, Bool, true, false, List, [], Option, Some, None, inl, inr, ◌⊎◌, ⊎_elim, if◌then◌else◌}
+use Rattle.std.proofs.Common.{◌≡◌, refl, sym, ap, ◌∙◌, subst, ◌==◌, nat_eq, Bool, true, false, List, [], Option, Some, None, inl, inr, ◌⊎◌, ⊎_elim, if◌then◌else◌, ℕ}
 use Rattle.std.specs.FinMap as fin
 use Rattle.store.specs.declared.letter.Body as bodies
 use Rattle.store.specs.declared.letter.Body.TheVariants as body

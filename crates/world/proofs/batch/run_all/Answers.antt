@@ -1,4 +1,6 @@
 -- Why `run_all` meets its contract.
+use Rattle.world.proofs.Deeds.{made_version}
+use Rattle.world.proofs.InForce.{in_force_on}
 use Rattle.std.proofs.Common.{◌∙◌, ◌+◌, ◌++◌, ◌∷◌, List, [], refl, sym, ap, subst, take, arith, Ok, Err}
 use Rattle.std.specs.Prelude.{⊤}
 use Rattle.std.proofs.lemmas.List.{take_all}

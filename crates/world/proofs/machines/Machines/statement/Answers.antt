@@ -1,6 +1,7 @@
 -- Why `statement` meets its contract.
 use Rattle.world.proofs.Counting.{none_fewer}
-use Rattle.std.proofs.Common.{◌≡◌, None, ◌∷◌, rules, ap}
+use Rattle.catalog.specs.FragmentLeaf.{schemas_of}
+use Rattle.std.proofs.Common.{◌≡◌, None, ◌∷◌, rules, ap, ◌∙◌}
 use Rattle.protocol.specs.Desk.{State, refusal}
 use Rattle.meaning.specs.declared.statement.Statement.{Statement}
 use Rattle.desk.specs.Request.{txn_in}
