@@ -1,7 +1,6 @@
 -- No step of a visit changes which leaves a site has.
-use Rattle.std.proofs.Common.{◌≡◌, ℕ, Bool, true, false, List, [], ◌∷◌, ◌++◌, length, get_or, slice_set, map, take, drop, if◌then◌else◌, refl, ap, ap₂, ◌∙◌, sym}
-use Rattle.std.proofs.Math.Seq.{map-set_same, take-append_seam}
-use Rattle.std.proofs.lemmas.List.{length-map}
+use Rattle.std.proofs.Common.{◌≡◌, ℕ, Bool, true, false, List, [], ◌∷◌, get_or, slice_set, map, if◌then◌else◌, refl, ap, ap₂, ◌∙◌}
+use Rattle.std.proofs.Math.Seq.{map-set_same}
 use Rattle.store.specs.declared.name.Ticket.{Ticket}
 use Rattle.site.specs.declared.locks.Locks.{Locks}
 use Rattle.site.specs.Locks.{reads, writes, stops, stops_reading, leaves_in}
@@ -27,12 +26,6 @@ module _ (ticket : Ticket) (drawn : ℕ) where
   pub leaves_stop : (locks : List Locks) → leaves_in (map (stops ticket drawn) locks) ≡ leaves_in locks
   leaves_stop [] = refl
   leaves_stop (first ∷ rest) = ap₂ (λ leaf leaves. leaf ∷ leaves) (both_leaf first) (leaves_stop rest)
-
--- what a slice's write leaves where its length stays
-pub leaves_back : (old new : List Locks) (n : ℕ) → n ≡ length old → leaves_in new ≡ leaves_in old → leaves_in (take n (new ++ drop (length new) old)) ≡ leaves_in old
-leaves_back old new n all same =
-    let long = sym (length-map new (λ l. l.leaf)) ∙ ap length same ∙ length-map old (λ l. l.leaf) in
-    ap leaves_in (ap (λ m. take m (new ++ drop (length new) old)) (all ∙ sym long) ∙ take-append_seam new (drop (length new) old)) ∙ same
 
 -- the locks at a place are others of the same leaf
 pub leaves_set : (locks : List Locks) (place : ℕ) (new old : Locks) → old ≡ get_or locks place old → new.leaf ≡ old.leaf → leaves_in (slice_set locks place new) ≡ leaves_in locks

@@ -15,6 +15,7 @@ pub mod Had
 pub mod Fetched
 pub mod Overlaid
 pub mod LeavesKept
+pub mod LockPlaces
 pub mod Lawful
 pub mod PreparedRows
 pub mod Recovered

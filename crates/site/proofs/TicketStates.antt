@@ -155,10 +155,7 @@ locked_there leaf ls place is step keeps g =
     go true e = ap (λ h. step (locks_in h ls)) (sym (leaf_is g leaf e))
     go false e = refl
 
--- a place that was found in the code's slice
-pub placed : (leaf found : Leaf) (ls slice : List Locks) (place : ℕ) → Some place ≡ place_in found slice → found ≡ leaf → slice ≡ ls → IsPlace leaf place ls
-placed leaf found ls slice place is same all = is_place leaf ls place (let e : place_in leaf ls ≡ Some place = sym (is ∙ ap (λ f. place_in f slice) same ∙ ap (place_in leaf) all) in e)
-
+-- what is at a place
 pub got : {A : Type 0} (xs : List A) (i : ℕ) (v d : A) → slice_get xs i ≡ Some v → get_or xs i d ≡ v
 got [] zero v d e = cc
 got [] (suc i) v d e = cc

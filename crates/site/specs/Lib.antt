@@ -1,6 +1,7 @@
 -- A site's machine over its store, in reading order.
 pub mod Fault
 pub mod Locks
+pub mod LockTable
 pub mod Tickets
 pub mod Verdict
 pub mod ReadLeaf

@@ -16,6 +16,7 @@
 
 pub mod fault;
 pub mod laws;
+mod lock_table;
 mod locks;
 mod operations;
 mod phases;

@@ -18,7 +18,8 @@ ghost use Rattle.store.specs.Content.{changed, made_by};
 ghost use Rattle.site.specs.Settled.{with_rows};
 
 use crate::fault::{SiteFault, site_fault};
-use crate::locks::{Locks, is_open, lock_exclusive};
+use crate::lock_table::{LockTable, is_open};
+use crate::locks::Locks;
 use crate::tickets::{TicketState, Tickets, YoungestFirst};
 use crate::volatile::LAST;
 use std::alloc::Global;
@@ -38,7 +39,7 @@ use terms::text::Text;
 #[derive(Drop)]
 pub(crate) struct Resting {
     pub(crate) standings: Tickets,
-    pub(crate) locks: Vec<Locks>,
+    pub(crate) locks: LockTable,
 }
 
 /// The same, and the life.
@@ -86,28 +87,17 @@ fn rest(
     ensures ordered { IfOk result (λ resting. IsStrictlySortedBy ticket_cmp (keys_of resting.standings)) }
     ensures fault { IfErr result (λ fault. (fault ≡ faults.Memory) ⊎ ((fault ≡ faults.Store store_faults.Damaged) × (all_may_stand leaves.now life rows.now (map free leaves.now) ≡ false))) }
 {
-    let mut locks = free_locks(alloc, leaves)?;
+    let mut locks = LockTable::new(alloc, leaves)?;
     let mut standings = Tickets::new(alloc);
     for row in rows {
         if !may_stand(leaves, life, row, locks.as_slice()) {
             return Err(SiteFault::Store(StoreFault::Damaged));
         }
-        lock_exclusive(&mut locks, row.ticket, &row.prepared.changes);
+        locks.lock_touched(row.ticket, &row.prepared.changes)?;
         standings.insert(row.ticket, TicketState::Prepared(row.prepared.txn))?;
     }
     let _count = standings.len();
     Ok(Resting { standings, locks })
-}
-
-/// Locks on leaves, of which nobody has one.
-fn free_locks(alloc: Global, leaves: &[Leaf]) -> Result<Vec<Locks>, Memory>
-    ensures { IfOk result (λ locks. locks.items ≡ map free leaves.now) }
-{
-    let mut locks = Vec::new(alloc);
-    for leaf in leaves {
-        locks.push(Locks::new(alloc, leaf.copy()?))?;
-    }
-    Ok(locks)
 }
 
 /// The leaves of locks.

@@ -19,7 +19,7 @@ ghost use Rattle.site.specs.Settled.{AreSettled};
 ghost use Rattle.site.specs.State.{AreHad, Fits, Steps, Takes, state_of, volatile_of};
 
 use crate::fault::{SiteFault, site_fault};
-use crate::locks::Locks;
+use crate::lock_table::LockTable;
 use crate::operations::{fetch, intend, open};
 use crate::phases::{abort, commit, give_up, prepare};
 use crate::recovery::{begin, leaves_of, settle};
@@ -177,7 +177,7 @@ impl<S: SiteStore> Site<S> {
             return Err(SiteFault::Stranger);
         }
         let Ok(letters) = room(self.volatile.alloc) else {
-            return Err(unanswered(self.volatile.locks.as_slice(), &letter.body));
+            return Err(unanswered(&self.volatile.locks, &letter.body));
         };
         let Letter { site, txn, body } = letter;
         let order = match body {
@@ -225,9 +225,9 @@ fn room(alloc: Global) -> Result<Vec<Letter>, Memory>
 
 /// Why a site with these locks doesn't take a letter that it has no room to answer: what goes elsewhere is
 /// turned away all the same.
-fn unanswered(locks: &[Locks], body: &Body) -> SiteFault
-    ensures elsewhere { AsksElsewhere locks.now body.now → result ≡ faults.Stranger }
-    ensures stranger { result ≡ faults.Stranger → AsksElsewhere locks.now body.now }
+fn unanswered(locks: &LockTable, body: &Body) -> SiteFault
+    ensures elsewhere { AsksElsewhere locks.now.items body.now → result ≡ faults.Stranger }
+    ensures stranger { result ≡ faults.Stranger → AsksElsewhere locks.now.items body.now }
     ensures fault { (result ≡ faults.Stranger) ⊎ (result ≡ faults.Memory) }
 {
     match body {

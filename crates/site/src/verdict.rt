@@ -13,7 +13,8 @@ ghost use Rattle.protocol.specs.Local.{is_full};
 ghost use Rattle.site.specs.Verdict.{ballot, read_verdict, write_verdict};
 
 use crate::fault::SiteFault;
-use crate::locks::{Locks, place_of};
+use crate::lock_table::LockTable;
+use crate::locks::Locks;
 use crate::tickets::{TicketState, Visit};
 use crate::volatile::Volatile;
 use store::changes::Changes;
@@ -138,12 +139,12 @@ fn leaf_of(write: &Write) -> &Leaf
 }
 
 /// Whether an order is about a leaf that isn't one of these.
-pub(crate) fn is_elsewhere(locks: &[Locks], order: &Order) -> bool
-    ensures { IsTrue result ↔ IsElsewhere locks.now order.now }
+pub(crate) fn is_elsewhere(locks: &LockTable, order: &Order) -> bool
+    ensures { IsTrue result ↔ IsElsewhere locks.now.items order.now }
 {
     match order {
-        Order::Fetch(fetch) => place_of(locks, &fetch.leaf).is_none(),
-        Order::Intend(intention) => place_of(locks, leaf_of(&intention.write)).is_none(),
+        Order::Fetch(fetch) => locks.place(&fetch.leaf).is_none(),
+        Order::Intend(intention) => locks.place(leaf_of(&intention.write)).is_none(),
         _ => false,
     }
 }
@@ -163,13 +164,13 @@ pub(crate) fn verdict_to_read(
     ensures own { result ≡ Err faults.Stranger → place_in leaf.now volatile.now.locks.items ≡ None }
     ensures store { (fault : StoreFaultName) → result ≢ Err (faults.Store fault) }
 {
-    let Some(place) = place_of(volatile.locks.as_slice(), leaf) else {
+    let Some(place) = volatile.locks.place(leaf) else {
         return Err(SiteFault::Stranger);
     };
     let turn = read_verdict(
         ticket,
         op,
-        &volatile.locks[place],
+        volatile.locks.at(place),
         volatile.standing(ticket),
     );
     Ok((place, turn))
@@ -190,14 +191,14 @@ pub(crate) fn verdict_to_write(
     ensures own { result ≡ Err faults.Stranger → place_in (leaf_of write.now) volatile.now.locks.items ≡ None }
     ensures store { (fault : StoreFaultName) → result ≢ Err (faults.Store fault) }
 {
-    let Some(place) = place_of(volatile.locks.as_slice(), leaf_of(write)) else {
+    let Some(place) = volatile.locks.place(leaf_of(write)) else {
         return Err(SiteFault::Stranger);
     };
     let turn = write_verdict(
         ticket,
         op,
         write,
-        &volatile.locks[place],
+        volatile.locks.at(place),
         volatile.standing(ticket),
     )?;
     Ok((place, turn))

@@ -18,7 +18,7 @@ ghost use Rattle.site.specs.State.{volatile_of, volatile_from, is_visit, is_row,
 ghost use Rattle.site.specs.Moves.{next_of};
 
 use crate::fault::SiteFault;
-use crate::locks::{Locks, lock_exclusive_at, lock_shared_at, release, release_shared};
+use crate::lock_table::LockTable;
 use crate::recovery::Beginning;
 use crate::tickets::{TicketState, Tickets, Visit};
 use std::alloc::Global;
@@ -41,7 +41,7 @@ pub(crate) struct Volatile {
     /// The site's own name.
     pub(crate) name: Text,
     /// The locks on each of its leaves.
-    pub(crate) locks: Vec<Locks>,
+    pub(crate) locks: LockTable,
     pub(crate) standings: Tickets,
     /// How many visits there are.
     pub(crate) active: u64,
@@ -126,7 +126,8 @@ impl Volatile {
             (slice_set self.old.locks.items place (with_reader ticket.now at)) self.old.active self.old.life self.old.number) }
         ensures memory { ChangesVolatile self.old self.new result }
     {
-        lock_shared_at(&mut self.locks, place, *ticket)?;
+        self.locks.hold(*ticket, place)?;
+        self.locks.lock_shared(place, *ticket)?;
         self.standings.set_done(ticket, op);
         Ok(())
     }
@@ -145,8 +146,9 @@ impl Volatile {
             (slice_set self.old.locks.items place (with_writer ticket.now at)) self.old.active self.old.life self.old.number) }
         ensures memory { ChangesVolatile self.old self.new result }
     {
+        self.locks.hold(*ticket, place)?;
         self.standings.set_change(ticket, op, write)?;
-        lock_exclusive_at(&mut self.locks, place, *ticket);
+        self.locks.lock_exclusive(place, *ticket);
         Ok(())
     }
 
@@ -158,7 +160,7 @@ impl Volatile {
             (map (stops_reading ticket.now self.old.number) self.old.locks.items) (self.old.active - 1) self.old.life self.old.number }
     {
         self.standings.set_prepared(ticket, txn);
-        release_shared(&mut self.locks, ticket, self.number);
+        self.locks.release_shared(ticket, self.number);
         self.active = self.active.saturating_sub(1);
     }
 
@@ -183,7 +185,7 @@ impl Volatile {
     {
         let _count = self.standings.len();
         self.standings.remove(ticket);
-        release(&mut self.locks, ticket, self.number);
+        self.locks.release(ticket, self.number);
     }
 
     /// What was in memory is lost, and another life has begun.

@@ -23,7 +23,7 @@ returns-in_err-begun g c =
           full = search rules;
           damaged = λ clean sound e.
               let fault = fault_is c.from_residual-in_err-begun.result c.in_err-begun.field-0.0 (faults.Store store_faults.Damaged) c.from_residual-in_err-begun.ensures.1 e in
-              subst (λ leaves. IsStrange leaves (g.S.SiteStore.kept c.begin.new.store)) (c.as_slice-2.ensures.value ∙ c.in_ok-leaves.ensures ∙ ap leaves_in c.as_slice.ensures.value)
+              subst (λ leaves. IsStrange leaves (g.S.SiteStore.kept c.begin.new.store)) (c.as_slice-2.ensures.value ∙ c.in_ok-leaves.ensures ∙ ap leaves_in c.as_slice.ensures)
               (fails.damaged clean sound (c.in_err-begun.was ∙ ap Err fault));
         };
         memory = search rules;
@@ -39,7 +39,7 @@ pub returns : goal.returns
 returns g c =
     let old = g.S.SiteStore.kept c.args.self.now.store in
     let new = g.S.SiteStore.kept c.begin.new.store in
-    let own = c.as_slice-2.ensures.value ∙ c.in_ok-leaves.ensures ∙ ap leaves_in c.as_slice.ensures.value in
+    let own = c.as_slice-2.ensures.value ∙ c.in_ok-leaves.ensures ∙ ap leaves_in c.as_slice.ensures in
     record {
       restarts = record {
         begins = search rules;

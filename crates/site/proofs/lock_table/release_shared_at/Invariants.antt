@@ -1,0 +1,8 @@
+-- The places that are left, from what the earlier ones made, do what all do.
+use Rattle.std.proofs.Common.{◌≡◌, drop}
+use Rattle.site.specs.Locks.{stops_reading}
+use Rattle.site.specs.LockTable.{change_each}
+use Rattle.site.proofs.lock_table.release_shared_at.Given as goal
+
+abbrev pub invariant-loop-place : goal.invariant-loop-place
+invariant-loop-place l = change_each (stops_reading l.ticket l.drawn) (drop l.place-index l.places) l.locks.items ≡ change_each (stops_reading l.ticket l.drawn) l.places l.initial.locks.items
