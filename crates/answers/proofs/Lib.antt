@@ -4,6 +4,7 @@ pub mod Merged
 pub mod Merging
 pub mod Pairing
 pub mod Placed
+pub mod Once
 pub mod Made
 pub mod Counted
 pub mod Listing

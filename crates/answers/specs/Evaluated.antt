@@ -1,6 +1,6 @@
 -- A reader may skip this: what each node of a plan makes of the tables below it.
 use Rattle.std.specs.Prelude.{◌≡◌, ◌⊎◌, ◌&&◌, ◌==◌, ℕ, ℤ, Bool, true, not, int_lt, if◌then◌else◌, List, [], ◌∷◌, ◌++◌, Option, Some, None, filter, length, map, option_map}
-use Rattle.std.specs.List.{AllByRecursion, filter_map, slice_get}
+use Rattle.std.specs.List.{filter_map}
 use Rattle.terms.specs.declared.cond.Cond.{Cond}
 use Rattle.terms.specs.declared.leaf.Leaf.{Leaf}
 use Rattle.terms.specs.declared.value.Value.{Value}
@@ -74,8 +74,6 @@ partnered col width left right = partnered_with right.rows col width left right
 -- a table as the rows of a plan are made of it
 pub record IsMade (plan : Shape) (contents : Leaf → List (List Value)) (table : Table) : Type 0 where
   pub has_rows : HasRows plan contents table
-  pub key : slice_get table.columns 0 ≡ Some 0
-  pub wide : AllByRecursion (λ row. length row ≡ length table.columns) table.rows
   pub had : (table.rows ≡ []) ⊎ (columns_had plan ≡ Some table.columns)
 
 -- a key above the last one, if there is one

@@ -17,7 +17,7 @@ use terms::memory::Memory;
 
 /// The rows of a plan, over what its fetches brought.
 pub fn evaluate(alloc: Global, plan: &Plan, fetched: &[FetchRows]) -> Result<Table, Memory>
-    // Both sides of each union have the same columns.
+    // Both sides of each union have the same columns, and each read has the key first and no column twice.
     requires plan { IsUniform (shape plan.now) }
     // The parts of each fetch have its columns, and their keys ascend.
     requires parts { EachRead (λ read. AreParts read.columns (given fetched.now read.leaf)) (shape plan.now) }

@@ -16,10 +16,10 @@ returns-in-Fetch t c =
     let read = c.in-Fetch.read in
     let steps = c.args.ledger.now.steps in
     let is : shape c.args.plan.now ≡ Fetch read = ap shape c.in-Fetch.is in
-    let key : IsUniform (Fetch read) = let Q : Shape → Type 0 = IsUniform in subst Q is c.requires.plan in
+    let uniform : IsUniform (Fetch read) = let Q : Shape → Type 0 = IsUniform in subst Q is c.requires.plan in
     let parts : AreParts read.columns (contents read.leaf) = let Q : Shape → Type 0 = AreGiven contents in subst Q is c.requires.parts in
     let P : List (List Value) → Type 0 = λ brought. IfOk c.table_read.result (λ table. table ≡ table_read read brought) in
-    made_alone c.table_read.result (shape c.args.plan.now) (Fetch read) contents (table_read read (contents read.leaf)) steps steps (subst P c.given.ensures c.table_read.ensures) is (fetch_made read contents key parts) (omega arith)
+    made_alone c.table_read.result (shape c.args.plan.now) (Fetch read) contents (table_read read (contents read.leaf)) steps steps (subst P c.given.ensures c.table_read.ensures) is (fetch_made read contents uniform parts) (omega arith)
 
 pub returns-in_ok-table-in-Filter : goal.returns-in_ok-table-in-Filter
 returns-in_ok-table-in-Filter t c =
