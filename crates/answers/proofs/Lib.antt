@@ -1,10 +1,12 @@
 pub mod Mapped
 pub mod Picked
 pub mod Merged
-pub mod Searched
+pub mod Merging
+pub mod Pairing
+pub mod Placed
+pub mod Once
 pub mod Made
-pub mod United
-pub mod Together
+pub mod Counted
 pub mod Listing
 pub mod WritesLaw
 pub mod LeafByLeaf

@@ -18,13 +18,14 @@ use Rattle.catalog.specs.Keyed.{row_at}
 use Rattle.plan.specs.declared.fetch.Fetch as fetch
 use Rattle.plan.specs.Rows.{Seen, at_value, is_seen, kept, merged, met, restricted, rows, seen_meets, seen_part, shifted}
 use Rattle.plan.specs.Shape.{Shape, Fetch, Filter, Project, Union, KeyJoin, Lookup}
-use Rattle.plan.specs.Uniform.{Agree, beside, both_columns, columns_had, past, StayWithin}
+use Rattle.plan.specs.Uniform.{Agree, IsUniform, beside, both_columns, columns_had, past, StayWithin}
 use Rattle.plan.proofs.OneSide.{all_at}
 use Rattle.answers.specs.declared.table.Table.{Table}
 use Rattle.answers.specs.Evaluated.{IsMade, cut, filtered, keyed, key_pairs, meeting, pair, partner_pairs, partnered, partnered_with, picked, united, united_with}
 use Rattle.answers.specs.Table.{AreParts, seen_rows}
 use Rattle.answers.proofs.Mapped.{KeepsKeyOf, ascends_kept, each, each_from, filter_is, found_key, map_is, passing, passing_keys, seen_mapped}
 use Rattle.answers.proofs.Merged.{merged_all, merged_ascends, merged_at}
+use Rattle.answers.proofs.Once.{once_beside, once_left, once_past}
 use Rattle.answers.proofs.Picked.{beside_first, cut_first, cut_key, cut_seen, or_none, pair_key, pair_seen, past_seen, picked_wide}
 
 -- what is known of the one table that a call may give
@@ -33,12 +34,16 @@ given_as (Ok table) made P is holds = subst P (sym is) holds
 given_as (Err error) made P is holds = tt
 
 -- a read
-pub fetch_made : (read : fetch.Fetch) (contents : Leaf → List (List Value)) → slice_get read.columns 0 ≡ Some 0 → AreParts read.columns (contents read.leaf) →
+pub fetch_made : (read : fetch.Fetch) (contents : Leaf → List (List Value)) → IsUniform (Fetch read) → AreParts read.columns (contents read.leaf) →
     IsMade (Fetch read) contents (record { columns = read.columns; rows = met read.conds (contents read.leaf) })
-fetch_made read contents key parts = record {
-  has_rows = record { order = Ascends-passed (conds_hold read.conds) (contents read.leaf) parts.order; seen = λ k. refl };
-  key = key;
-  wide = All-passed (λ part. length part ≡ length read.columns) (conds_hold read.conds) (contents read.leaf) parts.wide;
+fetch_made read contents uniform parts = record {
+  has_rows = record {
+    key = uniform.0;
+    once = uniform.1;
+    wide = All-passed (λ part. length part ≡ length read.columns) (conds_hold read.conds) (contents read.leaf) parts.wide;
+    order = Ascends-passed (conds_hold read.conds) (contents read.leaf) parts.order;
+    seen = λ k. refl;
+  };
   had = inr refl;
 }
 
@@ -64,6 +69,9 @@ filter_made conds below contents table made =
     let test : List Value → Bool = λ row. seen_meets conds (seen_part table.columns row) in
     record {
       has_rows = record {
+        key = made.has_rows.key;
+        once = made.has_rows.once;
+        wide = All-passed (λ row. length row ≡ length table.columns) test table.rows made.has_rows.wide;
         order = Ascends-passed test table.rows made.has_rows.order;
         seen = λ k.
             ap (λ (all : List (List Value)). seen_rows table.columns all k) (filter_is test table.rows)
@@ -71,8 +79,6 @@ filter_made conds below contents table made =
             (λ row is. kept_seen (test row) conds table.columns row refl)
             ∙ and_then_kept conds (seen_rows table.columns table.rows k) ∙ ap (kept conds) (made.has_rows.seen k);
       };
-      key = made.key;
-      wide = All-passed (λ row. length row ≡ length table.columns) test table.rows made.wide;
       had = had_kept table.rows (meeting conds table.columns table.rows) (columns_had below) table.columns (none_met conds table.columns table.rows) made.had;
     }
 
@@ -97,9 +103,12 @@ pub cut_made : (wanted : List ℕ) (below : Shape) (contents : Leaf → List (Li
 cut_made wanted below contents table made =
     let make : List Value → List Value = picked (is_seen wanted) table.columns in
     let columns : List ℕ = filter (is_seen wanted) table.columns in
-    let keeps : AllByRecursion (KeepsKeyOf (λ r. Some (make r))) table.rows = each (KeepsKeyOf (λ r. Some (make r))) table.rows (λ row. some_key make row (cut_key wanted table.columns row made.key)) in
+    let keeps : AllByRecursion (KeepsKeyOf (λ r. Some (make r))) table.rows = each (KeepsKeyOf (λ r. Some (make r))) table.rows (λ row. some_key make row (cut_key wanted table.columns row made.has_rows.key)) in
     record {
       has_rows = record {
+        key = cut_first wanted table.columns made.has_rows.key;
+        once = once_left (is_seen wanted) table.columns made.has_rows.once;
+        wide = All-made (λ row. length row ≡ length table.columns) (λ row. length row ≡ length columns) make table.rows (λ row wide. picked_wide (is_seen wanted) table.columns row wide) made.has_rows.wide;
         order = let P : List (List Value) → Type 0 = Ascends in subst P (sym (map_is make table.rows)) (ascends_kept (λ r. Some (make r)) table.rows keeps made.has_rows.order);
         seen = λ k.
             ap (λ (all : List (List Value)). seen_rows columns all k) (map_is make table.rows)
@@ -107,8 +116,6 @@ cut_made wanted below contents table made =
             (λ row is. ap (λ (s : Seen). Some s) (cut_seen wanted table.columns row))
             ∙ map_restricted wanted (seen_rows table.columns table.rows k) ∙ ap (option_map (restricted wanted)) (made.has_rows.seen k);
       };
-      key = cut_first wanted table.columns made.key;
-      wide = All-made (λ row. length row ≡ length table.columns) (λ row. length row ≡ length columns) make table.rows (λ row wide. picked_wide (is_seen wanted) table.columns row wide) made.wide;
       had = had_cut wanted table.rows (map make table.rows) (columns_had below) table.columns (λ is. ap (map make) is) made.had;
     }
 
@@ -146,20 +153,22 @@ union_made one other contents table others made made_other agree = at table.rows
     at : (mine theirs : List (List Value)) → table.rows ≡ mine → others.rows ≡ theirs → IsMade (Union one other) contents (united_with mine theirs table others)
     at [] theirs is is_other = record {
       has_rows = record {
+        key = made_other.has_rows.key;
+        once = made_other.has_rows.once;
+        wide = made_other.has_rows.wide;
         order = made_other.has_rows.order;
         seen = λ k. made_other.has_rows.seen k ∙ ap (λ (o : Option Seen). option_or o (rows other contents k)) (sym (none_made one contents table k made is));
       };
-      key = made_other.key;
-      wide = made_other.wide;
       had = elim made_other.had [ inl none ↦ inl none | inr had ↦ inr (agree_second (columns_had one) (columns_had other) others.columns agree had) ];
     }
     at (first ∷ mine) [] is is_other = record {
       has_rows = record {
+        key = made.has_rows.key;
+        once = made.has_rows.once;
+        wide = made.has_rows.wide;
         order = made.has_rows.order;
         seen = λ k. made.has_rows.seen k ∙ sym (ap (option_or (rows one contents k)) (none_made other contents others k made_other is_other) ∙ or_none (rows one contents k));
       };
-      key = made.key;
-      wide = made.wide;
       had = elim made.had [ inl none ↦ inl none | inr had ↦ inr (agree_first (columns_had one) (columns_had other) table.columns had) ];
     }
     at (first ∷ mine) (second ∷ theirs) is is_other =
@@ -169,14 +178,15 @@ union_made one other contents table others made made_other agree = at table.rows
         let P : List ℕ → Type 0 = λ columns. AllByRecursion (λ row. length row ≡ length columns) others.rows in
         record {
           has_rows = record {
+            key = made.has_rows.key;
+            once = made.has_rows.once;
+            wide = merged_all (λ row. length row ≡ length table.columns) table.rows others.rows made.has_rows.wide (subst P (sym same) made_other.has_rows.wide);
             order = merged_ascends table.rows others.rows made.has_rows.order made_other.has_rows.order;
             seen = λ k.
                 ap (option_map (seen_part table.columns)) (merged_at k table.rows others.rows made.has_rows.order)
                 ∙ map_or (seen_part table.columns) (row_at k table.rows) (row_at k others.rows)
                 ∙ ap₂ (λ (o p : Option Seen). option_or o p) (made.has_rows.seen k) (ap (λ (columns : List ℕ). seen_rows columns others.rows k) same ∙ made_other.has_rows.seen k);
           };
-          key = made.key;
-          wide = merged_all (λ row. length row ≡ length table.columns) table.rows others.rows made.wide (subst P (sym same) made_other.wide);
           had = inr (agree_first (columns_had one) (columns_had other) table.columns had);
         }
 
@@ -232,24 +242,25 @@ pub key_join_made : (one other : Shape) (contents : Leaf → List (List Value)) 
 key_join_made one other contents table others made made_other =
     let f : List Value → Option (List Value) = λ row. option_map (pair table.columns others.columns row) (row_at (key_of row) others.rows) in
     let keeps : AllByRecursion (KeepsKeyOf f) table.rows =
-    each_from (λ row. length row ≡ length table.columns) (KeepsKeyOf f) table.rows (λ row wide made_row is. pair_keeps table.columns others.columns row (row_at (key_of row) others.rows) made_row made.key wide is) made.wide in
+    each_from (λ row. length row ≡ length table.columns) (KeepsKeyOf f) table.rows (λ row wide made_row is. pair_keeps table.columns others.columns row (row_at (key_of row) others.rows) made_row made.has_rows.key wide is) made.has_rows.wide in
     record {
       has_rows = record {
+        key = beside_first table.columns others.columns made.has_rows.key;
+        once = once_beside table.columns others.columns made.has_rows.once made_other.has_rows.once;
+        wide =
+            All-kept (λ row. length row ≡ length table.columns) (λ row. length row ≡ length (beside table.columns others.columns)) f table.rows
+            (λ row made_row wide is. pair_fits table.columns others.columns row (row_at (key_of row) others.rows) made_row wide
+            (λ other_row found. all_at (λ r. length r ≡ length others.columns) (key_of row) others.rows other_row made_other.has_rows.wide found) is) made.has_rows.wide;
         order = ascends_kept f table.rows keeps made.has_rows.order;
         seen = λ k.
             seen_mapped f (λ seen. option_map (merged seen) (rows other contents k)) table.columns (beside table.columns others.columns) table.rows k keeps made.has_rows.order
             (λ row is.
             ap (λ (j : ℤ). option_map (seen_part (beside table.columns others.columns)) (option_map (pair table.columns others.columns row) (row_at j others.rows))) (found_key k table.rows row is)
-            ∙ pairs_seen table.columns others.columns row (seen_part others.columns) (row_at k others.rows) (all_at (λ r. length r ≡ length table.columns) k table.rows row made.wide is) (λ other_row. refl)
+            ∙ pairs_seen table.columns others.columns row (seen_part others.columns) (row_at k others.rows) (all_at (λ r. length r ≡ length table.columns) k table.rows row made.has_rows.wide is) (λ other_row. refl)
             ∙ map_twice (seen_part others.columns) (merged (seen_part table.columns row)) (row_at k others.rows)
             ∙ ap (option_map (merged (seen_part table.columns row))) (made_other.has_rows.seen k))
             ∙ ap (option_and_then (λ seen. option_map (merged seen) (rows other contents k))) (made.has_rows.seen k);
       };
-      key = beside_first table.columns others.columns made.key;
-      wide =
-          All-kept (λ row. length row ≡ length table.columns) (λ row. length row ≡ length (beside table.columns others.columns)) f table.rows
-          (λ row made_row wide is. pair_fits table.columns others.columns row (row_at (key_of row) others.rows) made_row wide
-          (λ other_row found. all_at (λ r. length r ≡ length others.columns) (key_of row) others.rows other_row made_other.wide found) is) made.wide;
       had =
           had_both table.rows others.rows (key_pairs table.columns others.columns table.rows others.rows) (columns_had one) (columns_had other) table.columns others.columns
           (λ none. ap (λ (all : List (List Value)). key_pairs table.columns others.columns all others.rows) none) (no_pairs table.columns others.columns table.rows others.rows) made.had made_other.had;
@@ -295,29 +306,28 @@ lookup_made col width left right contents table others made made_other = at othe
     keeps : AllByRecursion (KeepsKeyOf f) table.rows
     keeps =
         each_from (λ row. length row ≡ length table.columns) (KeepsKeyOf f) table.rows
-        (λ row wide made_row is. pair_keeps table.columns (past width others.columns) row (partner others.rows (seen_part table.columns row col)) made_row made.key wide is) made.wide
+        (λ row wide made_row is. pair_keeps table.columns (past width others.columns) row (partner others.rows (seen_part table.columns row col)) made_row made.has_rows.key wide is) made.has_rows.wide
 
     at : (theirs : List (List Value)) → others.rows ≡ theirs → IsMade (Lookup col width left right) contents (partnered_with theirs col width table others)
     at [] is = record {
-      has_rows = record { order = tt; seen = λ k. sym (no_partner width col (λ j. rows right contents j) (rows left contents k) (λ j. none_made right contents others j made_other is)) };
-      key = made.key;
-      wide = tt;
+      has_rows = record { key = made.has_rows.key; once = made.has_rows.once; wide = tt; order = tt; seen = λ k. sym (no_partner width col (λ j. rows right contents j) (rows left contents k) (λ j. none_made right contents others j made_other is)) };
       had = inl refl;
     }
     at (first ∷ theirs) is = record {
       has_rows = record {
+        key = beside_first table.columns (past width others.columns) made.has_rows.key;
+        once = once_beside table.columns (past width others.columns) made.has_rows.once (once_past width others.columns made_other.has_rows.once);
+        wide =
+            All-kept (λ row. length row ≡ length table.columns) (λ row. length row ≡ length (beside table.columns (past width others.columns))) f table.rows
+            (λ row made_row wide found_row. pair_fits table.columns (past width others.columns) row (partner others.rows (seen_part table.columns row col)) made_row wide
+            (λ other_row found. past_wide width others.columns other_row (partner_fits others.rows (seen_part table.columns row col) other_row (λ r. length r ≡ length others.columns) made_other.has_rows.wide found)) found_row) made.has_rows.wide;
         order = ascends_kept f table.rows keeps made.has_rows.order;
         seen = λ k.
             seen_mapped f looked table.columns (beside table.columns (past width others.columns)) table.rows k keeps made.has_rows.order
             (λ row found. partner_seen width table.columns others.columns row others.rows (λ j. rows right contents j) (seen_part table.columns row col)
-            (all_at (λ r. length r ≡ length table.columns) k table.rows row made.wide found) made_other.has_rows.seen)
+            (all_at (λ r. length r ≡ length table.columns) k table.rows row made.has_rows.wide found) made_other.has_rows.seen)
             ∙ ap (option_and_then looked) (made.has_rows.seen k);
       };
-      key = beside_first table.columns (past width others.columns) made.key;
-      wide =
-          All-kept (λ row. length row ≡ length table.columns) (λ row. length row ≡ length (beside table.columns (past width others.columns))) f table.rows
-          (λ row made_row wide found_row. pair_fits table.columns (past width others.columns) row (partner others.rows (seen_part table.columns row col)) made_row wide
-          (λ other_row found. past_wide width others.columns other_row (partner_fits others.rows (seen_part table.columns row col) other_row (λ r. length r ≡ length others.columns) made_other.wide found)) found_row) made.wide;
       had =
           had_both table.rows others.rows (partner_pairs col table.columns (past width others.columns) table.rows others.rows) (columns_had left) (option_map (past width) (columns_had right)) table.columns (past width others.columns)
           (λ none. ap (λ (all : List (List Value)). partner_pairs col table.columns (past width others.columns) all others.rows) none)

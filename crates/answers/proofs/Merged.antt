@@ -1,14 +1,13 @@
 -- Rows of two lists with ascending keys, merged by their keys.
-use Rattle.std.proofs.Common.{◌≡◌, ℕ, zero, suc, ◌+◌, ◌<◌, ◌≤◌, ℤ, ◌<ℤ◌, int_lt, Bool, true, false, cond, not, List, [], ◌∷◌, ◌++◌, length, get_or, take, drop, filter, Option, Some, None, option_map, refl, ap, ap₂, sym, ◌∙◌, subst, append_assoc, arith}
+use Rattle.std.proofs.Common.{◌≡◌, ℕ, ℤ, ◌<ℤ◌, int_lt, Bool, true, false, cond, not, List, [], ◌∷◌, ◌++◌, filter, Option, Some, None, option_map, refl, ap, ap₂, sym, ◌∙◌, append_assoc, arith}
 use Rattle.std.specs.List.{AllByRecursion, cons_option}
 use Rattle.std.specs.Option.{option_or}
 use Rattle.std.specs.Ordering.{int_eq}
 use Rattle.std.proofs.lemmas.Int.{ints}
-use Rattle.std.proofs.lemmas.List.{append-nil, at_drop_more}
 use Rattle.terms.specs.declared.value.Value.{Value}
 use Rattle.terms.specs.Row.{key_of}
 use Rattle.meaning.specs.Relation.{Ascends}
-use Rattle.meaning.proofs.Keys.{below_trans, eq_above, eq_below, lt_below, lt_false, lt_true}
+use Rattle.meaning.proofs.Keys.{below_trans, eq_above, lt_below, lt_false, lt_true}
 use Rattle.meaning.proofs.Rows.{All-passed, Ascends-passed, below_all}
 use Rattle.catalog.specs.Keyed.{row_at}
 use Rattle.answers.specs.Evaluated.{key_pairs, pair}
@@ -143,131 +142,5 @@ all_above row (first ∷ rows) later =
       above = rw (lt_true (key_of row) (key_of first) later.0) (ap (λ (more : List (List Value)). first ∷ more) rest.above);
     }
 
--- a place in rows up to which their keys are below a row's
-pub record IsCutAt (row : List Value) (rows : List (List Value)) (place : ℕ) : Type 0 where
-  pub within : place ≤ length rows
-  pub below : rows_below row rows ≡ take place rows ++ rows_below row (drop place rows)
-  pub same : row_at (key_of row) rows ≡ row_at (key_of row) (drop place rows)
-  pub above : rows_above row rows ≡ rows_above row (drop place rows)
-  pub order : Ascends (drop place rows)
-
--- the same, of rows of which the first ones have been passed
-pub cut_start : (row : List Value) (rows : List (List Value)) → Ascends rows → IsCutAt row rows 0
-cut_start row rows order = record { within = omega arith; below = refl; same = refl; above = refl; order = order }
-
-cut_first : (row first : List Value) (rows : List (List Value)) → key_of first <ℤ key_of row → Ascends (first ∷ rows) → IsCutAt row (first ∷ rows) 1
-cut_first row first rows below order = record {
-  within = omega arith;
-  below = rw (lt_true (key_of first) (key_of row) below) refl;
-  same = rw (eq_below (key_of first) (key_of row) below) refl;
-  above = rw (lt_false (key_of row) (key_of first) below) refl;
-  order = order.1;
-}
-
-cut_later : (row first : List Value) (rows : List (List Value)) (place : ℕ) → key_of first <ℤ key_of row → IsCutAt row rows place → IsCutAt row (first ∷ rows) (suc place)
-cut_later row first rows place below cut = record {
-  within = omega (arith, cut.within);
-  below = rw (lt_true (key_of first) (key_of row) below) (ap (λ (rest : List (List Value)). first ∷ rest) cut.below);
-  same = rw (eq_below (key_of first) (key_of row) below) cut.same;
-  above = rw (lt_false (key_of row) (key_of first) below) cut.above;
-  order = cut.order;
-}
-
--- the keys before one that is below are below
-before_below : (row first : List Value) (rows : List (List Value)) (k : ℕ) (d : List Value) → AllByRecursion (λ later. key_of first <ℤ key_of later) rows → k < length rows → key_of (get_or rows k d) <ℤ key_of row → key_of first <ℤ key_of row
-before_below row first [] k d order within below = absurd (omega arith)
-before_below row first (other ∷ rows) zero d order within below = below_trans (key_of first) (key_of other) (key_of row) order.0 below
-before_below row first (other ∷ rows) (suc k) d order within below = before_below row first rows k d order.1 (omega arith) below
-
-pub cut_more : (row : List Value) (rows : List (List Value)) (place : ℕ) (d : List Value) → Ascends rows → place < length rows → key_of (get_or rows place d) <ℤ key_of row → IsCutAt row rows (suc place)
-cut_more row [] place d order within below = absurd (omega arith)
-cut_more row (first ∷ rows) zero d order within below = cut_first row first rows below order
-cut_more row (first ∷ rows) (suc place) d order within below =
-    cut_later row first rows (suc place) (before_below row first rows place d order.0 (omega arith) below) (cut_more row rows place d order.1 (omega arith) below)
-
--- the first row past such a place
-pub record IsCut (row : List Value) (rows below : List (List Value)) (same : Option (List Value)) (above : List (List Value)) : Type 0 where
-  pub lower : below ≡ rows_below row rows
-  pub equal : same ≡ row_at (key_of row) rows
-  pub higher : above ≡ rows_above row rows
-  pub order : Ascends above
-
-pub cut_end : (row : List Value) (rows : List (List Value)) (place : ℕ) → IsCutAt row rows place → drop place rows ≡ [] → IsCut row rows (take place rows) None (drop place rows)
-cut_end row rows place cut none = record {
-  lower = sym (cut.below ∙ ap (λ (rest : List (List Value)). take place rows ++ rows_below row rest) none ∙ append-nil (take place rows));
-  equal = sym (cut.same ∙ ap (row_at (key_of row)) none);
-  higher = none ∙ sym (cut.above ∙ ap (rows_above row) none);
-  order = cut.order;
-}
-
--- of a cut before rows that begin with one whose key is not below
-front_is : (row : List Value) (rows rest : List (List Value)) (place : ℕ) → IsCutAt row rows place → rows_below row (drop place rows) ≡ [] → rows_below row rows ≡ take place rows
-front_is row rows rest place cut none = cut.below ∙ ap (λ (more : List (List Value)). take place rows ++ more) none ∙ append-nil (take place rows)
-
-pub cut_same : (row first : List Value) (rows above : List (List Value)) (place : ℕ) → IsCutAt row rows place → drop place rows ≡ first ∷ above → key_of first ≡ key_of row → IsCut row rows (take place rows) (Some first) above
-cut_same row first rows above place cut is same =
-    let order : Ascends (first ∷ above) = let P : List (List Value) → Type 0 = Ascends in subst P is cut.order in
-    let Q : ℤ → Type 0 = λ k. AllByRecursion (λ later. k <ℤ key_of later) above in
-    let past = all_above row above (subst Q same order.0) in
-    let none : rows_below row (first ∷ above) ≡ [] = rw (equal_not_below (key_of first) (key_of row) same) past.below in
-    let found : row_at (key_of row) (first ∷ above) ≡ Some first = rw (equal_key (key_of first) (key_of row) same) refl in
-    let rest : rows_above row (first ∷ above) ≡ above = rw (equal_not_above (key_of first) (key_of row) same) past.above in
-    record {
-      lower = sym (front_is row rows [] place cut (ap (rows_below row) is ∙ none));
-      equal = sym (cut.same ∙ ap (row_at (key_of row)) is ∙ found);
-      higher = sym (cut.above ∙ ap (rows_above row) is ∙ rest);
-      order = order.1;
-    }
-  where
-    equal_not_below : (one key : ℤ) → one ≡ key → int_lt one key ≡ false
-    equal_not_below one key e = grind (arith, ints)
-
-    equal_not_above : (one key : ℤ) → one ≡ key → int_lt key one ≡ false
-    equal_not_above one key e = grind (arith, ints)
-
-    equal_key : (one key : ℤ) → one ≡ key → int_eq one key ≡ true
-    equal_key one key e = grind (arith, ints)
-
-pub cut_past : (row first : List Value) (rows above : List (List Value)) (place : ℕ) → IsCutAt row rows place → drop place rows ≡ first ∷ above → key_of row <ℤ key_of first → IsCut row rows (take place rows) None (drop place rows)
-cut_past row first rows above place cut is past_key =
-    let order : Ascends (first ∷ above) = let P : List (List Value) → Type 0 = Ascends in subst P is cut.order in
-    let past = all_above row (first ∷ above) (past_key, below_all (key_of row) first above past_key order.0) in
-    record {
-      lower = sym (front_is row rows [] place cut (ap (rows_below row) is ∙ past.below));
-      equal = sym (cut.same ∙ ap (row_at (key_of row)) is ∙ past.same);
-      higher = is ∙ sym (cut.above ∙ ap (rows_above row) is ∙ past.above);
-      order = cut.order;
-    }
-
--- ascending rows, passed up to a place
-pub ascends_drop : (rows : List (List Value)) (place : ℕ) → Ascends rows → Ascends (drop place rows)
-ascends_drop [] zero order = tt
-ascends_drop [] (suc place) order = tt
-ascends_drop (row ∷ rows) zero order = order
-ascends_drop (row ∷ rows) (suc place) order = ascends_drop rows place order.1
-
-pub get_at_drop : (rows above : List (List Value)) (place : ℕ) (d first : List Value) → drop place rows ≡ first ∷ above → get_or rows place d ≡ first
-get_at_drop [] above zero d first is = absurd (cc)
-get_at_drop [] above (suc place) d first is = absurd (cc)
-get_at_drop (row ∷ rows) above zero d first is = cc
-get_at_drop (row ∷ rows) above (suc place) d first is = get_at_drop rows above place d first is
-
--- the row at a place, and those behind it
-pub drop_row : (rows : List (List Value)) (i : ℕ) (row : List Value) → i < length rows → row ≡ get_or rows i row → drop i rows ≡ row ∷ drop (i + 1) rows
-drop_row rows i row within is = at_drop_more (λ (all : List (List Value)). all) rows i row within ∙ ap (λ (first : List Value). first ∷ drop (i + 1) rows) (sym is)
-
--- one row more is paired
-pub pairs_more : (columns columns_other : List ℕ) (row : List Value) (rows rest above found all : List (List Value)) (same : Option (List Value)) → Ascends (row ∷ rows) → same ≡ row_at (key_of row) rest → above ≡ rows_above row rest →
-    found ++ key_pairs columns columns_other (row ∷ rows) rest ≡ all → found ++ cons_option (option_map (pair columns columns_other row) same) (key_pairs columns columns_other rows above) ≡ all
-pairs_more columns columns_other row rows rest above found all same order is above_is so_far =
-    ap₂ (λ (o : Option (List Value)) (more : List (List Value)). found ++ cons_option (option_map (pair columns columns_other row) o) (key_pairs columns columns_other rows more)) is above_is
-    ∙ ap (λ (more : List (List Value)). found ++ cons_option (option_map (pair columns columns_other row) (row_at (key_of row) rest)) more) (key_pairs_above columns columns_other row rows rest order.0) ∙ so_far
-
 pub pushed : (found more : List (List Value)) (row : List Value) → (found ++ row ∷ []) ++ more ≡ found ++ row ∷ more
 pushed found more row = append_assoc found (row ∷ []) more
-
-pub nothing_dropped : (rows above : List (List Value)) (place : ℕ) (first : List Value) → length rows ≤ place → drop place rows ≡ first ∷ above → ⊥
-nothing_dropped [] above zero first past is = cc
-nothing_dropped [] above (suc place) first past is = cc
-nothing_dropped (row ∷ rows) above zero first past is = omega arith
-nothing_dropped (row ∷ rows) above (suc place) first past is = nothing_dropped rows above place first (omega arith) is

@@ -1,11 +1,10 @@
 -- A reader may skip this: what each node of a plan makes of the tables below it.
 use Rattle.std.specs.Prelude.{◌≡◌, ◌⊎◌, ◌&&◌, ◌==◌, ℕ, ℤ, Bool, true, not, int_lt, if◌then◌else◌, List, [], ◌∷◌, ◌++◌, Option, Some, None, filter, length, map, option_map}
-use Rattle.std.specs.List.{AllByRecursion, filter_map, slice_get}
+use Rattle.std.specs.List.{filter_map}
 use Rattle.terms.specs.declared.cond.Cond.{Cond}
 use Rattle.terms.specs.declared.leaf.Leaf.{Leaf}
 use Rattle.terms.specs.declared.value.Value.{Value}
 use Rattle.terms.specs.Row.{key_of}
-use Rattle.meaning.specs.Relation.{Ascends}
 use Rattle.meaning.specs.Selected.{partner}
 use Rattle.catalog.specs.Counts.{has}
 use Rattle.catalog.specs.Keyed.{row_at}
@@ -61,11 +60,6 @@ united one other = united_with one.rows other.rows one other
 abbrev pub no_rows : Table
 no_rows = record { columns = 0 ∷ []; rows = [] }
 
-abbrev pub all_united : List Table → Table
-all_united [] = no_rows
-all_united (table ∷ []) = table
-all_united (table ∷ next ∷ rest) = united table (all_united (next ∷ rest))
-
 abbrev pub keyed : Table → Table → Table
 keyed one other = record { columns = beside one.columns other.columns; rows = key_pairs one.columns other.columns one.rows other.rows }
 
@@ -80,15 +74,7 @@ partnered col width left right = partnered_with right.rows col width left right
 -- a table as the rows of a plan are made of it
 pub record IsMade (plan : Shape) (contents : Leaf → List (List Value)) (table : Table) : Type 0 where
   pub has_rows : HasRows plan contents table
-  pub key : slice_get table.columns 0 ≡ Some 0
-  pub wide : AllByRecursion (λ row. length row ≡ length table.columns) table.rows
   pub had : (table.rows ≡ []) ⊎ (columns_had plan ≡ Some table.columns)
-
--- tables whose rows together are those of a plan
-pub record AreMade (plan : Shape) (contents : Leaf → List (List Value)) (tables : List Table) : Type 0 where
-  pub some : tables ≡ [] → ⊥
-  pub order : AllByRecursion (λ table. Ascends table.rows) tables
-  pub together : IsMade plan contents (all_united tables)
 
 -- a key above the last one, if there is one
 abbrev pub is_above : Option ℤ → ℤ → Bool

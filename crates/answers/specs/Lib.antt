@@ -1,7 +1,9 @@
 -- Tables, answers and writes, in reading order.
 pub mod Table
 pub mod Merged
+pub mod Joined
 pub mod Writes
 -- The words of the code's own steps, which a reader may skip.
+pub mod Ledger
 pub mod Evaluated
 pub mod Outcome

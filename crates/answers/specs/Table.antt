@@ -1,6 +1,6 @@
 -- Tables: rows over numbered columns, in ascending order of their keys; and the parts of which a plan makes them.
-use Rattle.std.specs.Prelude.{◌≡◌, ℕ, ℤ, if◌then◌else◌, List, [], ◌∷◌, Option, length, option_map}
-use Rattle.std.specs.List.{AllByRecursion}
+use Rattle.std.specs.Prelude.{◌≡◌, ℕ, ℤ, if◌then◌else◌, List, [], ◌∷◌, Option, Some, length, option_map}
+use Rattle.std.specs.List.{AllByRecursion, slice_get}
 use Rattle.terms.specs.declared.leaf.Leaf.{Leaf}
 use Rattle.terms.specs.declared.value.Value.{Value}
 use Rattle.meaning.specs.declared.statement.Statement.{Statement}
@@ -11,6 +11,7 @@ use Rattle.plan.specs.Found.{found}
 use Rattle.plan.specs.Reduced.{same_leaf}
 use Rattle.plan.specs.Rows.{Seen, rows, seen_part}
 use Rattle.plan.specs.Shape.{Shape}
+use Rattle.plan.specs.Uniform.{AreOnce}
 use Rattle.answers.specs.declared.table.FetchRows.{FetchRows}
 use Rattle.answers.specs.declared.table.Table.{Table}
 
@@ -28,8 +29,11 @@ pub record AreParts (columns : List ℕ) (parts : List (List Value)) : Type 0 wh
   pub order : Ascends parts
   pub wide : AllByRecursion (λ part. length part ≡ length columns) parts
 
--- a table has, by ascending keys, the rows of a plan over these contents
+-- a table has, by ascending keys, the rows of a plan over these contents; its columns begin with the key, none stands twice, and each row has a value for each
 pub record HasRows (plan : Shape) (contents : Leaf → List (List Value)) (table : Table) : Type 0 where
+  pub key : slice_get table.columns 0 ≡ Some 0
+  pub once : AreOnce table.columns
+  pub wide : AllByRecursion (λ row. length row ≡ length table.columns) table.rows
   pub order : Ascends table.rows
   pub seen : (key : ℤ) → seen_rows table.columns table.rows key ≡ rows plan contents key
 

@@ -1,55 +1,81 @@
 //! The rows of plans.
 
-ghost use Rattle.std.specs.Prelude.{◌≡◌, IfOk};
+ghost use Rattle.std.specs.Prelude.{◌≡◌, ◌+◌, ◌≤◌, IfOk};
 ghost use Rattle.plan.specs.Shape.{shape};
 ghost use Rattle.plan.specs.Uniform.{EachRead, IsUniform};
-ghost use Rattle.answers.specs.Evaluated.{AreMade};
+ghost use Rattle.answers.specs.Evaluated.{IsMade};
+ghost use Rattle.answers.specs.Joined.{rows_joined};
 ghost use Rattle.answers.specs.Table.{AreParts, HasRows, given};
 
+use crate::ledger::Ledger;
 use crate::steps::{cut, filtered, keyed, partnered, table_read};
 use crate::table::{FetchRows, Table, given};
-use crate::unite::{alone, no_rows, united_all};
+use crate::unite::{no_rows, united};
 use plan::plan::Plan;
 use std::alloc::Global;
 use terms::memory::Memory;
 
 /// The rows of a plan, over what its fetches brought.
 pub fn evaluate(alloc: Global, plan: &Plan, fetched: &[FetchRows]) -> Result<Table, Memory>
-    // Both sides of each union have the same columns.
+    // Both sides of each union have the same columns, and each read has the key first and no column twice.
     requires plan { IsUniform (shape plan.now) }
     // The parts of each fetch have its columns, and their keys ascend.
     requires parts { EachRead (λ read. AreParts read.columns (given fetched.now read.leaf)) (shape plan.now) }
     ensures { IfOk result (λ table. HasRows (shape plan.now) (given fetched.now) table) }
 {
-    united_all(alloc, tables_of(alloc, plan, fetched)?)
+    let (table, _) = evaluate_counted(alloc, plan, fetched)?;
+    Ok(table)
 }
 
-/// The tables whose rows are those of a plan: for a union those of both sides, for any other plan one.
-fn tables_of(alloc: Global, plan: &Plan, fetched: &[FetchRows]) -> Result<Vec<Table>, Memory>
+/// The rows of a plan, and the number of steps that putting them together took. A step is one comparison of two
+/// keys in a union or a key join, or one insertion into or look-up in the map of a look-up.
+pub fn evaluate_counted(
+    alloc: Global,
+    plan: &Plan,
+    fetched: &[FetchRows],
+) -> Result<(Table, u64), Memory>
     requires plan { IsUniform (shape plan.now) }
     requires parts { EachRead (λ read. AreParts read.columns (given fetched.now read.leaf)) (shape plan.now) }
-    ensures { IfOk result (λ tables. AreMade (shape plan.now) (given fetched.now) tables.items) }
+    ensures rows { IfOk result (λ counted. HasRows (shape plan.now) (given fetched.now) counted.0) }
+    // No more steps than the rows of both sides of each union, key join and look-up.
+    ensures steps { IfOk result (λ counted. counted.1 ≤ rows_joined (shape plan.now) (given fetched.now)) }
+{
+    let mut ledger = Ledger::new();
+    let table = table_of(alloc, &mut ledger, plan, fetched)?;
+    Ok((table, ledger.steps))
+}
+
+/// The table of a plan, node by node.
+fn table_of(
+    alloc: Global,
+    ledger: &mut Ledger,
+    plan: &Plan,
+    fetched: &[FetchRows],
+) -> Result<Table, Memory>
+    requires plan { IsUniform (shape plan.now) }
+    requires parts { EachRead (λ read. AreParts read.columns (given fetched.now read.leaf)) (shape plan.now) }
+    ensures { IfOk result (λ table. IsMade (shape plan.now) (given fetched.now) table × (ledger.new.steps ≤ ledger.old.steps + rows_joined (shape plan.now) (given fetched.now))) }
 {
     match plan {
-        Plan::Empty => alone(alloc, no_rows(alloc)?),
-        Plan::Fetch(read) => alone(alloc, table_read(alloc, read, given(fetched, &read.leaf))?),
+        Plan::Empty => no_rows(alloc),
+        Plan::Fetch(read) => table_read(alloc, read, given(fetched, &read.leaf)),
         Plan::Filter(conds, below) => {
-            let table = united_all(alloc, tables_of(alloc, below, fetched)?)?;
-            alone(alloc, filtered(alloc, conds.as_slice(), table)?)
+            let table = table_of(alloc, ledger, below, fetched)?;
+            filtered(alloc, conds.as_slice(), table)
         }
         Plan::Project(columns, below) => {
-            let table = united_all(alloc, tables_of(alloc, below, fetched)?)?;
-            alone(alloc, cut(alloc, columns.as_slice(), &table)?)
+            let table = table_of(alloc, ledger, below, fetched)?;
+            cut(alloc, columns.as_slice(), &table)
         }
         Plan::Union(one, other) => {
-            let mut tables = tables_of(alloc, one, fetched)?;
-            tables.append(&mut tables_of(alloc, other, fetched)?)?;
-            Ok(tables)
+            let table = table_of(alloc, ledger, one, fetched)?;
+            let others = table_of(alloc, ledger, other, fetched)?;
+            united(alloc, ledger, table, others)
         }
         Plan::KeyJoin(one, other) => {
-            let table = united_all(alloc, tables_of(alloc, one, fetched)?)?;
-            let others = united_all(alloc, tables_of(alloc, other, fetched)?)?;
-            alone(alloc, keyed(alloc, &table, &others)?)
+            let table = table_of(alloc, ledger, one, fetched)?;
+            let others = table_of(alloc, ledger, other, fetched)?;
+            keyed(alloc, ledger, &table, &others)
         }
         Plan::Lookup {
             col,
@@ -57,9 +83,9 @@ fn tables_of(alloc: Global, plan: &Plan, fetched: &[FetchRows]) -> Result<Vec<Ta
             left,
             right,
         } => {
-            let table = united_all(alloc, tables_of(alloc, left, fetched)?)?;
-            let others = united_all(alloc, tables_of(alloc, right, fetched)?)?;
-            alone(alloc, partnered(alloc, *col, *width, table, &others)?)
+            let table = table_of(alloc, ledger, left, fetched)?;
+            let others = table_of(alloc, ledger, right, fetched)?;
+            partnered(alloc, ledger, *col, *width, table, &others)
         }
     }
 }

@@ -3,9 +3,10 @@
 //!
 //! It stands on `terms`, `meaning`, `catalog` and `plan`. The contract that the layers above use is that
 //! of `work`: over every whole database of which the fetches bring what they brought, the answer and the
-//! writes are those of the serial meaning. `evaluate` gives the table of a plan, and `finish` what a
-//! statement makes of it; `laws::writes_lead` says what the writes do to the leaves. Whether what came are
-//! parts of the fetches' columns, as `work` asks, is tested by `table::are_all_parts`.
+//! writes are those of the serial meaning. `evaluate` gives the table of a plan, `evaluate_counted` the
+//! number of steps beside it, and `finish` what a statement makes of the table; `laws::writes_lead` says
+//! what the writes do to the leaves. Whether what came are parts of the fetches' columns, as `work` asks,
+//! is tested by `table::are_all_parts`.
 //!
 //! ```text
 //! let less = reduce(alloc, &catalog, &statement, plan)?;     // DELETE FROM item WHERE zone = 3
@@ -18,7 +19,10 @@ pub mod change;
 pub mod evaluate;
 pub mod finish;
 pub mod laws;
+pub mod ledger;
 pub mod merge;
+pub mod pairs;
+pub mod partner;
 pub mod pick;
 pub mod steps;
 pub mod table;

@@ -1,66 +1,55 @@
-//! Rows by ascending keys, merged in one pass.
+//! Rows of two lists by ascending keys, merged in one pass over both.
 
-ghost use Rattle.std.specs.Prelude.{◌≡◌, ◌++◌, IfOk, OnOk};
-ghost use Rattle.std.specs.Option.{option_copied};
-ghost use Rattle.terms.specs.Row.{key_of};
+ghost use Rattle.std.specs.Prelude.{◌≡◌, ◌++◌, ◌+◌, ◌≤◌, ◌<◌, IfOk, OnOk, length};
 ghost use Rattle.meaning.specs.Relation.{Ascends};
-ghost use Rattle.catalog.specs.Keyed.{row_at};
-ghost use Rattle.answers.specs.Evaluated.{key_pairs};
-ghost use Rattle.answers.specs.Merged.{merged_rows, rows_above, rows_below};
+ghost use Rattle.answers.specs.Merged.{merged_rows};
 
-use crate::pick::pair;
+use crate::ledger::Ledger;
 use std::alloc::Global;
+use std::cmp::Ordering;
 use terms::copy::TryCopy;
 use terms::memory::Memory;
 use terms::row::Row;
 
-/// Rows, cut at a key: those below it, the one that has it, and those above it.
-#[derive(Drop)]
-struct Cut<'a> {
-    below: &'a [Row],
-    same: Option<&'a Row>,
-    above: &'a [Row],
-}
-
 /// The rows of both by ascending keys; of two with one key that of the first.
-pub(crate) fn merged(alloc: Global, rows: &[Row], others: &[Row]) -> Result<Vec<Row>, Memory>
-    requires { Ascends others.now }
-    ensures { IfOk result (λ found. found.items ≡ merged_rows rows.now others.now) }
-{
-    let mut found = Vec::new(alloc);
-    let mut rest = others;
-    for row in rows {
-        let cut = cut_at(row, rest);
-        put_rows(&mut found, cut.below)?;
-        found.push(row.copy()?)?;
-        rest = cut.above;
-    }
-    put_rows(&mut found, rest)?;
-    Ok(found)
-}
-
-/// The rows that have one of the same key among the others, each put together with it. Both ascend by
-/// their keys.
-pub(crate) fn key_pairs(
+pub(crate) fn merged(
     alloc: Global,
-    columns: &[usize],
-    others_columns: &[usize],
+    ledger: &mut Ledger,
     rows: &[Row],
     others: &[Row],
 ) -> Result<Vec<Row>, Memory>
     requires rows { Ascends rows.now }
     requires others { Ascends others.now }
-    ensures { IfOk result (λ found. found.items ≡ key_pairs columns.now others_columns.now rows.now others.now) }
+    ensures rows { IfOk result (λ found. found.items ≡ merged_rows rows.now others.now) }
+    // After each comparison one row more is done with.
+    ensures most { OnOk result (ledger.new.steps ≤ ledger.old.steps + (length rows.now + length others.now)) }
+    // Each row that is left out was compared with the one that has its key.
+    ensures least { IfOk result (λ found. ledger.new.steps < 18446744073709551615 → ledger.old.steps + (length rows.now + length others.now) ≤ ledger.new.steps + length found.items) }
 {
     let mut found = Vec::new(alloc);
-    let mut rest = others;
-    for row in rows {
-        let cut = cut_at(row, rest);
-        if let Some(other) = cut.same {
-            found.push(pair(alloc, columns, others_columns, row, other)?)?;
+    let (mut rest, mut rest_others) = (rows, others);
+    while let (Some((row, later)), Some((other, later_others))) = (
+        rest.split_first(),
+        rest_others.split_first(),
+    ) {
+        match ledger.compared(row, other) {
+            Ordering::Less => {
+                found.push(row.copy()?)?;
+                rest = later;
+            }
+            Ordering::Equal => {
+                found.push(row.copy()?)?;
+                rest = later;
+                rest_others = later_others;
+            }
+            Ordering::Greater => {
+                found.push(other.copy()?)?;
+                rest_others = later_others;
+            }
         }
-        rest = cut.above;
     }
+    put_rows(&mut found, rest)?;
+    put_rows(&mut found, rest_others)?;
     Ok(found)
 }
 
@@ -72,41 +61,4 @@ fn put_rows(out: &mut Vec<Row>, rows: &[Row]) -> Result<(), Memory>
         out.push(row.copy()?)?;
     }
     Ok(())
-}
-
-/// Cuts rows at a row's key.
-fn cut_at<'a>(row: &Row, rows: &'a [Row]) -> Cut<'a>
-    requires { Ascends rows.now }
-    ensures below { result.below.now ≡ rows_below row.now rows.now }
-    ensures same { option_copied result.same ≡ row_at (key_of row.now) rows.now }
-    ensures above { result.above.now ≡ rows_above row.now rows.now }
-    ensures order { Ascends result.above.now }
-{
-    let mut place = 0;
-    while place < rows.len() && rows[place].key() < row.key() {
-        place += 1;
-    }
-    let (below, from) = rows.split_at(place);
-    match from.split_first() {
-        Some((first, above)) => {
-            if first.key() == row.key() {
-                Cut {
-                    below,
-                    same: Some(first),
-                    above,
-                }
-            } else {
-                Cut {
-                    below,
-                    same: None,
-                    above: from,
-                }
-            }
-        }
-        None => Cut {
-            below,
-            same: None,
-            above: from,
-        },
-    }
 }

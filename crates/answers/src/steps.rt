@@ -1,17 +1,16 @@
 //! What each node of a plan makes of the tables below it.
 
-ghost use Rattle.std.specs.Prelude.{◌≡◌, ◌⊎◌, ◌+◌, ◌<◌, [], IfOk, filter, map};
+ghost use Rattle.std.specs.Prelude.{◌≡◌, ◌⊎◌, ◌+◌, ◌<◌, ◌≤◌, [], IfOk, OnOk, filter, length, map};
 ghost use Rattle.std.specs.List.{AllByRecursion};
-ghost use Rattle.std.specs.Option.{option_copied};
 ghost use Rattle.meaning.specs.Relation.{Ascends};
-ghost use Rattle.meaning.specs.Selected.{partner};
-ghost use Rattle.catalog.specs.Keyed.{row_at};
-ghost use Rattle.plan.specs.Rows.{is_seen, met, seen_part};
+ghost use Rattle.plan.specs.Rows.{is_seen, met};
 ghost use Rattle.answers.specs.Evaluated as spec;
-ghost use Rattle.answers.specs.Evaluated.{cut, filtered, keyed, meeting, partner_pairs, partnered, picked};
+ghost use Rattle.answers.specs.Evaluated.{cut, filtered, keyed, meeting, partnered, picked};
 
-use crate::merge::key_pairs;
-use crate::pick::{columns_beside, columns_cut, columns_past, meets, pair, row_cut, value_in};
+use crate::ledger::Ledger;
+use crate::pairs::key_pairs;
+use crate::partner::partner_pairs;
+use crate::pick::{columns_beside, columns_cut, columns_past, meets, row_cut};
 use crate::table::Table;
 use plan::fetch::Fetch;
 use std::alloc::Global;
@@ -21,7 +20,6 @@ use terms::memory::Memory;
 use terms::part::Part;
 use terms::row::Row;
 use terms::seq::Seq;
-use terms::value::Value;
 
 /// What a read leaves of the parts of its leaf.
 pub(crate) fn table_read(alloc: Global, read: &Fetch, parts: &[Part]) -> Result<Table, Memory>
@@ -112,14 +110,21 @@ fn rows_cut(
 }
 
 /// The rows of both tables that have one key, put together.
-pub(crate) fn keyed(alloc: Global, one: &Table, other: &Table) -> Result<Table, Memory>
+pub(crate) fn keyed(
+    alloc: Global,
+    ledger: &mut Ledger,
+    one: &Table,
+    other: &Table,
+) -> Result<Table, Memory>
     requires one { Ascends one.now.rows }
     requires other { Ascends other.now.rows }
-    ensures { IfOk result (λ made. made ≡ keyed one.now other.now) }
+    ensures made { IfOk result (λ made. made ≡ keyed one.now other.now) }
+    ensures most { OnOk result (ledger.new.steps ≤ ledger.old.steps + (length one.now.rows + length other.now.rows)) }
 {
     let (columns, others) = (one.columns.as_slice(), other.columns.as_slice());
     let rows = key_pairs(
         alloc,
+        ledger,
         columns,
         others,
         one.rows.as_slice(),
@@ -135,6 +140,7 @@ pub(crate) fn keyed(alloc: Global, one: &Table, other: &Table) -> Result<Table, 
 /// together with it; the columns of the right one are counted on from a width.
 pub(crate) fn partnered(
     alloc: Global,
+    ledger: &mut Ledger,
     col: usize,
     width: usize,
     left: Table,
@@ -142,7 +148,8 @@ pub(crate) fn partnered(
 ) -> Result<Table, Memory>
     requires order { Ascends right.now.rows }
     requires within { (right.now.rows ≡ []) ⊎ AllByRecursion (λ col. width + col < 18446744073709551616) right.now.columns }
-    ensures { IfOk result (λ made. made ≡ partnered col width left right.now) }
+    ensures made { IfOk result (λ made. made ≡ partnered col width left right.now) }
+    ensures most { OnOk result (ledger.new.steps ≤ ledger.old.steps + (length left.rows + length right.now.rows)) }
 {
     if right.rows.as_slice().is_empty() {
         return Ok(Table {
@@ -154,6 +161,7 @@ pub(crate) fn partnered(
     let columns = columns_beside(alloc, left.columns.as_slice(), others.as_slice())?;
     let rows = partner_pairs(
         alloc,
+        ledger,
         col,
         left.columns.as_slice(),
         others.as_slice(),
@@ -164,46 +172,4 @@ pub(crate) fn partnered(
         columns: Seq::new(columns),
         rows: Seq::new(rows),
     })
-}
-
-/// The rows that have a partner among the others by the value in a column, each put together with it.
-fn partner_pairs(
-    alloc: Global,
-    col: usize,
-    columns: &[usize],
-    others_columns: &[usize],
-    rows: &[Row],
-    others: &[Row],
-) -> Result<Vec<Row>, Memory>
-    requires { Ascends others.now }
-    ensures { IfOk result (λ found. found.items ≡ partner_pairs col columns.now others_columns.now rows.now others.now) }
-{
-    let mut found = Vec::new(alloc);
-    for row in rows {
-        if let Some(other) = partner(others, value_in(columns, row, col)) {
-            found.push(pair(alloc, columns, others_columns, row, other)?)?;
-        }
-    }
-    Ok(found)
-}
-
-/// The row whose key is a value, found by binary search; none for a text.
-fn partner<'a>(rows: &'a [Row], value: Option<&Value>) -> Option<&'a Row>
-    requires { Ascends rows.now }
-    ensures { option_copied result ≡ partner rows.now (option_copied value.entry) }
-{
-    match value {
-        Some(Value::Int(key)) => with_key(rows, key),
-        _ => None,
-    }
-}
-
-fn with_key<'a>(rows: &'a [Row], key: &i64) -> Option<&'a Row>
-    requires { Ascends rows.now }
-    ensures { option_copied result ≡ row_at key.now rows.now }
-{
-    match rows.binary_search_by(|row| row.key().cmp(key)) {
-        Ok(place) => Some(&rows[place]),
-        Err(_) => None,
-    }
 }

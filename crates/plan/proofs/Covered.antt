@@ -90,10 +90,11 @@ pub covered_columns : (kinds : List Kind) (tree : Tree) (need : Need) (row : Lis
     AllByRecursion (λ col. has need.columns col ≡ true) columns → AllByRecursion (λ col. col < length kinds) columns → AllByRecursion (GivesWanted need row gives) (leaves_from relation (columns_beside_key kinds) 1 (paths tree)) →
     covered_all need gives (leaves_from relation (columns_beside_key kinds) 1 (paths tree)) columns ≡ true
 covered_columns kinds tree need row gives relation [] cover one valid fits needed within given = covered_base kinds tree need row gives relation cover valid fits given
-covered_columns kinds tree need row gives relation (col ∷ columns) cover one valid fits needed within given =
+covered_columns kinds tree need row gives relation (col ∷ []) cover one valid fits needed within given = covered_one kinds tree need row gives relation col cover one valid fits needed.0 within.0 given
+covered_columns kinds tree need row gives relation (col ∷ next ∷ columns) cover one valid fits needed within given =
     let leaves = leaves_from relation (columns_beside_key kinds) 1 (paths tree) in
-    and_true (covered need (col ∷ []) gives leaves) (covered_all need gives leaves columns) (covered_one kinds tree need row gives relation col cover one valid fits needed.0 within.0 given)
-    (covered_columns kinds tree need row gives relation columns cover one valid fits needed.1 within.1 given)
+    and_true (covered need (col ∷ []) gives leaves) (covered_all need gives leaves (next ∷ columns)) (covered_one kinds tree need row gives relation col cover one valid fits needed.0 within.0 given)
+    (covered_columns kinds tree need row gives relation (next ∷ columns) cover one valid fits needed.1 within.1 given)
 
 -- each of some columns is one of them
 itself : (col : ℕ) (rest : Bool) → ((col == col) || rest) ≡ true
@@ -118,4 +119,5 @@ none_covered need columns (leaf ∷ leaves) = none_step (reaches need columns le
 
 pub none_covered_all : (need : Need) (leaves : List FragmentLeaf) (columns : List ℕ) → covered_all need (λ leaf. false) leaves columns ≡ false
 none_covered_all need leaves [] = none_covered need [] leaves
-none_covered_all need leaves (col ∷ columns) = rw (none_covered need (col ∷ []) leaves) refl
+none_covered_all need leaves (col ∷ []) = none_covered need (col ∷ []) leaves
+none_covered_all need leaves (col ∷ next ∷ columns) = rw (none_covered need (col ∷ []) leaves) refl

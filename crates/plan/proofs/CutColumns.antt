@@ -10,6 +10,7 @@ use Rattle.std.specs.Cmp.{ranks}
 use Rattle.std.specs.Ordering.{nat_cmp, MatchOrdering}
 use Rattle.catalog.specs.Counts.{has}
 use Rattle.plan.specs.Rows.{is_seen}
+use Rattle.plan.specs.Uniform.{AreOnce}
 
 -- the key, and a column if it is another
 abbrev pub key_and : ℕ → List ℕ
@@ -93,3 +94,15 @@ cut_to_key (first ∷ columns) key sorted =
     let is : first ≡ 0 = cc in
     let P : ℕ → Type 0 = λ col. AllByRecursion (λ other. nat_cmp col other ≡ Less) columns → filter (is_seen []) (col ∷ columns) ≡ 0 ∷ [] in
     subst P (sym is) (λ less. ap (λ (rest : List ℕ). 0 ∷ rest) (no_key columns (all_above 0 columns less))) sorted.0
+
+-- ascending columns stand once each
+not_there : (first : ℕ) (columns : List ℕ) → AllByRecursion (λ col. first < col) columns → has columns first ≡ false
+not_there first [] above = refl
+not_there first (col ∷ columns) above =
+    let apart : (col == first) ≡ false = let over = above.0 in grind (arith, nat_tests) in
+    rw apart (not_there first columns above.1)
+
+pub sorted_once : (columns : List ℕ) → IsStrictlySortedBy nat_cmp columns → AreOnce columns
+unfolding IsStrictlySortedBy
+sorted_once [] sorted = tt
+sorted_once (col ∷ columns) sorted = (not_there col columns (all_above col columns sorted.0), sorted_once columns sorted.1)

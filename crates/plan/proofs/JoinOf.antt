@@ -1,5 +1,5 @@
 -- A join of relations of a catalogue, over a whole database that fits its schema.
-use Rattle.std.proofs.Common.{◌≡◌, ℕ, ℤ, ◌+◌, List, ◌∷◌, ◌++◌, length, length-append, Some, option_and_then, refl, ap, ap₂, sym, ◌∙◌, subst}
+use Rattle.std.proofs.Common.{◌≡◌, ℕ, ℤ, ◌+◌, List, ◌∷◌, ◌++◌, length, length-append, Some, option_and_then, refl, ap, sym, ◌∙◌, subst}
 use Rattle.std.proofs.lemmas.Option.{slice_get_within}
 use Rattle.terms.specs.declared.leaf.Leaf.{Leaf}
 use Rattle.terms.specs.declared.value.Kind.{Kind}
@@ -17,11 +17,11 @@ use Rattle.catalog.specs.FragmentLeaf.{schemas_of}
 use Rattle.catalog.specs.Keyed.{row_at}
 use Rattle.plan.specs.declared.fetch.Fetch.{Fetch}
 use Rattle.plan.specs.Found.{columns_joined, found_of}
-use Rattle.plan.specs.Located.{by_columns, sides}
+use Rattle.plan.specs.Located.{IsByColumns, IsOfNeeds, once}
 use Rattle.plan.specs.Need.{columns_read, need_from, need_joined, needs_of_select, places_below}
 use Rattle.plan.specs.Reduced.{GivesNeeds, is_fetched, reduced}
 use Rattle.plan.specs.Rows.{rows}
-use Rattle.plan.specs.Shape.{Filter, Lookup}
+use Rattle.plan.specs.Shape.{Shape, Filter}
 use Rattle.plan.specs.Stated.{AreFetchesFor, IsStatedFrom, IsStatedJoined, kinds_in, leaves_of}
 use Rattle.plan.proofs.InCatalogue.{kinds_are}
 use Rattle.plan.proofs.JoinFound.{IsJoined}
@@ -81,16 +81,17 @@ joined_of catalogue select join s fetches contents whole fit are given =
       marks_other = subst (λ a. There a (kinds_of s.other) here beyond) types (subst (λ b. There kinds_first b here beyond) others (subst (λ inner. There kinds_first kinds_second inner beyond) first (subst (λ outer. There kinds_first kinds_second all_first outer) second there_marks)));
     }
 
-pub join_need : (catalogue : Catalogue) (select : Select) (join : Join) (s : Sides catalogue select join) (fetches : List Fetch) (contents : Leaf → List (List Value)) (whole : Relations) (key : ℤ) → SomeServes → OneServes → FitsSchema (schemas_of catalogue) whole →
-    AreFetchesFor catalogue (needs_of_select select (Some join)) fetches → GivesNeeds catalogue whole (is_fetched fetches) contents (needs_of_select select (Some join)) →
-    rows (reduced (is_fetched fetches) (Filter select.conds (sides catalogue (length select.from.columns) (needs_of_select select (Some join))))) contents key
+pub join_need : (catalogue : Catalogue) (select : Select) (join : Join) (s : Sides catalogue select join) (fetches : List Fetch) (contents : Leaf → List (List Value)) (whole : Relations) (key : ℤ) (plan : Shape) → SomeServes → OneServes → IsOfNeeds catalogue (length select.from.columns) (needs_of_select select (Some join)) plan →
+    FitsSchema (schemas_of catalogue) whole → AreFetchesFor catalogue (needs_of_select select (Some join)) fetches → GivesNeeds catalogue whole (is_fetched fetches) contents (needs_of_select select (Some join)) →
+    rows (reduced (is_fetched fetches) (Filter select.conds plan)) contents key
     ≡ option_and_then (found_of select.conds (columns_joined select (Some join))) (row_at key (rows_read select.from (Some join) whole))
-join_need catalogue select join s fetches contents whole key cover one fit are given =
+join_need catalogue select join s fetches contents whole key plan cover one (left, right, is, is_left, is_right) fit are given =
     let need = need_from select join in
     let other = need_joined select join in
-    ap₂ (λ (first second : List FragmentLeaf).
-    rows (reduced (is_fetched fetches) (Filter select.conds (Lookup join.col (length select.from.columns) (by_columns need first need.columns) (by_columns other second other.columns)))) contents key)
-    (leaves_same catalogue select.from.name s.from s.from_is) (leaves_same catalogue join.relation.name s.other s.other_is)
+    let Left : List FragmentLeaf → Type 0 = λ leaves. IsByColumns need leaves (once need.columns) left in
+    let Right : List FragmentLeaf → Type 0 = λ leaves. IsByColumns other leaves (once other.columns) right in
+    ap (λ (p : Shape). rows (reduced (is_fetched fetches) (Filter select.conds p)) contents key) is
     ∙ join_found (kinds_of s.from) (kinds_of s.other) s.from_is.relation.tree s.other_is.relation.tree (length select.from.columns) join.col select.conds (columns_read select) need other
-    s.from_is.relation.schema.name s.other_is.relation.schema.name (is_fetched fetches) contents (rows_of whole select.from.name) (rows_of whole join.relation.name) key cover one
+    s.from_is.relation.schema.name s.other_is.relation.schema.name (is_fetched fetches) contents (rows_of whole select.from.name) (rows_of whole join.relation.name) key left right cover one
+    (subst Left (leaves_same catalogue select.from.name s.from s.from_is) is_left) (subst Right (leaves_same catalogue join.relation.name s.other s.other_is) is_right)
     (joined_of catalogue select join s fetches contents whole fit are given)

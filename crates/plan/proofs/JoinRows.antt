@@ -20,10 +20,10 @@ use Rattle.catalog.specs.Keyed.{row_at}
 use Rattle.catalog.specs.Split.{Tree}
 use Rattle.plan.specs.declared.need.Need.{Need}
 use Rattle.plan.specs.Found.{found_of}
-use Rattle.plan.specs.Located.{by_columns}
+use Rattle.plan.specs.Located.{IsByColumns, once}
 use Rattle.plan.specs.Reduced.{reduced}
 use Rattle.plan.specs.Rows.{Seen, at_value, is_seen, kept, merged, rows, seen_of, shifted}
-use Rattle.plan.specs.Shape.{Filter, Lookup}
+use Rattle.plan.specs.Shape.{Shape, Filter, Lookup}
 use Rattle.plan.proofs.AtKey.{at_mapped}
 use Rattle.plan.proofs.CarriedConds.{and_true}
 use Rattle.plan.proofs.Columns.{fits_at}
@@ -64,11 +64,11 @@ seen_col : (t : Bool) (value : Option Value) (n : ℤ) → t ≡ true → value 
 seen_col true value n is there = there
 seen_col false value n is there = absurd (cc)
 
-pub join_found : (types others : List Kind) (tree tree_other : Tree) (width col : ℕ) (conds : List Cond) (read : List ℕ) (need other_need : Need) (relation relation_other : List ℕ) (marked : Leaf → Bool) (contents : Leaf → List (List Value)) (all all_others : List (List Value)) (key : ℤ) →
-    SomeServes → OneServes → IsJoined types others tree tree_other width col conds read need other_need relation relation_other marked contents all all_others →
-    rows (reduced marked (Filter conds (Lookup col width (by_columns need (side_leaves types tree relation) need.columns) (by_columns other_need (side_leaves others tree_other relation_other) other_need.columns)))) contents key
+pub join_found : (types others : List Kind) (tree tree_other : Tree) (width col : ℕ) (conds : List Cond) (read : List ℕ) (need other_need : Need) (relation relation_other : List ℕ) (marked : Leaf → Bool) (contents : Leaf → List (List Value)) (all all_others : List (List Value)) (key : ℤ) (plan plan_other : Shape) →
+    SomeServes → OneServes → IsByColumns need (side_leaves types tree relation) (once need.columns) plan → IsByColumns other_need (side_leaves others tree_other relation_other) (once other_need.columns) plan_other →
+    IsJoined types others tree tree_other width col conds read need other_need relation relation_other marked contents all all_others → rows (reduced marked (Filter conds (Lookup col width plan plan_other))) contents key
     ≡ option_and_then (found_of conds (col ∷ width ∷ read)) (row_at key (joined col all_others all))
-join_found types others tree tree_other width col conds read need other_need relation relation_other marked contents all all_others key cover one s =
+join_found types others tree tree_other width col conds read need other_need relation relation_other marked contents all all_others key plan plan_other cover one is_plan is_plan_other s =
     at_row (row_at key all) refl ∙ ap (option_and_then (found_of conds (col ∷ width ∷ read))) (sym (at_mapped (paired col all_others) key all (pair_keeps col all_others) s.from.whole.ascends))
   where
     leaves : List FragmentLeaf
@@ -78,24 +78,24 @@ join_found types others tree tree_other width col conds read need other_need rel
     leaves_other = side_leaves others tree_other relation_other
 
     right : ℤ → Option Seen
-    right k = rows (reduced marked (by_columns other_need leaves_other other_need.columns)) contents k
+    right k = rows (reduced marked plan_other) contents k
 
     looked : Option Seen → Option Seen
     looked left = option_and_then (λ seen. option_map (λ found. merged seen (shifted width found)) (at_value right (seen col))) left
 
     at_pair : (row : List Value) (n : ℤ) (other : List Value) → row_at key all ≡ Some row → slice_get row col ≡ Some (Int n) → row_at n all_others ≡ Some other →
-        kept conds (looked (one_seen (covered_all need (gives_row marked need row) leaves need.columns) need.columns row)) ≡ found_of conds (col ∷ width ∷ read) (row ++ other)
+        kept conds (looked (one_seen (covered_all need (gives_row marked need row) leaves (once need.columns)) need.columns row)) ≡ found_of conds (col ∷ width ∷ read) (row ++ other)
     at_pair row n other is there found =
         let fits = all_at (FitsKinds types) key all row s.from.whole.fit is in
         let fits_other = all_at (FitsKinds others) n all_others other s.there.whole.fit found in
-        let a = covered_all need (gives_row marked need row) leaves need.columns in
-        let b = covered_all other_need (gives_row marked other_need other) leaves_other other_need.columns in
+        let a = covered_all need (gives_row marked need row) leaves (once need.columns) in
+        let b = covered_all other_need (gives_row marked other_need other) leaves_other (once other_need.columns) in
         let long : length row ≡ width = fits_long types row fits ∙ s.wide in
         let col_seen = seen_col (is_seen need.columns col) (slice_get row col) n (ap (λ columns. is_seen columns col) s.columns ∙ own_seen col _) there in
         let pair : merged (seen_of need.columns row) (shifted width (seen_of other_need.columns other)) ≡ seen_of (col ∷ width ∷ read) (row ++ other) =
         ap₂ (λ (c d : List ℕ). merged (seen_of c row) (shifted width (seen_of d other))) s.columns s.columns_other ∙ pair_seen col width read row other long s.join.within in
         let key_is = key_there others n all_others other s.join.key s.there.whole.fit found in
-        ap (kept conds) (lookup_one a b width col (seen_of need.columns row) (seen_of other_need.columns other) right n col_seen (side_row others tree_other other_need relation_other marked contents all_others n other s.there found)
+        ap (kept conds) (lookup_one a b width col (seen_of need.columns row) (seen_of other_need.columns other) right n col_seen (side_row others tree_other other_need relation_other marked contents all_others n other plan_other is_plan_other s.there found)
         ∙ ap (λ (seen : Seen). cond (a && b) (Some seen) None) pair)
         ∙ kept_one conds (seen_of (col ∷ width ∷ read) (row ++ other)) (a && b) (conds_hold conds (row ++ other)) (seen_conds (col ∷ width ∷ read) conds (row ++ other) s.seen)
         (λ holds.
@@ -109,19 +109,19 @@ join_found types others tree tree_other width col conds read need other_need rel
         (stated_joined types others width col conds need other_need marked relation tree leaves_other cover s.from.valid s.join (record { row = row; fits = fits; holds = asked.0 }) s.marks_other))))
 
     at_key : (row : List Value) (n : ℤ) (found : Option (List Value)) → row_at key all ≡ Some row → slice_get row col ≡ Some (Int n) → row_at n all_others ≡ found →
-        kept conds (looked (one_seen (covered_all need (gives_row marked need row) leaves need.columns) need.columns row)) ≡ option_and_then (found_of conds (col ∷ width ∷ read)) (option_map (λ other. row ++ other) found)
+        kept conds (looked (one_seen (covered_all need (gives_row marked need row) leaves (once need.columns)) need.columns row)) ≡ option_and_then (found_of conds (col ∷ width ∷ read)) (option_map (λ other. row ++ other) found)
     at_key row n None is there found =
-        let a = covered_all need (gives_row marked need row) leaves need.columns in
+        let a = covered_all need (gives_row marked need row) leaves (once need.columns) in
         let col_seen = seen_col (is_seen need.columns col) (slice_get row col) n (ap (λ columns. is_seen columns col) s.columns ∙ own_seen col _) there in
-        ap (kept conds) (lookup_none a width col (seen_of need.columns row) right n col_seen (side_none others tree_other other_need relation_other marked contents all_others n s.there found))
+        ap (kept conds) (lookup_none a width col (seen_of need.columns row) right n col_seen (side_none others tree_other other_need relation_other marked contents all_others n plan_other is_plan_other s.there found))
     at_key row n (Some other) is there found = at_pair row n other is there found
 
     at_row : (found : Option (List Value)) → row_at key all ≡ found →
-        kept conds (looked (rows (reduced marked (by_columns need leaves need.columns)) contents key)) ≡ option_and_then (found_of conds (col ∷ width ∷ read)) (option_and_then (paired col all_others) found)
-    at_row None is = ap (λ left. kept conds (looked left)) (side_none types tree need relation marked contents all key s.from is)
+        kept conds (looked (rows (reduced marked plan) contents key)) ≡ option_and_then (found_of conds (col ∷ width ∷ read)) (option_and_then (paired col all_others) found)
+    at_row None is = ap (λ left. kept conds (looked left)) (side_none types tree need relation marked contents all key plan is_plan s.from is)
     at_row (Some row) is =
         let fits = all_at (FitsKinds types) key all row s.from.whole.fit is in
         let value = integer row col (fits_at types row col kinds.Int fits s.join.column) in
-        ap (λ left. kept conds (looked left)) (side_row types tree need relation marked contents all key row s.from is)
+        ap (λ left. kept conds (looked left)) (side_row types tree need relation marked contents all key row plan is_plan s.from is)
         ∙ at_key row value.0 (row_at value.0 all_others) is value.1 refl
         ∙ ap (λ (o : Option Value). option_and_then (found_of conds (col ∷ width ∷ read)) (option_map (λ other. row ++ other) (partner all_others o))) (sym value.1)

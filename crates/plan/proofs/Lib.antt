@@ -11,6 +11,7 @@ pub mod PartsSeen
 pub mod AtKey
 pub mod LeafReads
 pub mod Covered
+pub mod Once
 pub mod OneSide
 pub mod OneFound
 pub mod JoinSeen
@@ -26,6 +27,7 @@ pub mod Fetched
 pub mod Among
 pub mod CutColumns
 pub mod UniformPlan
+pub mod Planned
 pub mod TestRows
 pub mod PutOn
 pub mod PickedStated

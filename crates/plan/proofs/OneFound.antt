@@ -15,11 +15,11 @@ use Rattle.catalog.specs.Keyed.{row_at}
 use Rattle.catalog.specs.Split.{Tree}
 use Rattle.plan.specs.declared.need.Need.{Need}
 use Rattle.plan.specs.Found.{found_of}
-use Rattle.plan.specs.Located.{by_columns}
+use Rattle.plan.specs.Located.{IsByColumns, once}
 use Rattle.plan.specs.Need.{columns_of, places_to}
 use Rattle.plan.specs.Reduced.{reduced}
 use Rattle.plan.specs.Rows.{kept, rows, seen_of}
-use Rattle.plan.specs.Shape.{Filter}
+use Rattle.plan.specs.Shape.{Shape, Filter}
 use Rattle.plan.specs.Stated.{IsStated}
 use Rattle.plan.proofs.Covered.{or_second}
 use Rattle.plan.proofs.LeafReads.{gives_row}
@@ -39,17 +39,17 @@ marked_for kinds need marked row (leaf ∷ leaves) fits asked marks = (
   marked_for kinds need marked row leaves fits asked marks.1,
 )
 
-pub one_found : (kinds : List Kind) (tree : Tree) (need : Need) (relation : List ℕ) (marked : Leaf → Bool) (contents : Leaf → List (List Value)) (all : List (List Value)) (key : ℤ) → SomeServes → OneServes →
-    IsSide kinds tree need relation marked contents all → AreSeen need.columns need.conds → AreMarked (IsStated kinds need) marked (side_leaves kinds tree relation) →
-    rows (reduced marked (Filter need.conds (by_columns need (side_leaves kinds tree relation) need.columns))) contents key ≡ option_and_then (found_of need.conds need.columns) (row_at key all)
-one_found kinds tree need relation marked contents all key cover one s seen marks = at (row_at key all) refl
+pub one_found : (kinds : List Kind) (tree : Tree) (need : Need) (relation : List ℕ) (marked : Leaf → Bool) (contents : Leaf → List (List Value)) (all : List (List Value)) (key : ℤ) (plan : Shape) → SomeServes → OneServes →
+    IsByColumns need (side_leaves kinds tree relation) (once need.columns) plan → IsSide kinds tree need relation marked contents all → AreSeen need.columns need.conds → AreMarked (IsStated kinds need) marked (side_leaves kinds tree relation) →
+    rows (reduced marked (Filter need.conds plan)) contents key ≡ option_and_then (found_of need.conds need.columns) (row_at key all)
+one_found kinds tree need relation marked contents all key plan cover one is_plan s seen marks = at (row_at key all) refl
   where
-    at : (found : Option (List Value)) → row_at key all ≡ found → rows (reduced marked (Filter need.conds (by_columns need (side_leaves kinds tree relation) need.columns))) contents key ≡ option_and_then (found_of need.conds need.columns) found
-    at None is = ap (kept need.conds) (side_none kinds tree need relation marked contents all key s is)
+    at : (found : Option (List Value)) → row_at key all ≡ found → rows (reduced marked (Filter need.conds plan)) contents key ≡ option_and_then (found_of need.conds need.columns) found
+    at None is = ap (kept need.conds) (side_none kinds tree need relation marked contents all key plan is_plan s is)
     at (Some row) is =
         let leaves = side_leaves kinds tree relation in
-        let there = covered_all need (gives_row marked need row) leaves need.columns in
-        ap (kept need.conds) (side_row kinds tree need relation marked contents all key row s is)
+        let there = covered_all need (gives_row marked need row) leaves (once need.columns) in
+        ap (kept need.conds) (side_row kinds tree need relation marked contents all key row plan is_plan s is)
         ∙ kept_one need.conds (seen_of need.columns row) there (conds_hold need.conds row) (seen_conds need.columns need.conds row seen)
         (λ asked. side_there kinds tree need relation marked contents all key row cover one s is asked
         (marked_for kinds need marked row leaves (all_at (FitsKinds kinds) key all row s.whole.fit is) asked marks))

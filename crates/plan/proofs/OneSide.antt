@@ -10,6 +10,7 @@ use Rattle.terms.specs.Cond.{cond_holds, conds_hold, holds_of}
 use Rattle.terms.specs.Row.{FitsKinds, key_of}
 use Rattle.meaning.specs.Relation.{IsRelation}
 use Rattle.catalog.specs.declared.fragment_leaf.FragmentLeaf.{FragmentLeaf}
+use Rattle.catalog.specs.Counts.{has}
 use Rattle.catalog.specs.Cover.{OneServes, SomeServes}
 use Rattle.catalog.specs.FragmentLeaf.{leaves_from}
 use Rattle.catalog.specs.Keyed.{row_at}
@@ -19,12 +20,14 @@ use Rattle.catalog.specs.Valid.{IsValid}
 use Rattle.meaning.specs.Listed.{listed}
 use Rattle.plan.specs.declared.need.Need.{Need}
 use Rattle.plan.specs.Fetch.{placed}
-use Rattle.plan.specs.Located.{by_columns}
+use Rattle.plan.specs.Located.{IsByColumns, once}
 use Rattle.plan.specs.Reduced.{reduced}
 use Rattle.plan.specs.Rows.{Seen, is_seen, kept, rows, seen_meets, seen_of}
+use Rattle.plan.specs.Shape.{Shape}
 use Rattle.plan.proofs.CarriedConds.{and_true}
 use Rattle.plan.proofs.Covered.{GivesWanted, covered_columns, each_is_one, none_covered_all}
 use Rattle.plan.proofs.LeafReads.{GivesLeaf, gives_row, leaves_read, no_leaves_read}
+use Rattle.plan.proofs.Once.{all_once, once_seen}
 use Rattle.plan.proofs.PartsSeen.{IsThere, all_there, placed_holds}
 use Rattle.plan.proofs.RowsOf.{columns_row, covered_all, one_seen}
 
@@ -55,22 +58,23 @@ leaves_there kinds row [] fits each = tt
 leaves_there kinds row (leaf ∷ leaves) fits each = (all_there kinds row leaf.columns fits each.0, leaves_there kinds row leaves fits each.1)
 
 -- with a row at the key
-pub side_row : (kinds : List Kind) (tree : Tree) (need : Need) (relation : List ℕ) (marked : Leaf → Bool) (contents : Leaf → List (List Value)) (all : List (List Value)) (key : ℤ) (row : List Value) →
-    IsSide kinds tree need relation marked contents all → row_at key all ≡ Some row →
-    rows (reduced marked (by_columns need (side_leaves kinds tree relation) need.columns)) contents key ≡ one_seen (covered_all need (gives_row marked need row) (side_leaves kinds tree relation) need.columns) need.columns row
-side_row kinds tree need relation marked contents all key row s at =
+pub side_row : (kinds : List Kind) (tree : Tree) (need : Need) (relation : List ℕ) (marked : Leaf → Bool) (contents : Leaf → List (List Value)) (all : List (List Value)) (key : ℤ) (row : List Value) (plan : Shape) →
+    IsByColumns need (side_leaves kinds tree relation) (once need.columns) plan → IsSide kinds tree need relation marked contents all → row_at key all ≡ Some row →
+    rows (reduced marked plan) contents key ≡ one_seen (covered_all need (gives_row marked need row) (side_leaves kinds tree relation) (once need.columns)) need.columns row
+side_row kinds tree need relation marked contents all key row plan is s at =
     let fits = all_at (FitsKinds kinds) key all row s.whole.fit at in
     let leaves = side_leaves kinds tree relation in
-    columns_row marked contents key need row (gives_row marked need row) leaves need.columns
+    columns_row marked contents key need row (gives_row marked need row) leaves (once need.columns) plan is
     (leaves_read marked contents key need all row relation (columns_beside_key kinds) 1 (paths tree) s.whole.ascends at (leaves_there kinds row leaves fits s.columns) s.given)
+    ∙ ap (λ (seen : Seen). let o : Option Seen = cond (covered_all need (gives_row marked need row) leaves (once need.columns)) (Some seen) None in o) (once_seen need.columns row)
 
 -- and with none
-pub side_none : (kinds : List Kind) (tree : Tree) (need : Need) (relation : List ℕ) (marked : Leaf → Bool) (contents : Leaf → List (List Value)) (all : List (List Value)) (key : ℤ) →
-    IsSide kinds tree need relation marked contents all → row_at key all ≡ None → rows (reduced marked (by_columns need (side_leaves kinds tree relation) need.columns)) contents key ≡ None
-side_none kinds tree need relation marked contents all key s at =
+pub side_none : (kinds : List Kind) (tree : Tree) (need : Need) (relation : List ℕ) (marked : Leaf → Bool) (contents : Leaf → List (List Value)) (all : List (List Value)) (key : ℤ) (plan : Shape) →
+    IsByColumns need (side_leaves kinds tree relation) (once need.columns) plan → IsSide kinds tree need relation marked contents all → row_at key all ≡ None → rows (reduced marked plan) contents key ≡ None
+side_none kinds tree need relation marked contents all key plan is s at =
     let leaves = side_leaves kinds tree relation in
-    columns_row marked contents key need [] (λ leaf. false) leaves need.columns (no_leaves_read marked contents key need all relation (columns_beside_key kinds) 1 (paths tree) s.whole.ascends at s.given)
-    ∙ ap (λ (t : Bool). one_seen t need.columns []) (none_covered_all need leaves need.columns)
+    columns_row marked contents key need [] (λ leaf. false) leaves (once need.columns) plan is (no_leaves_read marked contents key need all relation (columns_beside_key kinds) 1 (paths tree) s.whole.ascends at s.given)
+    ∙ ap (λ (t : Bool). one_seen t (once need.columns) []) (none_covered_all need leaves (once need.columns))
 
 -- a wanted leaf whose conditions hold of the row is fetched
 abbrev pub IsMarkedFor : (Leaf → Bool) → Need → List Value → FragmentLeaf → Type 0
@@ -90,10 +94,11 @@ given_wanted kinds need marked row (leaf ∷ leaves) fits asked columns marks = 
 -- where the need's conditions hold of the row, it is there
 pub side_there : (kinds : List Kind) (tree : Tree) (need : Need) (relation : List ℕ) (marked : Leaf → Bool) (contents : Leaf → List (List Value)) (all : List (List Value)) (key : ℤ) (row : List Value) → SomeServes → OneServes →
     IsSide kinds tree need relation marked contents all → row_at key all ≡ Some row → conds_hold need.conds row ≡ true → AllByRecursion (IsMarkedFor marked need row) (side_leaves kinds tree relation) →
-    covered_all need (gives_row marked need row) (side_leaves kinds tree relation) need.columns ≡ true
+    covered_all need (gives_row marked need row) (side_leaves kinds tree relation) (once need.columns) ≡ true
 side_there kinds tree need relation marked contents all key row cover one s at asked marks =
     let fits = all_at (FitsKinds kinds) key all row s.whole.fit at in
-    covered_columns kinds tree need row (gives_row marked need row) relation need.columns cover one s.valid fits (each_is_one need.columns) s.needed
+    covered_columns kinds tree need row (gives_row marked need row) relation (once need.columns) cover one s.valid fits (all_once (λ col. has need.columns col ≡ true) need.columns (each_is_one need.columns))
+    (all_once (λ col. col < length kinds) need.columns s.needed)
     (given_wanted kinds need marked row (side_leaves kinds tree relation) fits asked s.columns marks)
 
 -- conditions on columns that are seen ask the same of what is seen

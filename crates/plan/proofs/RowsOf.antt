@@ -1,5 +1,5 @@
 -- What plans over leaves have at one key: a need's plan has the row of which all that serve it is fetched.
-use Rattle.std.proofs.Common.{◌≡◌, ℕ, ℤ, Bool, true, false, cond, ◌&&◌, ◌||◌, ◌==◌, List, [], ◌∷◌, Option, Some, None, option_map, option_and_then, refl, ap, ap₂, sym, ◌∙◌, arith}
+use Rattle.std.proofs.Common.{◌≡◌, ℕ, ℤ, Bool, true, false, cond, ◌&&◌, ◌||◌, ◌==◌, List, [], ◌∷◌, ◌++◌, filter, map, Option, Some, None, option_map, option_and_then, refl, ap, ap₂, sym, ◌∙◌, arith}
 use Rattle.std.specs.List.{AllByRecursion, list_all, list_any, slice_get}
 use Rattle.std.specs.Option.{option_or}
 use Rattle.std.proofs.Math.Path.{fun_ext}
@@ -11,9 +11,9 @@ use Rattle.catalog.specs.Counts.{has}
 use Rattle.catalog.specs.Path.{wanted}
 use Rattle.plan.specs.declared.need.Need.{Need}
 use Rattle.plan.specs.Fetch.{fetch_of}
-use Rattle.plan.specs.Located.{cover, by_columns, reaches}
+use Rattle.plan.specs.Located.{IsByColumns, covers, reaches, united}
 use Rattle.plan.specs.Rows.{Seen, seen_of, is_seen, restricted, merged, rows}
-use Rattle.plan.specs.Shape.{Fetch, Project, Union}
+use Rattle.plan.specs.Shape.{Shape, Empty, Fetch, Filter, Project, Union, KeyJoin, Lookup}
 use Rattle.plan.specs.Reduced.{reduced}
 use Rattle.plan.proofs.CarriedConds.{both}
 
@@ -88,15 +88,46 @@ all_has (first ∷ columns) all h col there =
     let each = both (has all first) (list_all (has all) columns) h in
     has_step all first col (first == col) (has columns col) refl each.0 (all_has columns all each.1 col) there
 
--- the reduced union of the leaves that reach columns has the row where one of them gives it
-pub cover_row : (marked : Leaf → Bool) (contents : Leaf → List (List Value)) (key : ℤ) (need : Need) (row : List Value) (gives : FragmentLeaf → Bool) (columns : List ℕ) (leaves : List FragmentLeaf) →
-    AllByRecursion (Reads marked contents key need row gives) leaves → rows (reduced marked (cover need columns leaves)) contents key ≡ one_seen (covered need columns gives leaves) columns row
-cover_row marked contents key need row gives columns [] all = refl
-cover_row marked contents key need row gives columns (leaf ∷ leaves) all =
-    let rest = cover_row marked contents key need row gives columns leaves all.1 in
-    let others = cover need columns leaves in
+-- what united plans have at a key: the row of the first that has one
+abbrev united_rows : (Leaf → Bool) → (Leaf → List (List Value)) → ℤ → List Shape → Option Seen
+united_rows marked contents key [] = None
+united_rows marked contents key (plan ∷ plans) = option_or (rows (reduced marked plan) contents key) (united_rows marked contents key plans)
+
+or_none : {A : Type 0} (o : Option A) → o ≡ option_or o None
+or_none None = refl
+or_none (Some a) = refl
+
+or_either : {A : Type 0} (one other more : Option A) → option_or one (option_or other more) ≡ option_or (option_or one other) more
+or_either None other more = refl
+or_either (Some a) other more = refl
+
+united_behind : (marked : Leaf → Bool) (contents : Leaf → List (List Value)) (key : ℤ) (plans others : List Shape) →
+    united_rows marked contents key (plans ++ others) ≡ option_or (united_rows marked contents key plans) (united_rows marked contents key others)
+united_behind marked contents key [] others = refl
+united_behind marked contents key (plan ∷ plans) others =
+    let first = rows (reduced marked plan) contents key in
+    ap (option_or first) (united_behind marked contents key plans others) ∙ or_either first (united_rows marked contents key plans) (united_rows marked contents key others)
+
+-- a union has it too, whatever its tree
+rows_united : (marked : Leaf → Bool) (contents : Leaf → List (List Value)) (key : ℤ) (plan : Shape) → rows (reduced marked plan) contents key ≡ united_rows marked contents key (united plan)
+rows_united marked contents key Empty = refl
+rows_united marked contents key (Fetch read) = or_none (rows (reduced marked (Fetch read)) contents key)
+rows_united marked contents key (Filter conds below) = or_none (rows (reduced marked (Filter conds below)) contents key)
+rows_united marked contents key (Project columns below) = or_none (rows (reduced marked (Project columns below)) contents key)
+rows_united marked contents key (Union one other) =
+    ap₂ (λ (o p : Option Seen). option_or o p) (rows_united marked contents key one) (rows_united marked contents key other) ∙ sym (united_behind marked contents key (united one) (united other))
+rows_united marked contents key (KeyJoin one other) = or_none (rows (reduced marked (KeyJoin one other)) contents key)
+rows_united marked contents key (Lookup col width left right) = or_none (rows (reduced marked (Lookup col width left right)) contents key)
+
+-- the reads of the leaves that reach columns have the row where one of them gives it
+covers_row : (marked : Leaf → Bool) (contents : Leaf → List (List Value)) (key : ℤ) (need : Need) (row : List Value) (gives : FragmentLeaf → Bool) (columns : List ℕ) (leaves : List FragmentLeaf) →
+    AllByRecursion (Reads marked contents key need row gives) leaves → united_rows marked contents key (covers need columns leaves) ≡ one_seen (covered need columns gives leaves) columns row
+covers_row marked contents key need row gives columns [] all = refl
+covers_row marked contents key need row gives columns (leaf ∷ leaves) all =
+    let rest = covers_row marked contents key need row gives columns leaves all.1 in
+    let cut : FragmentLeaf → Shape = λ one. Project columns (Fetch (fetch_of need one)) in
     elim (reaches need columns leaf) as (λ t. reaches need columns leaf ≡ t →
-    rows (reduced marked (cond t (Union (Project columns (Fetch (fetch_of need leaf))) others) others)) contents key ≡ one_seen ((t && gives leaf) || covered need columns gives leaves) columns row) [
+    united_rows marked contents key (map cut (cond t (leaf ∷ filter (reaches need columns) leaves) (filter (reaches need columns) leaves))) ≡ one_seen ((t && gives leaf) || covered need columns gives leaves) columns row) [
       | true ↦ λ is.
           let within = (both (wanted need.columns leaf.steps) (list_all (has leaf.columns) columns) is).1 in
           ap₂ option_or (ap (option_map (restricted columns)) all.0 ∙ restricted_one (gives leaf) columns leaf.columns row (all_has columns leaf.columns within)) rest
@@ -104,16 +135,23 @@ cover_row marked contents key need row gives columns (leaf ∷ leaves) all =
       | false ↦ λ is. rest
     ] refl
 
+-- and so has each union of them
+cover_row : (marked : Leaf → Bool) (contents : Leaf → List (List Value)) (key : ℤ) (need : Need) (row : List Value) (gives : FragmentLeaf → Bool) (columns : List ℕ) (leaves : List FragmentLeaf) (plan : Shape) → united plan ≡ covers need columns leaves →
+    AllByRecursion (Reads marked contents key need row gives) leaves → rows (reduced marked plan) contents key ≡ one_seen (covered need columns gives leaves) columns row
+cover_row marked contents key need row gives columns leaves plan is all = rows_united marked contents key plan ∙ ap (united_rows marked contents key) is ∙ covers_row marked contents key need row gives columns leaves all
+
 -- and of all columns, put together by the key
 abbrev pub covered_all : Need → (FragmentLeaf → Bool) → List FragmentLeaf → List ℕ → Bool
 covered_all need gives leaves [] = covered need [] gives leaves
-covered_all need gives leaves (col ∷ columns) = covered need (col ∷ []) gives leaves && covered_all need gives leaves columns
+covered_all need gives leaves (col ∷ []) = covered need (col ∷ []) gives leaves
+covered_all need gives leaves (col ∷ next ∷ columns) = covered need (col ∷ []) gives leaves && covered_all need gives leaves (next ∷ columns)
 
-pub columns_row : (marked : Leaf → Bool) (contents : Leaf → List (List Value)) (key : ℤ) (need : Need) (row : List Value) (gives : FragmentLeaf → Bool) (leaves : List FragmentLeaf) (columns : List ℕ) →
-    AllByRecursion (Reads marked contents key need row gives) leaves → rows (reduced marked (by_columns need leaves columns)) contents key ≡ one_seen (covered_all need gives leaves columns) columns row
-columns_row marked contents key need row gives leaves [] all = cover_row marked contents key need row gives [] leaves all
-columns_row marked contents key need row gives leaves (col ∷ columns) all =
-    let here = cover_row marked contents key need row gives (col ∷ []) leaves all in
-    let rest = columns_row marked contents key need row gives leaves columns all in
-    ap₂ (λ (one other : Option Seen). option_and_then (λ seen. option_map (merged seen) other) one) here rest
-    ∙ joined_one (covered need (col ∷ []) gives leaves) (covered_all need gives leaves columns) col columns row
+pub columns_row : (marked : Leaf → Bool) (contents : Leaf → List (List Value)) (key : ℤ) (need : Need) (row : List Value) (gives : FragmentLeaf → Bool) (leaves : List FragmentLeaf) (columns : List ℕ) (plan : Shape) → IsByColumns need leaves columns plan →
+    AllByRecursion (Reads marked contents key need row gives) leaves → rows (reduced marked plan) contents key ≡ one_seen (covered_all need gives leaves columns) columns row
+columns_row marked contents key need row gives leaves [] plan is all = cover_row marked contents key need row gives [] leaves plan is all
+columns_row marked contents key need row gives leaves (col ∷ []) plan is all = cover_row marked contents key need row gives (col ∷ []) leaves plan is all
+columns_row marked contents key need row gives leaves (col ∷ next ∷ columns) plan (one, other, is, here, beyond) all =
+    ap (λ (p : Shape). rows (reduced marked p) contents key) is
+    ∙ ap₂ (λ (first second : Option Seen). option_and_then (λ seen. option_map (merged seen) second) first) (cover_row marked contents key need row gives (col ∷ []) leaves one here all)
+    (columns_row marked contents key need row gives leaves (next ∷ columns) other beyond all)
+    ∙ joined_one (covered need (col ∷ []) gives leaves) (covered_all need gives leaves (next ∷ columns)) col (next ∷ columns) row

@@ -1,6 +1,7 @@
--- The reduced plan of a statement is uniform, and reads its fetches alone.
-use Rattle.std.proofs.Common.{◌≡◌, ◌≤◌, ◌<◌, ℕ, ◌+◌, Bool, true, false, not, cond, List, [], ◌∷◌, ◌++◌, filter, length, Option, Some, None, refl, ap, sym, ◌∙◌, arith}
+-- A plan of a statement without the reads of other leaves is uniform, and reads the fetches alone.
+use Rattle.std.proofs.Common.{◌≡◌, ◌≤◌, ◌<◌, ℕ, ◌+◌, Bool, true, false, not, cond, List, [], ◌∷◌, ◌++◌, filter, length, map, Option, Some, None, refl, ap, sym, ◌∙◌, subst, arith}
 use Rattle.std.specs.List.{AllByRecursion, Contains, list_all, slice_get}
+use Rattle.std.specs.Option.{option_or}
 use Rattle.std.proofs.lemmas.List.{length-map}
 use Rattle.terms.specs.declared.leaf.Leaf.{Leaf}
 use Rattle.terms.specs.declared.value.Kind.{Kind}
@@ -19,65 +20,107 @@ use Rattle.plan.specs.declared.need.Need.{Need}
 use Rattle.plan.specs.declared.need.Needs.{Needs}
 use Rattle.plan.specs.declared.need.Needs.TheVariants.{One, Joined}
 use Rattle.plan.specs.Fetch.{fetch_of}
-use Rattle.plan.specs.Located.{by_columns, cover, located, reaches, sides, width_of}
+use Rattle.plan.specs.Located.{IsByColumns, IsLocated, IsOfNeeds, covers, once, reaches, united, width_of}
 use Rattle.plan.specs.Need.{needs}
 use Rattle.plan.specs.Reduced.{is_fetched, reduced}
 use Rattle.plan.specs.Rows.{is_seen}
-use Rattle.plan.specs.Shape.{Shape, Empty, Fetch, Project, Union}
+use Rattle.plan.specs.Shape.{Shape, Empty, Fetch, Filter, Project, Union, KeyJoin, Lookup}
 use Rattle.plan.specs.Stated.{kinds_in, leaves_of}
-use Rattle.plan.specs.Uniform.{Agree, EachRead, IsUniform, StayWithin, both_columns, columns_had}
+use Rattle.plan.specs.Uniform.{Agree, AreOnce, EachRead, IsUniform, StayWithin, both_columns, columns_had}
 use Rattle.plan.proofs.Among.{AreAmong}
 use Rattle.plan.proofs.CarriedConds.{both}
-use Rattle.plan.proofs.CutColumns.{cut_to_key, cut_to_one, key_and}
+use Rattle.plan.proofs.CutColumns.{cut_to_key, cut_to_one, key_and, sorted_once}
 use Rattle.plan.proofs.Fetched.{IsAmong}
 use Rattle.plan.proofs.InCatalogue.{is_in, leaves_over}
+
+-- the plans of a list that is put together, apart
+apart : (P : Shape → Type 0) (plans others : List Shape) → AllByRecursion P (plans ++ others) → AllByRecursion P plans × AllByRecursion P others
+apart P [] others all = (tt, all)
+apart P (plan ∷ plans) others all = let rest = apart P plans others all.1 in ((all.0, rest.0), rest.1)
 
 -- the columns of a plan, if it can have a row, are these
 abbrev AreOwn : List ℕ → Option (List ℕ) → Type 0
 AreOwn own None = Unit {0}
 AreOwn own (Some columns) = columns ≡ own
 
+agree : (own : List ℕ) (one other : Option (List ℕ)) → AreOwn own one → AreOwn own other → Agree one other
+agree own None other is are = tt
+agree own (Some columns) None is are = tt
+agree own (Some columns) (Some others) is are = is ∙ sym are
+
+own_either : (own : List ℕ) (one other : Option (List ℕ)) → AreOwn own one → AreOwn own other → AreOwn own (option_or one other)
+own_either own None other is are = are
+own_either own (Some columns) other is are = is
+
 -- a leaf that has some columns has these when it is cut to them
 record IsCut (columns own : List ℕ) (leaf : FragmentLeaf) : Type 0 where
   key : slice_get leaf.columns 0 ≡ Some 0
+  alone : AreOnce leaf.columns
   left : list_all (has leaf.columns) columns ≡ true → filter (is_seen columns) leaf.columns ≡ own
 
 cuts_to_one : (sites : List (List ℕ)) (types : List Kind) (col : ℕ) (leaves : List FragmentLeaf) → AllByRecursion (IsLeafOver sites types) leaves → AllByRecursion (IsCut (col ∷ []) (key_and col)) leaves
 cuts_to_one sites types col [] over = tt
-cuts_to_one sites types col (leaf ∷ leaves) over =
-    (record { key = over.0.first; left = λ h. cut_to_one col leaf.columns over.0.first over.0.ascending (both (has leaf.columns col) true h).0 }, cuts_to_one sites types col leaves over.1)
+cuts_to_one sites types col (leaf ∷ leaves) over = (
+  record {
+    key = over.0.first;
+    alone = sorted_once leaf.columns over.0.ascending;
+    left = λ h. cut_to_one col leaf.columns over.0.first over.0.ascending (both (has leaf.columns col) true h).0;
+  },
+  cuts_to_one sites types col leaves over.1,
+)
 
 cuts_to_key : (sites : List (List ℕ)) (types : List Kind) (leaves : List FragmentLeaf) → AllByRecursion (IsLeafOver sites types) leaves → AllByRecursion (IsCut [] (0 ∷ [])) leaves
 cuts_to_key sites types [] over = tt
-cuts_to_key sites types (leaf ∷ leaves) over = (record { key = over.0.first; left = λ h. cut_to_key leaf.columns over.0.first over.0.ascending }, cuts_to_key sites types leaves over.1)
+cuts_to_key sites types (leaf ∷ leaves) over =
+    (record { key = over.0.first; alone = sorted_once leaf.columns over.0.ascending; left = λ h. cut_to_key leaf.columns over.0.first over.0.ascending }, cuts_to_key sites types leaves over.1)
 
-agree : (cut own : List ℕ) (others : Option (List ℕ)) → cut ≡ own → AreOwn own others → Agree (Some cut) others
-agree cut own None is are = tt
-agree cut own (Some others) is are = is ∙ sym are
+-- a plan without the other reads is uniform, with these columns
+abbrev IsUniformOn : (Leaf → Bool) → List ℕ → Shape → Type 0
+IsUniformOn passes own plan = IsUniform (reduced passes plan) × AreOwn own (columns_had (reduced passes plan))
 
-cover_uniform : (passes : Leaf → Bool) (need : Need) (columns own : List ℕ) (leaves : List FragmentLeaf) → AllByRecursion (IsCut columns own) leaves →
-    IsUniform (reduced passes (cover need columns leaves)) × AreOwn own (columns_had (reduced passes (cover need columns leaves)))
-cover_uniform passes need columns own [] cuts = (tt, tt)
-cover_uniform passes need columns own (leaf ∷ leaves) cuts = at (reaches need columns leaf) refl (cover_uniform passes need columns own leaves cuts.1)
+covers_uniform : (passes : Leaf → Bool) (need : Need) (columns own : List ℕ) (leaves : List FragmentLeaf) → AllByRecursion (IsCut columns own) leaves → AllByRecursion (IsUniformOn passes own) (covers need columns leaves)
+covers_uniform passes need columns own [] cuts = tt
+covers_uniform passes need columns own (leaf ∷ leaves) cuts = at (reaches need columns leaf) refl (covers_uniform passes need columns own leaves cuts.1)
   where
-    rest : Shape
-    rest = reduced passes (cover need columns leaves)
+    cut : FragmentLeaf → Shape
+    cut one = Project columns (Fetch (fetch_of need one))
 
-    read : (t : Bool) → filter (is_seen columns) leaf.columns ≡ own → IsUniform rest × AreOwn own (columns_had rest) →
-        IsUniform (Union (Project columns (cond t (Fetch (fetch_of need leaf)) Empty)) rest) × AreOwn own (columns_had (Union (Project columns (cond t (Fetch (fetch_of need leaf)) Empty)) rest))
-    read true left more = ((cuts.0.key, more.0, agree (filter (is_seen columns) leaf.columns) own (columns_had rest) left more.1), left)
-    read false left more = ((tt, more.0, tt), more.1)
+    read : (t : Bool) → filter (is_seen columns) leaf.columns ≡ own → IsUniform (Project columns (cond t (Fetch (fetch_of need leaf)) Empty)) × AreOwn own (columns_had (Project columns (cond t (Fetch (fetch_of need leaf)) Empty)))
+    read true left = ((cuts.0.key, cuts.0.alone), left)
+    read false left = (tt, tt)
 
-    at : (t : Bool) → reaches need columns leaf ≡ t → IsUniform rest × AreOwn own (columns_had rest) →
-        IsUniform (reduced passes (cond t (Union (Project columns (Fetch (fetch_of need leaf))) (cover need columns leaves)) (cover need columns leaves)))
-        × AreOwn own (columns_had (reduced passes (cond t (Union (Project columns (Fetch (fetch_of need leaf))) (cover need columns leaves)) (cover need columns leaves))))
-    at true is more = read (passes leaf.name) (cuts.0.left (both (wanted need.columns leaf.steps) (list_all (has leaf.columns) columns) is).1) more
+    at : (t : Bool) → reaches need columns leaf ≡ t → AllByRecursion (IsUniformOn passes own) (covers need columns leaves) →
+        AllByRecursion (IsUniformOn passes own) (map cut (cond t (leaf ∷ filter (reaches need columns) leaves) (filter (reaches need columns) leaves)))
+    at true is more = (read (passes leaf.name) (cuts.0.left (both (wanted need.columns leaf.steps) (list_all (has leaf.columns) columns) is).1), more)
     at false is more = more
 
-by_columns_uniform : (sites : List (List ℕ)) (types : List Kind) (passes : Leaf → Bool) (need : Need) (leaves : List FragmentLeaf) (columns : List ℕ) → AllByRecursion (IsLeafOver sites types) leaves → IsUniform (reduced passes (by_columns need leaves columns))
-by_columns_uniform sites types passes need leaves [] over = (cover_uniform passes need [] (0 ∷ []) leaves (cuts_to_key sites types leaves over)).0
-by_columns_uniform sites types passes need leaves (col ∷ columns) over =
-    ((cover_uniform passes need (col ∷ []) (key_and col) leaves (cuts_to_one sites types col leaves over)).0, by_columns_uniform sites types passes need leaves columns over)
+union_uniform : (passes : Leaf → Bool) (own : List ℕ) (plan : Shape) → AllByRecursion (IsUniformOn passes own) (united plan) → IsUniformOn passes own plan
+union_uniform passes own Empty all = (tt, tt)
+union_uniform passes own (Fetch read) all = all.0
+union_uniform passes own (Filter conds below) all = all.0
+union_uniform passes own (Project columns below) all = all.0
+union_uniform passes own (Union one other) all =
+    let each = apart (IsUniformOn passes own) (united one) (united other) all in
+    let here = union_uniform passes own one each.0 in
+    let there = union_uniform passes own other each.1 in
+    let had = columns_had (reduced passes one) in
+    let had_other = columns_had (reduced passes other) in
+    ((here.0, there.0, agree own had had_other here.1 there.1), own_either own had had_other here.1 there.1)
+union_uniform passes own (KeyJoin one other) all = all.0
+union_uniform passes own (Lookup col width left right) all = all.0
+
+cover_uniform : (passes : Leaf → Bool) (need : Need) (columns own : List ℕ) (leaves : List FragmentLeaf) (plan : Shape) → AllByRecursion (IsCut columns own) leaves → united plan ≡ covers need columns leaves → IsUniform (reduced passes plan)
+cover_uniform passes need columns own leaves plan cuts is =
+    let P : List Shape → Type 0 = AllByRecursion (IsUniformOn passes own) in
+    (union_uniform passes own plan (subst P (sym is) (covers_uniform passes need columns own leaves cuts))).0
+
+columns_uniform : (sites : List (List ℕ)) (types : List Kind) (passes : Leaf → Bool) (need : Need) (leaves : List FragmentLeaf) (columns : List ℕ) (plan : Shape) → AllByRecursion (IsLeafOver sites types) leaves → IsByColumns need leaves columns plan →
+    IsUniform (reduced passes plan)
+columns_uniform sites types passes need leaves [] plan over is = cover_uniform passes need [] (0 ∷ []) leaves plan (cuts_to_key sites types leaves over) is
+columns_uniform sites types passes need leaves (col ∷ []) plan over is = cover_uniform passes need (col ∷ []) (key_and col) leaves plan (cuts_to_one sites types col leaves over) is
+columns_uniform sites types passes need leaves (col ∷ next ∷ columns) plan over (one, other, is, here, beyond) =
+    let P : Shape → Type 0 = λ p. IsUniform (reduced passes p) in
+    subst P (sym is) (cover_uniform passes need (col ∷ []) (key_and col) leaves one (cuts_to_one sites types col leaves over) here, columns_uniform sites types passes need leaves (next ∷ columns) other over beyond)
 
 -- the columns of a side are below the number of columns of its relation
 
@@ -102,27 +145,54 @@ both_within bound None other below more = tt
 both_within bound (Some columns) None below more = tt
 both_within bound (Some columns) (Some others) below more = joined bound columns (filter (λ col. not (has columns col)) others) below (passed (λ col. not (has columns col)) bound others more)
 
-cover_within : (sites : List (List ℕ)) (types : List Kind) (passes : Leaf → Bool) (need : Need) (columns : List ℕ) (leaves : List FragmentLeaf) → AllByRecursion (IsLeafOver sites types) leaves → AreWithin (length types) (columns_had (reduced passes (cover need columns leaves)))
-cover_within sites types passes need columns [] over = tt
-cover_within sites types passes need columns (leaf ∷ leaves) over = at (reaches need columns leaf) (cover_within sites types passes need columns leaves over.1)
+within_either : (bound : ℕ) (one other : Option (List ℕ)) → AreWithin bound one → AreWithin bound other → AreWithin bound (option_or one other)
+within_either bound None other below more = more
+within_either bound (Some columns) other below more = below
+
+abbrev IsWithin : (Leaf → Bool) → ℕ → Shape → Type 0
+IsWithin passes bound plan = AreWithin bound (columns_had (reduced passes plan))
+
+covers_within : (sites : List (List ℕ)) (types : List Kind) (passes : Leaf → Bool) (need : Need) (columns : List ℕ) (leaves : List FragmentLeaf) → AllByRecursion (IsLeafOver sites types) leaves → AllByRecursion (IsWithin passes (length types)) (covers need columns leaves)
+covers_within sites types passes need columns [] over = tt
+covers_within sites types passes need columns (leaf ∷ leaves) over = at (reaches need columns leaf) (covers_within sites types passes need columns leaves over.1)
   where
-    rest : Shape
-    rest = reduced passes (cover need columns leaves)
+    cut : FragmentLeaf → Shape
+    cut one = Project columns (Fetch (fetch_of need one))
 
-    read : (t : Bool) → AreWithin (length types) (columns_had rest) → AreWithin (length types) (columns_had (Union (Project columns (cond t (Fetch (fetch_of need leaf)) Empty)) rest))
-    read true more = passed (is_seen columns) (length types) leaf.columns over.0.columns
-    read false more = more
+    read : (t : Bool) → AreWithin (length types) (columns_had (Project columns (cond t (Fetch (fetch_of need leaf)) Empty)))
+    read true = passed (is_seen columns) (length types) leaf.columns over.0.columns
+    read false = tt
 
-    at : (t : Bool) → AreWithin (length types) (columns_had rest) → AreWithin (length types) (columns_had (reduced passes (cond t (Union (Project columns (Fetch (fetch_of need leaf))) (cover need columns leaves)) (cover need columns leaves))))
-    at true more = read (passes leaf.name) more
+    at : (t : Bool) → AllByRecursion (IsWithin passes (length types)) (covers need columns leaves) →
+        AllByRecursion (IsWithin passes (length types)) (map cut (cond t (leaf ∷ filter (reaches need columns) leaves) (filter (reaches need columns) leaves)))
+    at true more = (read (passes leaf.name), more)
     at false more = more
 
-by_columns_within : (sites : List (List ℕ)) (types : List Kind) (passes : Leaf → Bool) (need : Need) (leaves : List FragmentLeaf) (columns : List ℕ) → AllByRecursion (IsLeafOver sites types) leaves →
-    AreWithin (length types) (columns_had (reduced passes (by_columns need leaves columns)))
-by_columns_within sites types passes need leaves [] over = cover_within sites types passes need [] leaves over
-by_columns_within sites types passes need leaves (col ∷ columns) over =
-    both_within (length types) (columns_had (reduced passes (cover need (col ∷ []) leaves))) (columns_had (reduced passes (by_columns need leaves columns)))
-    (cover_within sites types passes need (col ∷ []) leaves over) (by_columns_within sites types passes need leaves columns over)
+union_within : (passes : Leaf → Bool) (bound : ℕ) (plan : Shape) → AllByRecursion (IsWithin passes bound) (united plan) → IsWithin passes bound plan
+union_within passes bound Empty all = tt
+union_within passes bound (Fetch read) all = all.0
+union_within passes bound (Filter conds below) all = all.0
+union_within passes bound (Project columns below) all = all.0
+union_within passes bound (Union one other) all =
+    let each = apart (IsWithin passes bound) (united one) (united other) all in
+    within_either bound (columns_had (reduced passes one)) (columns_had (reduced passes other)) (union_within passes bound one each.0) (union_within passes bound other each.1)
+union_within passes bound (KeyJoin one other) all = all.0
+union_within passes bound (Lookup col width left right) all = all.0
+
+cover_within : (sites : List (List ℕ)) (types : List Kind) (passes : Leaf → Bool) (need : Need) (columns : List ℕ) (leaves : List FragmentLeaf) (plan : Shape) → AllByRecursion (IsLeafOver sites types) leaves → united plan ≡ covers need columns leaves →
+    IsWithin passes (length types) plan
+cover_within sites types passes need columns leaves plan over is =
+    let P : List Shape → Type 0 = AllByRecursion (IsWithin passes (length types)) in
+    union_within passes (length types) plan (subst P (sym is) (covers_within sites types passes need columns leaves over))
+
+columns_within : (sites : List (List ℕ)) (types : List Kind) (passes : Leaf → Bool) (need : Need) (leaves : List FragmentLeaf) (columns : List ℕ) (plan : Shape) → AllByRecursion (IsLeafOver sites types) leaves → IsByColumns need leaves columns plan →
+    IsWithin passes (length types) plan
+columns_within sites types passes need leaves [] plan over is = cover_within sites types passes need [] leaves plan over is
+columns_within sites types passes need leaves (col ∷ []) plan over is = cover_within sites types passes need (col ∷ []) leaves plan over is
+columns_within sites types passes need leaves (col ∷ next ∷ columns) plan over (one, other, is, here, beyond) =
+    let P : Shape → Type 0 = IsWithin passes (length types) in
+    subst P (sym is) (both_within (length types) (columns_had (reduced passes one)) (columns_had (reduced passes other)) (cover_within sites types passes need (col ∷ []) leaves one over here)
+    (columns_within sites types passes need leaves (next ∷ columns) other over beyond))
 
 stays : (width bound : ℕ) (had : Option (List ℕ)) → width ≤ 16 → bound ≤ 16 → AreWithin bound had → StayWithin width had
 stays width bound None narrow few below = tt
@@ -132,16 +202,18 @@ stays width bound (Some columns) narrow few below = all columns below
     all [] h = tt
     all (col ∷ cols) h = let here = h.0 in (omega (arith, narrow, few, here), all cols h.1)
 
-sides_uniform : (catalogue : Catalogue) (width : ℕ) (wants : Needs) (passes : Leaf → Bool) → IsFormed catalogue → width ≤ 16 → IsUniform (reduced passes (sides catalogue width wants))
-sides_uniform catalogue width (One need) passes formed narrow =
-    by_columns_uniform catalogue.sites (kinds_in catalogue need.relation) passes need (leaves_of catalogue need.relation) need.columns (leaves_over catalogue need.relation formed).0
-sides_uniform catalogue width (Joined col need other) passes formed narrow =
+needs_uniform : (catalogue : Catalogue) (width : ℕ) (wants : Needs) (passes : Leaf → Bool) (plan : Shape) → IsFormed catalogue → width ≤ 16 → IsOfNeeds catalogue width wants plan → IsUniform (reduced passes plan)
+needs_uniform catalogue width (One need) passes plan formed narrow is =
+    columns_uniform catalogue.sites (kinds_in catalogue need.relation) passes need (leaves_of catalogue need.relation) (once need.columns) plan (leaves_over catalogue need.relation formed).0 is
+needs_uniform catalogue width (Joined col need other) passes plan formed narrow (left, right, is, is_left, is_right) =
     let here = leaves_over catalogue need.relation formed in
-    let there = leaves_over catalogue other.relation formed in (
-      by_columns_uniform catalogue.sites (kinds_in catalogue need.relation) passes need (leaves_of catalogue need.relation) need.columns here.0,
-      by_columns_uniform catalogue.sites (kinds_in catalogue other.relation) passes other (leaves_of catalogue other.relation) other.columns there.0,
-      stays width (length (kinds_in catalogue other.relation)) (columns_had (reduced passes (by_columns other (leaves_of catalogue other.relation) other.columns))) narrow there.1
-          (by_columns_within catalogue.sites (kinds_in catalogue other.relation) passes other (leaves_of catalogue other.relation) other.columns there.0),
+    let there = leaves_over catalogue other.relation formed in
+    let P : Shape → Type 0 = λ p. IsUniform (reduced passes p) in
+    subst P (sym is) (
+      columns_uniform catalogue.sites (kinds_in catalogue need.relation) passes need (leaves_of catalogue need.relation) (once need.columns) left here.0 is_left,
+      columns_uniform catalogue.sites (kinds_in catalogue other.relation) passes other (leaves_of catalogue other.relation) (once other.columns) right there.0 is_right,
+      stays width (length (kinds_in catalogue other.relation)) (columns_had (reduced passes right)) narrow there.1
+          (columns_within catalogue.sites (kinds_in catalogue other.relation) passes other (leaves_of catalogue other.relation) (once other.columns) right there.0 is_right),
     )
 
 narrow_width : (catalogue : Catalogue) (statement : Statement) → IsFormed catalogue → IsValidCatalogue catalogue → IsStatementOf (schemas_of catalogue) statement → width_of statement ≤ 16
@@ -155,40 +227,62 @@ narrow_width catalogue (statement.Insert insert) formed valid of = omega arith
 narrow_width catalogue (statement.Update update) formed valid of = omega arith
 narrow_width catalogue (statement.Delete delete) formed valid of = omega arith
 
-pub plan_uniform : (catalogue : Catalogue) (statement : Statement) (passes : Leaf → Bool) → IsFormed catalogue → IsValidCatalogue catalogue → IsStatementOf (schemas_of catalogue) statement → IsUniform (reduced passes (located catalogue statement))
-plan_uniform catalogue statement passes formed valid of = sides_uniform catalogue (width_of statement) (needs statement) passes formed (narrow_width catalogue statement formed valid of)
+pub plan_uniform : (catalogue : Catalogue) (statement : Statement) (passes : Leaf → Bool) (plan : Shape) → IsFormed catalogue → IsValidCatalogue catalogue → IsStatementOf (schemas_of catalogue) statement → IsLocated catalogue statement plan →
+    IsUniform (reduced passes plan)
+plan_uniform catalogue statement passes plan formed valid of (below, is, is_below) =
+    let P : Shape → Type 0 = λ p. IsUniform (reduced passes p) in
+    subst P (sym is) (needs_uniform catalogue (width_of statement) (needs statement) passes below formed (narrow_width catalogue statement formed valid of) is_below)
 
 -- each read of the plan is one of the fetches
 
 abbrev Reads : List fetch.Fetch → Shape → Type 0
-Reads fetches plan = EachRead (λ read. Contains fetches read) plan
+Reads fetches plan = EachRead (λ read. Contains fetches read) (reduced (is_fetched fetches) plan)
 
-cover_reads : (fetches : List fetch.Fetch) (need : Need) (columns : List ℕ) (leaves : List FragmentLeaf) → AllByRecursion (IsAmong need fetches) leaves → Reads fetches (reduced (is_fetched fetches) (cover need columns leaves))
-cover_reads fetches need columns [] there = tt
-cover_reads fetches need columns (leaf ∷ leaves) there = at (reaches need columns leaf) (cover_reads fetches need columns leaves there.1)
+covers_read : (fetches : List fetch.Fetch) (need : Need) (columns : List ℕ) (leaves : List FragmentLeaf) → AllByRecursion (IsAmong need fetches) leaves → AllByRecursion (Reads fetches) (covers need columns leaves)
+covers_read fetches need columns [] there = tt
+covers_read fetches need columns (leaf ∷ leaves) there = at (reaches need columns leaf) (covers_read fetches need columns leaves there.1)
   where
-    passes : Leaf → Bool
-    passes = is_fetched fetches
+    cut : FragmentLeaf → Shape
+    cut one = Project columns (Fetch (fetch_of need one))
 
-    rest : Shape
-    rest = reduced passes (cover need columns leaves)
+    read : (t : Bool) → is_fetched fetches leaf.name ≡ t → EachRead (λ read. Contains fetches read) (Project columns (cond t (Fetch (fetch_of need leaf)) Empty))
+    read true is = there.0 is
+    read false is = tt
 
-    read : (t : Bool) → passes leaf.name ≡ t → Reads fetches rest → Reads fetches (Union (Project columns (cond t (Fetch (fetch_of need leaf)) Empty)) rest)
-    read true is more = (there.0 is, more)
-    read false is more = (tt, more)
-
-    at : (t : Bool) → Reads fetches rest → Reads fetches (reduced passes (cond t (Union (Project columns (Fetch (fetch_of need leaf))) (cover need columns leaves)) (cover need columns leaves)))
-    at true more = read (passes leaf.name) refl more
+    at : (t : Bool) → AllByRecursion (Reads fetches) (covers need columns leaves) → AllByRecursion (Reads fetches) (map cut (cond t (leaf ∷ filter (reaches need columns) leaves) (filter (reaches need columns) leaves)))
+    at true more = (read (is_fetched fetches leaf.name) refl, more)
     at false more = more
 
-by_columns_reads : (fetches : List fetch.Fetch) (need : Need) (leaves : List FragmentLeaf) (columns : List ℕ) → AllByRecursion (IsAmong need fetches) leaves → Reads fetches (reduced (is_fetched fetches) (by_columns need leaves columns))
-by_columns_reads fetches need leaves [] there = cover_reads fetches need [] leaves there
-by_columns_reads fetches need leaves (col ∷ columns) there = (cover_reads fetches need (col ∷ []) leaves there, by_columns_reads fetches need leaves columns there)
+union_reads : (fetches : List fetch.Fetch) (plan : Shape) → AllByRecursion (Reads fetches) (united plan) → Reads fetches plan
+union_reads fetches Empty all = tt
+union_reads fetches (Fetch read) all = all.0
+union_reads fetches (Filter conds below) all = all.0
+union_reads fetches (Project columns below) all = all.0
+union_reads fetches (Union one other) all =
+    let each = apart (Reads fetches) (united one) (united other) all in
+    (union_reads fetches one each.0, union_reads fetches other each.1)
+union_reads fetches (KeyJoin one other) all = all.0
+union_reads fetches (Lookup col width left right) all = all.0
 
-sides_read : (catalogue : Catalogue) (width : ℕ) (wants : Needs) (fetches : List fetch.Fetch) → AreAmong catalogue fetches wants → Reads fetches (reduced (is_fetched fetches) (sides catalogue width wants))
-sides_read catalogue width (One need) fetches there = by_columns_reads fetches need (leaves_of catalogue need.relation) need.columns there
-sides_read catalogue width (Joined col need other) fetches there =
-    (by_columns_reads fetches need (leaves_of catalogue need.relation) need.columns there.0, by_columns_reads fetches other (leaves_of catalogue other.relation) other.columns there.1)
+cover_reads : (fetches : List fetch.Fetch) (need : Need) (columns : List ℕ) (leaves : List FragmentLeaf) (plan : Shape) → AllByRecursion (IsAmong need fetches) leaves → united plan ≡ covers need columns leaves → Reads fetches plan
+cover_reads fetches need columns leaves plan there is =
+    let P : List Shape → Type 0 = AllByRecursion (Reads fetches) in
+    union_reads fetches plan (subst P (sym is) (covers_read fetches need columns leaves there))
 
-pub plan_reads : (catalogue : Catalogue) (statement : Statement) (fetches : List fetch.Fetch) → AreAmong catalogue fetches (needs statement) → Reads fetches (reduced (is_fetched fetches) (located catalogue statement))
-plan_reads catalogue statement fetches there = sides_read catalogue (width_of statement) (needs statement) fetches there
+columns_read_all : (fetches : List fetch.Fetch) (need : Need) (leaves : List FragmentLeaf) (columns : List ℕ) (plan : Shape) → AllByRecursion (IsAmong need fetches) leaves → IsByColumns need leaves columns plan → Reads fetches plan
+columns_read_all fetches need leaves [] plan there is = cover_reads fetches need [] leaves plan there is
+columns_read_all fetches need leaves (col ∷ []) plan there is = cover_reads fetches need (col ∷ []) leaves plan there is
+columns_read_all fetches need leaves (col ∷ next ∷ columns) plan there (one, other, is, here, beyond) =
+    let P : Shape → Type 0 = Reads fetches in
+    subst P (sym is) (cover_reads fetches need (col ∷ []) leaves one there here, columns_read_all fetches need leaves (next ∷ columns) other there beyond)
+
+needs_read : (catalogue : Catalogue) (width : ℕ) (wants : Needs) (fetches : List fetch.Fetch) (plan : Shape) → AreAmong catalogue fetches wants → IsOfNeeds catalogue width wants plan → Reads fetches plan
+needs_read catalogue width (One need) fetches plan there is = columns_read_all fetches need (leaves_of catalogue need.relation) (once need.columns) plan there is
+needs_read catalogue width (Joined col need other) fetches plan there (left, right, is, is_left, is_right) =
+    let P : Shape → Type 0 = Reads fetches in
+    subst P (sym is) (columns_read_all fetches need (leaves_of catalogue need.relation) (once need.columns) left there.0 is_left, columns_read_all fetches other (leaves_of catalogue other.relation) (once other.columns) right there.1 is_right)
+
+pub plan_reads : (catalogue : Catalogue) (statement : Statement) (fetches : List fetch.Fetch) (plan : Shape) → AreAmong catalogue fetches (needs statement) → IsLocated catalogue statement plan → Reads fetches plan
+plan_reads catalogue statement fetches plan there (below, is, is_below) =
+    let P : Shape → Type 0 = Reads fetches in
+    subst P (sym is) (needs_read catalogue (width_of statement) (needs statement) fetches below there is_below)

@@ -5,9 +5,10 @@ pub mod Stated
 pub mod Picked
 pub mod Shape
 pub mod Rows
-pub mod Located
 pub mod Found
 pub mod Reduced
 pub mod Given
 pub mod Contents
 pub mod Uniform
+pub mod PlanOf
+pub mod Located

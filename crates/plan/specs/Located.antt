@@ -1,5 +1,5 @@
--- The plan of a statement, column by column.
-use Rattle.std.specs.Prelude.{ℕ, ◌&&◌, Bool, if◌then◌else◌, List, [], ◌∷◌, length}
+-- The words of the code's own steps, which a reader may skip: the plan of a statement, column by column.
+use Rattle.std.specs.Prelude.{◌≡◌, ℕ, ◌&&◌, Bool, if◌then◌else◌, List, [], ◌∷◌, ◌++◌, filter, length, map}
 use Rattle.std.specs.List.{list_all}
 use Rattle.terms.specs.declared.cond.Cond.{Cond}
 use Rattle.meaning.specs.declared.statement.Statement.{Statement}
@@ -13,6 +13,7 @@ use Rattle.plan.specs.declared.need.Needs.{Needs}
 use Rattle.plan.specs.declared.need.Needs.TheVariants.{One, Joined}
 use Rattle.plan.specs.Fetch.{fetch_of}
 use Rattle.plan.specs.Need.{key_is, needs}
+use Rattle.plan.specs.Rows.{is_seen}
 use Rattle.plan.specs.Shape.{Shape, Empty, Fetch, Filter, Project, Union, KeyJoin, Lookup}
 use Rattle.plan.specs.Stated.{leaves_of}
 
@@ -20,25 +21,44 @@ use Rattle.plan.specs.Stated.{leaves_of}
 abbrev pub reaches : Need → List ℕ → FragmentLeaf → Bool
 reaches need columns leaf = wanted need.columns leaf.steps && list_all (has leaf.columns) columns
 
--- the union of those leaves, cut to these columns
-abbrev pub cover : Need → List ℕ → List FragmentLeaf → Shape
-cover need columns [] = Empty
-cover need columns (leaf ∷ leaves) =
-    if reaches need columns leaf then Union (Project columns (Fetch (fetch_of need leaf))) (cover need columns leaves) else cover need columns leaves
+-- the reads of those leaves, each cut to these columns
+abbrev pub covers : Need → List ℕ → List FragmentLeaf → List Shape
+covers need columns leaves = map (λ leaf. Project columns (Fetch (fetch_of need leaf))) (filter (reaches need columns) leaves)
 
--- the columns, each from the leaves that have it, put together by the key, which all wanted leaves have
-abbrev pub by_columns : Need → List FragmentLeaf → List ℕ → Shape
-by_columns need leaves [] = cover need [] leaves
-by_columns need leaves (col ∷ columns) = KeyJoin (cover need (col ∷ []) leaves) (by_columns need leaves columns)
+-- what a union puts together, in order, whatever its tree
+abbrev pub united : Shape → List Shape
+united Empty = []
+united (Fetch read) = Fetch read ∷ []
+united (Filter conds below) = Filter conds below ∷ []
+united (Project columns below) = Project columns below ∷ []
+united (Union one other) = united one ++ united other
+united (KeyJoin one other) = KeyJoin one other ∷ []
+united (Lookup col width left right) = Lookup col width left right ∷ []
 
--- the rows of a need, before any is left out
-abbrev pub side : Catalogue → Need → Shape
-side catalogue need = by_columns need (leaves_of catalogue need.relation) need.columns
+-- columns behind others: each once, and none that is the key or among the others
+abbrev pub once_behind : List ℕ → List ℕ → List ℕ
+once_behind found [] = []
+once_behind found (col ∷ columns) = if is_seen found col then once_behind found columns else col ∷ once_behind (found ++ col ∷ []) columns
+
+-- columns, each once, without the key
+abbrev pub once : List ℕ → List ℕ
+once columns = once_behind [] columns
+
+-- a plan of columns: each from the leaves that have it, put together by the key; without columns the keys of all wanted leaves
+abbrev pub IsByColumns : Need → List FragmentLeaf → List ℕ → Shape → Type 0
+IsByColumns need leaves [] plan = united plan ≡ covers need [] leaves
+IsByColumns need leaves (col ∷ []) plan = united plan ≡ covers need (col ∷ []) leaves
+IsByColumns need leaves (col ∷ next ∷ columns) plan =
+    (one : Shape) × (other : Shape) × (plan ≡ KeyJoin one other) × (united one ≡ covers need (col ∷ []) leaves) × IsByColumns need leaves (next ∷ columns) other
+
+-- a plan of the rows of a need, before any is left out
+abbrev pub IsOfNeed : Catalogue → Need → Shape → Type 0
+IsOfNeed catalogue need plan = IsByColumns need (leaves_of catalogue need.relation) (once need.columns) plan
 
 -- of one relation, or of two, where the first has so many columns
-abbrev pub sides : Catalogue → ℕ → Needs → Shape
-sides catalogue width (One need) = side catalogue need
-sides catalogue width (Joined col need other) = Lookup col width (side catalogue need) (side catalogue other)
+abbrev pub IsOfNeeds : Catalogue → ℕ → Needs → Shape → Type 0
+IsOfNeeds catalogue width (One need) plan = IsOfNeed catalogue need plan
+IsOfNeeds catalogue width (Joined col need other) plan = (left : Shape) × (right : Shape) × (plan ≡ Lookup col width left right) × IsOfNeed catalogue need left × IsOfNeed catalogue other right
 
 -- the conditions of a statement; an INSERT asks for its key
 abbrev pub asked : Statement → List Cond
@@ -52,6 +72,6 @@ abbrev pub width_of : Statement → ℕ
 width_of (statement.Select select) = length select.from.columns
 width_of _ = 0
 
--- the plan of a statement: of the rows of its needs those that meet its conditions
-abbrev pub located : Catalogue → Statement → Shape
-located catalogue statement = Filter (asked statement) (sides catalogue (width_of statement) (needs statement))
+-- of the rows of its needs those that meet its conditions
+abbrev pub IsLocated : Catalogue → Statement → Shape → Type 0
+IsLocated catalogue statement plan = (below : Shape) × (plan ≡ Filter (asked statement) below) × IsOfNeeds catalogue (width_of statement) (needs statement) below

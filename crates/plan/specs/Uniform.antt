@@ -1,5 +1,5 @@
 -- The columns of a plan's rows; plans whose unions have one list of columns on both sides.
-use Rattle.std.specs.Prelude.{◌≡◌, ℕ, ◌+◌, ◌<◌, not, List, ◌++◌, Option, Some, None, filter, map, option_map}
+use Rattle.std.specs.Prelude.{◌≡◌, ℕ, ◌+◌, ◌<◌, false, not, List, [], ◌∷◌, ◌++◌, Option, Some, None, filter, map, option_map}
 use Rattle.std.specs.List.{AllByRecursion, slice_get}
 use Rattle.std.specs.Option.{option_or}
 use Rattle.catalog.specs.Counts.{has}
@@ -40,10 +40,15 @@ abbrev pub StayWithin : ℕ → Option (List ℕ) → Type 0
 StayWithin width None = Unit {0}
 StayWithin width (Some columns) = AllByRecursion (λ col. width + col < 18446744073709551616) columns
 
--- both sides of each union have the same columns, and each read has the key first
+-- no column twice
+abbrev pub AreOnce : List ℕ → Type 0
+AreOnce [] = Unit {0}
+AreOnce (col ∷ columns) = (has columns col ≡ false) × AreOnce columns
+
+-- both sides of each union have the same columns, and each read has the key first and no column twice
 abbrev pub IsUniform : Shape → Type 0
 IsUniform Empty = Unit {0}
-IsUniform (Fetch read) = slice_get read.columns 0 ≡ Some 0
+IsUniform (Fetch read) = (slice_get read.columns 0 ≡ Some 0) × AreOnce read.columns
 IsUniform (Filter conds below) = IsUniform below
 IsUniform (Project columns below) = IsUniform below
 IsUniform (Union one other) = IsUniform one × IsUniform other × Agree (columns_had one) (columns_had other)

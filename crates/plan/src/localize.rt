@@ -1,18 +1,21 @@
 //! The plan of a statement over the leaves of a catalogue.
 
-ghost use Rattle.std.specs.Prelude.{◌≡◌, IfOk};
+ghost use Rattle.std.specs.Prelude.{◌≡◌, IfOk, flat_map};
 ghost use Rattle.std.specs.List.{list_all};
 ghost use Rattle.catalog.specs.Counts.{has};
 ghost use Rattle.catalog.specs.Relation.{catalogue_of};
-ghost use Rattle.plan.specs.Located.{asked, by_columns, cover, located, reaches, width_of};
-ghost use Rattle.plan.specs.Located as spec;
-ghost use Rattle.plan.specs.Shape.{shape};
+ghost use Rattle.plan.specs.Fetch as spec;
+ghost use Rattle.plan.specs.Located.{IsByColumns, IsLocated, IsOfNeed, IsOfNeeds, asked, covers, once, reaches, united, width_of};
+ghost use Rattle.plan.specs.Located as located;
+ghost use Rattle.plan.specs.PlanOf.{IsPlanOf};
+ghost use Rattle.plan.specs.Shape.{Fetch, Project, shape};
 
 use crate::fetch::fetch_of;
 use crate::need::{Need, Needs, statement_needs};
 use crate::plan::Plan;
 use catalog::catalogue::Catalog;
 use catalog::fragment_leaf::FragmentLeaf;
+use catalog::laws::{leaf_names_are_unique, one_leaf_serves, some_leaf_serves};
 use catalog::path::wanted;
 use meaning::statement::Statement;
 use std::alloc::Global;
@@ -22,26 +25,47 @@ use terms::memory::Memory;
 use terms::seq::Seq;
 use terms::value::Value;
 
-/// The plan of a statement over all leaves that are wanted for its columns.
+/// The plan of a statement over all leaves that are wanted for its columns. A column is read once, and the
+/// key by itself only where no other column is needed. A union is a tree of which each side has half of the
+/// leaves, so that a row is copied as often as the leaves can be halved.
 pub fn localize(alloc: Global, catalog: &Catalog, statement: &Statement) -> Result<Plan, Memory>
-    ensures { IfOk result (λ plan. shape plan ≡ located (catalogue_of catalog.now) statement.now) }
+    // Over what its fetches bring it finds what the statement is to find.
+    ensures { IfOk result (λ plan. IsPlanOf (catalogue_of catalog.now) statement.now (shape plan)) }
+{
+    some_leaf_serves();
+    one_leaf_serves();
+    leaf_names_are_unique();
+    let _relations = catalog.relations();
+    located(alloc, catalog, statement)
+}
+
+/// The rows of a statement's needs that meet its conditions.
+fn located(alloc: Global, catalog: &Catalog, statement: &Statement) -> Result<Plan, Memory>
+    ensures { IfOk result (λ plan. IsLocated (catalogue_of catalog.now) statement.now (shape plan)) }
 {
     let conds = conds_asked(alloc, statement)?;
-    let below = match statement_needs(alloc, statement)? {
-        Needs::One(need) => side(alloc, catalog, &need)?,
+    let needs = statement_needs(alloc, statement)?;
+    let below = sides(alloc, catalog, width_of(statement), &needs)?;
+    Ok(Plan::Filter(conds, Box::new(alloc, below)?))
+}
+
+/// The rows of the needs, of which the first relation has so many columns.
+fn sides(alloc: Global, catalog: &Catalog, width: usize, needs: &Needs) -> Result<Plan, Memory>
+    ensures { IfOk result (λ plan. IsOfNeeds (catalogue_of catalog.now) width needs.now (shape plan)) }
+{
+    match needs {
+        Needs::One(need) => side(alloc, catalog, need),
         Needs::Joined { col, first, second } => {
-            let width = width_of(statement);
-            let left = Box::new(alloc, side(alloc, catalog, &first)?)?;
-            let right = Box::new(alloc, side(alloc, catalog, &second)?)?;
-            Plan::Lookup {
-                col,
+            let left = Box::new(alloc, side(alloc, catalog, first)?)?;
+            let right = Box::new(alloc, side(alloc, catalog, second)?)?;
+            Ok(Plan::Lookup {
+                col: *col,
                 width,
                 left,
                 right,
-            }
+            })
         }
-    };
-    Ok(Plan::Filter(conds, Box::new(alloc, below)?))
+    }
 }
 
 /// How many columns the relation after FROM has.
@@ -76,10 +100,24 @@ fn conds_asked(alloc: Global, statement: &Statement) -> Result<Conds, Memory>
 
 /// The rows of one need.
 fn side(alloc: Global, catalog: &Catalog, need: &Need) -> Result<Plan, Memory>
-    ensures { IfOk result (λ plan. shape plan ≡ spec.side (catalogue_of catalog.now) need.now) }
+    ensures { IfOk result (λ plan. IsOfNeed (catalogue_of catalog.now) need.now (shape plan)) }
 {
     let leaves = catalog.leaves_of(need.relation.as_str());
-    by_columns(alloc, need, leaves, need.columns.as_slice())
+    let columns = once(alloc, need.columns.as_slice())?;
+    by_columns(alloc, need, leaves, columns.as_slice())
+}
+
+/// The columns without the key, each once.
+fn once(alloc: Global, columns: &[usize]) -> Result<Vec<usize>, Memory>
+    ensures { IfOk result (λ found. found.items ≡ once columns.now) }
+{
+    let mut found = Vec::new(alloc);
+    for col in columns {
+        if *col != 0 && !has(found.as_slice(), *col) {
+            found.push(*col)?;
+        }
+    }
+    Ok(found)
 }
 
 /// The columns put together by the key.
@@ -89,12 +127,15 @@ fn by_columns(
     leaves: &[FragmentLeaf],
     columns: &[usize],
 ) -> Result<Plan, Memory>
-    ensures { IfOk result (λ plan. shape plan ≡ spec.by_columns need.now leaves.now columns.now) }
+    ensures { IfOk result (λ plan. IsByColumns need.now leaves.now columns.now (shape plan)) }
 {
     let Some((first, rest)) = columns.split_first() else {
         return cover(alloc, need, &[], leaves);
     };
     let one = cover(alloc, need, &[*first], leaves)?;
+    if rest.is_empty() {
+        return Ok(one);
+    }
     let others = by_columns(alloc, need, leaves, rest)?;
     Ok(Plan::KeyJoin(Box::new(alloc, one)?, Box::new(alloc, others)?))
 }
@@ -106,24 +147,50 @@ fn cover(
     columns: &[usize],
     leaves: &[FragmentLeaf],
 ) -> Result<Plan, Memory>
-    ensures { IfOk result (λ plan. shape plan ≡ spec.cover need.now columns.now leaves.now) }
+    ensures { IfOk result (λ plan. united (shape plan) ≡ covers need.now columns.now leaves.now) }
 {
-    let Some((leaf, rest)) = leaves.split_first() else {
-        return Ok(Plan::Empty);
-    };
-    let others = cover(alloc, need, columns, rest)?;
-    if !reaches(need, columns, leaf) {
-        return Ok(others);
+    let mut plans = Vec::new(alloc);
+    for leaf in leaves {
+        if reaches(need, columns, leaf) {
+            plans.push(cut_read(alloc, need, columns, leaf)?)?;
+        }
     }
+    union_of(alloc, plans)
+}
+
+/// The read of a leaf, cut to columns.
+fn cut_read(
+    alloc: Global,
+    need: &Need,
+    columns: &[usize],
+    leaf: &FragmentLeaf,
+) -> Result<Plan, Memory>
+    ensures { IfOk result (λ plan. shape plan ≡ Project columns.now (Fetch (spec.fetch_of need.now leaf.now))) }
+{
     let read = Plan::Fetch(fetch_of(alloc, need, leaf)?);
     let columns = Seq::new(copy_all(alloc, columns)?);
-    let cut = Plan::Project(columns, Box::new(alloc, read)?);
-    Ok(Plan::Union(Box::new(alloc, cut)?, Box::new(alloc, others)?))
+    Ok(Plan::Project(columns, Box::new(alloc, read)?))
+}
+
+/// The union of plans: a tree of which each side has half of them.
+fn union_of(alloc: Global, mut plans: Vec<Plan>) -> Result<Plan, Memory>
+    ensures { IfOk result (λ plan. united (shape plan) ≡ flat_map (λ one. united (shape one)) plans.items) }
+{
+    if plans.len() > 1 {
+        let later = plans.split_off(plans.len() / 2)?;
+        let one = union_of(alloc, plans)?;
+        let other = union_of(alloc, later)?;
+        return Ok(Plan::Union(Box::new(alloc, one)?, Box::new(alloc, other)?));
+    }
+    match plans.pop() {
+        Some(plan) => Ok(plan),
+        None => Ok(Plan::Empty),
+    }
 }
 
 /// Whether a leaf is wanted for a need and has these columns.
 fn reaches(need: &Need, columns: &[usize], leaf: &FragmentLeaf) -> bool
-    ensures { result ≡ spec.reaches need.now columns.now leaf.now }
+    ensures { result ≡ located.reaches need.now columns.now leaf.now }
 {
     wanted(need.columns.as_slice(), leaf.steps.as_slice())
         && has_all(leaf.columns.as_slice(), columns)

@@ -6,7 +6,7 @@ ghost use Rattle.terms.specs.declared.value.Value.{Value};
 ghost use Rattle.meaning.specs.Statement.{IsStatementOf};
 ghost use Rattle.catalog.specs.FragmentLeaf.{schemas_of};
 ghost use Rattle.catalog.specs.Relation.{catalogue_of};
-ghost use Rattle.plan.specs.Located.{located};
+ghost use Rattle.plan.specs.PlanOf.{IsPlanOf};
 ghost use Rattle.plan.specs.Reduced.{FindsAll, is_fetched, reduced};
 ghost use Rattle.plan.specs.Shape.{shape};
 ghost use Rattle.plan.specs.Stated.{AreFetchesOf};
@@ -16,7 +16,6 @@ use crate::fetch::Fetch;
 use crate::fetches::statement_fetches;
 use crate::plan::Plan;
 use catalog::catalogue::Catalog;
-use catalog::laws::{leaf_names_are_unique, one_leaf_serves, some_leaf_serves};
 use meaning::statement::Statement;
 use std::alloc::Global;
 use terms::leaf::Leaf;
@@ -37,23 +36,17 @@ pub fn reduce(
     plan: Plan,
 ) -> Result<Reduced, Memory>
     requires statement { IsStatementOf (schemas_of (catalogue_of catalog.now)) statement.now }
-    requires plan { shape plan ≡ located (catalogue_of catalog.now) statement.now }
+    requires plan { IsPlanOf (catalogue_of catalog.now) statement.now (shape plan) }
     // The fetches are exactly those that the statement may need.
     ensures fetches { IfOk result (λ less. AreFetchesOf (catalogue_of catalog.now) statement.now less.fetches.items) }
     // Over contents of their leaves the plan has at each key what the statement is to find there, in every whole
     // database that fits the schema.
     ensures rows { IfOk result (λ less. FindsAll (catalogue_of catalog.now) statement.now less.fetches.items (shape less.plan)) }
-    // The plan reads their leaves alone.
-    ensures reads { IfOk result (λ less. shape less.plan ≡ reduced (is_fetched less.fetches.items) (located (catalogue_of catalog.now) statement.now)) }
     // Each of its reads is one of the fetches.
     ensures fetched { IfOk result (λ less. EachRead (λ read. Contains less.fetches.items read) (shape less.plan)) }
     // Both sides of each union have the same columns.
     ensures uniform { IfOk result (λ less. IsUniform (shape less.plan)) }
 {
-    some_leaf_serves();
-    one_leaf_serves();
-    leaf_names_are_unique();
-    let _relations = catalog.relations();
     let fetches = statement_fetches(alloc, catalog, statement)?;
     let plan = pruned(alloc, plan, fetches.as_slice())?;
     Ok(Reduced { plan, fetches })
