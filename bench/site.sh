@@ -1,7 +1,7 @@
 #!/usr/bin/env bash
 # Times a site over lists: a fetch by key, and preparing and applying one write, with 2,500 and with 20,000 parts in
-# the leaf, for all its keys in turn, and with 10 and with 1,000 visits that have locks on another leaf. Fails where the
-# larger number costs more than 1.3 times the smaller, in time or, where valgrind is at hand, in instructions. How much
+# the leaf, for all its keys in turn, with 10 and with 1,000 visits that have locks on another leaf, and with 2 and with
+# 1,024 leaves at the site. Fails where the larger number costs more than 1.3 times the smaller, in time or, where valgrind is at hand, in instructions. How much
 # of a leaf a processor's nearer caches hold is in these times: on another processor they can be others. So two more
 # loads are told, without a limit: 500 keys from all over the leaf, whose parts stay in the caches at both sizes, and
 # all keys with something else in the nearer caches before each fetch and each write.
@@ -22,12 +22,15 @@ import tempfile
 TOP, MOST = sys.argv[1], 1.3
 # How often each load is timed, the least time counting, since other work on the machine only adds to it.
 ROUNDS, ROUNDS_TOLD = 100, 10
-# Parts, visits and keys, before and after; cold: the nearer caches are emptied before each fetch and each write.
-ALL_KEYS = {"20,000 parts for 2,500": ((2500, 10, 2500), (20000, 10, 20000))}
-PAIRS = {**ALL_KEYS, "1,000 visits for 10": ((2500, 10, 500), (2500, 1000, 500))}
+# Parts, visits, keys and leaves, before and after; cold: the nearer caches are emptied before each fetch and each write.
+ALL_KEYS = {
+    "20,000 parts for 2,500": ((2500, 10, 2500, 2), (20000, 10, 20000, 2)),
+    "1,024 leaves for 2": ((2500, 10, 500, 2), (2500, 10, 500, 1024)),
+}
+PAIRS = {**ALL_KEYS, "1,000 visits for 10": ((2500, 10, 500, 2), (2500, 1000, 500, 2))}
 TOLD = {
-    "20,000 parts for 2,500, 500 keys": ((2500, 10, 500), (20000, 10, 500)),
-    "20,000 parts for 2,500, cold": ((2500, 10, 2500, "cold"), (20000, 10, 20000, "cold")),
+    "20,000 parts for 2,500, 500 keys": ((2500, 10, 500, 2), (20000, 10, 500, 2)),
+    "20,000 parts for 2,500, cold": ((2500, 10, 2500, 2, "cold"), (20000, 10, 20000, 2, "cold")),
 }
 
 
@@ -40,7 +43,7 @@ def built(room):
     shutil.copy(f"{TOP}/bench/site/main.rt.in", f"{it}/crates/timed/src/main.rt")
     with open(f"{it}/crates.txt", "a") as crates:
         crates.write("timed: terms store protocol site anyhow\n")
-    ran = subprocess.run(["rt", "run", "--jobs", "1", "--", "10", "10", "10"], cwd=f"{it}/crates/timed", stdout=subprocess.PIPE, stderr=subprocess.STDOUT, text=True)
+    ran = subprocess.run(["rt", "run", "--jobs", "1", "--", "10", "10", "10", "2"], cwd=f"{it}/crates/timed", stdout=subprocess.PIPE, stderr=subprocess.STDOUT, text=True)
     if ran.returncode:
         sys.exit(f"rt run: status {ran.returncode}:\n{ran.stdout[-3000:]}")
     return f"{it}/crates/timed/out/timed"
