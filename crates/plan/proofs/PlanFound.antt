@@ -25,8 +25,8 @@ use Rattle.catalog.specs.Keyed.{row_at}
 use Rattle.plan.specs.declared.fetch.Fetch.{Fetch}
 use Rattle.plan.specs.declared.need.Need.{Need}
 use Rattle.plan.specs.declared.need.Needs.TheVariants.{One}
-use Rattle.plan.specs.Found.{columns_joined, found_of}
-use Rattle.plan.specs.Located.{IsLocated, IsOfNeed, IsOfNeeds, asked, width_of}
+use Rattle.plan.specs.Found.{asked, columns_joined, found_of}
+use Rattle.plan.specs.Located.{IsLocated, IsOfNeed, IsOfNeeds, width_of}
 use Rattle.plan.specs.Need.{key_is, need_of_select, needs, needs_of_select, places_to}
 use Rattle.plan.specs.Reduced.{FindsAll, GivesNeed, GivesNeeds, is_fetched, reduced}
 use Rattle.plan.specs.Rows.{rows}

@@ -10,9 +10,15 @@ use Rattle.meaning.specs.declared.statement.Statement.TheVariants as statement
 use Rattle.meaning.specs.Selected.{rows_read}
 use Rattle.meaning.specs.Whole.{Relations, rows_of}
 use Rattle.catalog.specs.Keyed.{row_at}
-use Rattle.plan.specs.Located.{asked}
-use Rattle.plan.specs.Need.{columns_read, places_to}
+use Rattle.plan.specs.Need.{columns_read, key_is, places_to}
 use Rattle.plan.specs.Rows.{Seen, seen_of}
+
+-- the conditions of a statement; an INSERT asks for its key
+abbrev pub asked : Statement → List Cond
+asked (statement.Select select) = select.conds
+asked (statement.Insert insert) = key_is insert.row ∷ []
+asked (statement.Update update) = update.conds
+asked (statement.Delete delete) = delete.conds
 
 -- the whole rows that a statement reads or may change
 abbrev pub rows_asked : Statement → Relations → List (List Value)

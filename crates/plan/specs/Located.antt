@@ -1,7 +1,6 @@
 -- The words of the code's own steps, which a reader may skip: the plan of a statement, column by column.
 use Rattle.std.specs.Prelude.{◌≡◌, ℕ, ◌&&◌, Bool, if◌then◌else◌, List, [], ◌∷◌, ◌++◌, filter, length, map}
 use Rattle.std.specs.List.{list_all}
-use Rattle.terms.specs.declared.cond.Cond.{Cond}
 use Rattle.meaning.specs.declared.statement.Statement.{Statement}
 use Rattle.meaning.specs.declared.statement.Statement.TheVariants as statement
 use Rattle.catalog.specs.declared.fragment_leaf.FragmentLeaf.{FragmentLeaf}
@@ -12,7 +11,8 @@ use Rattle.plan.specs.declared.need.Need.{Need}
 use Rattle.plan.specs.declared.need.Needs.{Needs}
 use Rattle.plan.specs.declared.need.Needs.TheVariants.{One, Joined}
 use Rattle.plan.specs.Fetch.{fetch_of}
-use Rattle.plan.specs.Need.{key_is, needs}
+use Rattle.plan.specs.Found.{asked}
+use Rattle.plan.specs.Need.{needs}
 use Rattle.plan.specs.Rows.{is_seen}
 use Rattle.plan.specs.Shape.{Shape, Empty, Fetch, Filter, Project, Union, KeyJoin, Lookup}
 use Rattle.plan.specs.Stated.{leaves_of}
@@ -59,13 +59,6 @@ IsOfNeed catalogue need plan = IsByColumns need (leaves_of catalogue need.relati
 abbrev pub IsOfNeeds : Catalogue → ℕ → Needs → Shape → Type 0
 IsOfNeeds catalogue width (One need) plan = IsOfNeed catalogue need plan
 IsOfNeeds catalogue width (Joined col need other) plan = (left : Shape) × (right : Shape) × (plan ≡ Lookup col width left right) × IsOfNeed catalogue need left × IsOfNeed catalogue other right
-
--- the conditions of a statement; an INSERT asks for its key
-abbrev pub asked : Statement → List Cond
-asked (statement.Select select) = select.conds
-asked (statement.Insert insert) = key_is insert.row ∷ []
-asked (statement.Update update) = update.conds
-asked (statement.Delete delete) = delete.conds
 
 -- how many columns the relation after FROM has
 abbrev pub width_of : Statement → ℕ
