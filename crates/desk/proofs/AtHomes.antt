@@ -64,22 +64,22 @@ within : (sites : List (List ℕ)) (place : ℕ) → place < length sites → sl
 within sites place below = slice_get-get_or sites place [] below ∙ ap Some (sym (unwrap_or-slice_get sites place []))
 
 module _ (db : Database) (of : IsOfCatalogue db) (n : ℕ) where
-  abbrev catalogue : Catalogue
-  catalogue = db.catalogue n
+  abbrev in_force : Catalogue
+  in_force = db.catalogue n
 
   abbrev all : List FragmentLeaf
-  all = catalogue_leaves catalogue
+  all = catalogue_leaves in_force
 
   abbrev at : Option FragmentLeaf → Option (List ℕ)
-  at found = option_and_then (λ leaf. slice_get catalogue.sites leaf.site) found
+  at found = option_and_then (λ leaf. slice_get in_force.sites leaf.site) found
 
   -- a leaf that is there is at a site
-  pub site_is : (name : Leaf) (leaf : FragmentLeaf) → leaf_named name all ≡ Some leaf → slice_get catalogue.sites leaf.site ≡ Some (home_in catalogue name)
+  pub site_is : (name : Leaf) (leaf : FragmentLeaf) → leaf_named name all ≡ Some leaf → slice_get in_force.sites leaf.site ≡ Some (home_in in_force name)
   site_is name leaf is =
-      let found = found_so (λ l. l.site < length catalogue.sites) (is_name_of name) all leaf (sited catalogue all refl (of.formed n)) is in
-      within catalogue.sites leaf.site found.0 ∙ ap (λ o. Some (unwrap_or (at o) [])) (sym is)
+      let found = found_so (λ l. l.site < length in_force.sites) (is_name_of name) all leaf (sited in_force all refl (of.formed n)) is in
+      within in_force.sites leaf.site found.0 ∙ ap (λ o. Some (unwrap_or (at o) [])) (sym is)
 
-  home_is : (name : Leaf) (leaf : FragmentLeaf) → leaf_named name all ≡ Some leaf → site_in catalogue name ≡ Some (home_in catalogue name)
+  home_is : (name : Leaf) (leaf : FragmentLeaf) → leaf_named name all ≡ Some leaf → site_in in_force name ≡ Some (home_in in_force name)
   home_is name leaf is = ap at is ∙ site_is name leaf is
 
   named : (write : Write) → is_leaf_in all (answers.leaf_of write) ≡ true → (leaf : FragmentLeaf) × (leaf_named (leaf_of write) all ≡ Some leaf)
@@ -87,26 +87,26 @@ module _ (db : Database) (of : IsOfCatalogue db) (n : ℕ) where
   named (writes.Del leaf key) is = any_found (is_name_of leaf) all is
 
   module _ (participants : List Participant) (those : sites_of participants ≡ db.sites) where
-    at_participant : (name : Leaf) (leaf : FragmentLeaf) → leaf_named name all ≡ Some leaf → list_any (is_at (home_in catalogue name)) participants ≡ true
-    at_participant name leaf is = participant_there participants leaf.site (home_in catalogue name) (ap (λ (ss : List (List ℕ)). slice_get ss leaf.site) (those ∙ of.sites n) ∙ site_is name leaf is)
+    at_participant : (name : Leaf) (leaf : FragmentLeaf) → leaf_named name all ≡ Some leaf → list_any (is_at (home_in in_force name)) participants ≡ true
+    at_participant name leaf is = participant_there participants leaf.site (home_in in_force name) (ap (λ (ss : List (List ℕ)). slice_get ss leaf.site) (those ∙ of.sites n) ∙ site_is name leaf is)
 
     -- each fetch has a participant
-    pub asks_participants : (need other : Need) (fetches : List Fetch) → AllByRecursion (IsEither all need other) fetches → HaveParticipants participants (ask_sites (map (ask_from catalogue) fetches))
+    pub asks_participants : (need other : Need) (fetches : List Fetch) → AllByRecursion (IsEither all need other) fetches → HaveParticipants participants (ask_sites (map (ask_from in_force) fetches))
     asks_participants need other [] each = tt
     asks_participants need other (fetch ∷ fetches) each = let there = located all need other fetch each.0 in (at_participant fetch.leaf there.0 there.1, asks_participants need other fetches each.1)
 
-    pub writes_participants : (list : List Write) → AllByRecursion (λ write. is_leaf_in all (answers.leaf_of write) ≡ true) list → HaveParticipants participants (write_sites (map (unsent_from catalogue) list))
+    pub writes_participants : (list : List Write) → AllByRecursion (λ write. is_leaf_in all (answers.leaf_of write) ≡ true) list → HaveParticipants participants (write_sites (map (unsent_from in_force) list))
     writes_participants [] each = tt
     writes_participants (write ∷ list) each = let there = named write each.0 in (at_participant (leaf_of write) there.0 there.1, writes_participants list each.1)
 
   -- each is of a leaf at its site
-  pub asks_home : (need other : Need) (fetches : List Fetch) → AllByRecursion (IsEither all need other) fetches → AsksAtHome db (map (ask_from catalogue) fetches)
+  pub asks_home : (need other : Need) (fetches : List Fetch) → AllByRecursion (IsEither all need other) fetches → AsksAtHome db (map (ask_from in_force) fetches)
   asks_home need other [] each = tt
   asks_home need other (fetch ∷ fetches) each =
       let there = located all need other fetch each.0 in
       (record { version = n; there = home_is fetch.leaf there.0 there.1 }, asks_home need other fetches each.1)
 
-  pub writes_home : (list : List Write) → AllByRecursion (λ write. is_leaf_in all (answers.leaf_of write) ≡ true) list → UnsentAtHome db (map (unsent_from catalogue) list)
+  pub writes_home : (list : List Write) → AllByRecursion (λ write. is_leaf_in all (answers.leaf_of write) ≡ true) list → UnsentAtHome db (map (unsent_from in_force) list)
   writes_home [] each = tt
   writes_home (write ∷ list) each =
       let there = named write each.0 in

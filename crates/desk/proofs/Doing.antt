@@ -192,8 +192,8 @@ module _ (db : Database) (n : ℕ) (txn : Txn) (u : Undecided) (site : List ℕ)
     abbrev given : List Ask
     given = map (with_rows (db.catalogue n) site rows.op rows.parts) reading.asks.items
 
-    home : AsksAtHome db reading.asks.items
-    home = subst (IsAtHome db) here known_in.1
+    reading_home : AsksAtHome db reading.asks.items
+    reading_home = subst (IsAtHome db) here known_in.1
 
     of_reading : IsPlanned db n (stage.Reading reading)
     of_reading = subst (IsPlanned db n) here known_in.2
@@ -230,7 +230,7 @@ module _ (db : Database) (n : ℕ) (txn : Txn) (u : Undecided) (site : List ℕ)
             placed = tt;
             within = (
               ap sites_of participants ∙ known_in.0,
-              subst (IsAtHome db) (sym now) (subst (AsksAtHome db) (sym items) (rows_home (db.catalogue n) site rows.op rows.parts db reading.asks.items home)),
+              subst (IsAtHome db) (sym now) (subst (AsksAtHome db) (sym items) (rows_home (db.catalogue n) site rows.op rows.parts db reading.asks.items reading_home)),
               subst (IsPlanned db n) (sym now) (version ∙ of_reading.0, subst (λ s. IsOfPlan db n s after.plan after.asks.items) (sym statement) (subst (λ p. IsOfPlan db n reading.statement p after.asks.items) (sym plan) (subst (IsOfPlan db n reading.statement reading.plan) (sym items) planned_given))),
             );
           }

@@ -64,62 +64,62 @@ fetched_in (first ∷ fetches) fetch (inr there) = go (same_leaf first.leaf fetc
     go false is = is
 
 module _ (db : Database) (of : IsOfCatalogue db) (n : ℕ) (unique : LeafNamesAreUnique) (stated : Statement) (reduced : Reduced) (asks : List Ask) (planned : IsOfPlan db n stated reduced asks) where
-  abbrev catalogue : Catalogue
-  catalogue = db.catalogue n
+  abbrev in_force : Catalogue
+  in_force = db.catalogue n
 
   abbrev all : List FragmentLeaf
-  all = catalogue_leaves catalogue
+  all = catalogue_leaves in_force
 
   abbrev fetches : List Fetch
   fetches = reduced.fetches.items
 
-  -- it is a statement of the catalogue's schema
-  pub stated_there : IsStatementOf (schemas_of catalogue) stated
+  -- it is a statement of the schema of the catalogue in force
+  pub stated_there : IsStatementOf (schemas_of in_force) stated
   stated_there = subst (λ schemas. IsStatementOf schemas stated) (of.schemas n) planned.statement
 
   pub known : AreOf all fetches
-  known = are_of catalogue unique (of.formed n) stated fetches stated_there planned.fetches
+  known = are_of in_force unique (of.formed n) stated fetches stated_there planned.fetches
 
   module _ (whole : Relations) (fits : FitsSchema db.schemas whole) (gives : Gives {L = language db} (n, whole) (map (ask_of db) asks)) where
     -- what a fetch is to bring
-    of_whole : (fetch : Fetch) → IsEither all known.need known.other fetch → parts fetch.conds (db.content n (placed_in catalogue fetch.leaf) whole) ≡ plan.brought whole fetch (leaf_named fetch.leaf all)
+    of_whole : (fetch : Fetch) → IsEither all known.need known.other fetch → parts fetch.conds (db.content n (placed_in in_force fetch.leaf) whole) ≡ plan.brought whole fetch (leaf_named fetch.leaf all)
     of_whole fetch is =
         let there = located all known.need known.other fetch is in
         let leaf = there.0 in
         let found = found_so (HasContent db n whole) (is_name_of fetch.leaf) all leaf (of.content n whole fits) there.1 in
-        let home = home_in catalogue fetch.leaf in
+        let home = home_in in_force fetch.leaf in
         ap (λ (name : Leaf). parts fetch.conds (db.content n (home, name) whole)) (sym (one_name leaf.name fetch.leaf found.1))
         ∙ ap (met fetch.conds) (found.0 home (site_is db of n fetch.leaf leaf there.1))
         ∙ sym (ap (plan.brought whole fetch) there.1)
 
     -- what was brought of a leaf that is among these
-    given_at : (asks : List Ask) (list : List Fetch) → map asked asks ≡ map (fetch_in catalogue) list → AllByRecursion (IsEither all known.need known.other) list → Gives {L = language db} (n, whole) (map (ask_of db) asks) →
-        (fetch : Fetch) → IsEither all known.need known.other fetch → is_fetched list fetch.leaf ≡ true → given (brought asks) fetch.leaf ≡ parts fetch.conds (db.content n (placed_in catalogue fetch.leaf) whole)
+    given_at : (asks : List Ask) (list : List Fetch) → map asked asks ≡ map (fetch_in in_force) list → AllByRecursion (IsEither all known.need known.other) list → Gives {L = language db} (n, whole) (map (ask_of db) asks) →
+        (fetch : Fetch) → IsEither all known.need known.other fetch → is_fetched list fetch.leaf ≡ true → given (brought asks) fetch.leaf ≡ parts fetch.conds (db.content n (placed_in in_force fetch.leaf) whole)
     given_at [] [] same each gives fetch is there = cc
     given_at [] (first ∷ list) same each gives fetch is there = cc
     given_at (ask ∷ asks) [] same each gives fetch is there = cc
     given_at (ask ∷ asks) (first ∷ list) same each gives fetch is there =
-        let head : asked ask ≡ fetch_in catalogue first = cc in
-        let place : (ask.site, ask.leaf) ≡ placed_in catalogue first.leaf = ap (λ (p : Place × List Cond). p.0) head in
+        let head : asked ask ≡ fetch_in in_force first = cc in
+        let place : (ask.site, ask.leaf) ≡ placed_in in_force first.leaf = ap (λ (p : Place × List Cond). p.0) head in
         let conds : ask.conds ≡ first.conds = ap (λ (p : Place × List Cond). p.1) head in
-        let rest : map asked asks ≡ map (fetch_in catalogue) list = cc in
+        let rest : map asked asks ≡ map (fetch_in in_force) list = cc in
         go ask.rows gives.0 place conds (same_leaf ask.leaf fetch.leaf) refl (ap (λ (p : Place). same_leaf p.1 fetch.leaf || is_fetched list fetch.leaf) place ∙ there) (given_at asks list rest each.1 gives.1 fetch is)
       where
-        go : (rows : Option (List (List Value))) → rows ≡ Some (parts ask.conds (db.content n (ask.site, ask.leaf) whole)) → (ask.site, ask.leaf) ≡ placed_in catalogue first.leaf → ask.conds ≡ first.conds → (b : Bool) → same_leaf ask.leaf fetch.leaf ≡ b → (same_leaf ask.leaf fetch.leaf || is_fetched list fetch.leaf) ≡ true →
-            (is_fetched list fetch.leaf ≡ true → given (brought asks) fetch.leaf ≡ parts fetch.conds (db.content n (placed_in catalogue fetch.leaf) whole)) →
-            given (cons_option (brought_by (record ask { rows = rows })) (brought asks)) fetch.leaf ≡ parts fetch.conds (db.content n (placed_in catalogue fetch.leaf) whole)
+        go : (rows : Option (List (List Value))) → rows ≡ Some (parts ask.conds (db.content n (ask.site, ask.leaf) whole)) → (ask.site, ask.leaf) ≡ placed_in in_force first.leaf → ask.conds ≡ first.conds → (b : Bool) → same_leaf ask.leaf fetch.leaf ≡ b → (same_leaf ask.leaf fetch.leaf || is_fetched list fetch.leaf) ≡ true →
+            (is_fetched list fetch.leaf ≡ true → given (brought asks) fetch.leaf ≡ parts fetch.conds (db.content n (placed_in in_force fetch.leaf) whole)) →
+            given (cons_option (brought_by (record ask { rows = rows })) (brought asks)) fetch.leaf ≡ parts fetch.conds (db.content n (placed_in in_force fetch.leaf) whole)
         go None is_rows place conds b e there more = cc
         go (Some rows) is_rows place conds true e there more =
             let name : ask.leaf ≡ fetch.leaf = one_name ask.leaf fetch.leaf e in
             let one : first ≡ fetch = same_fetch all known.need known.other first fetch known.apart each.0 is (sym (ap (λ (p : Place). p.1) place) ∙ name) in
             let rows_are : rows ≡ parts ask.conds (db.content n (ask.site, ask.leaf) whole) = cc in
             ap (λ b. if b then rows else given (brought asks) fetch.leaf) e
-            ∙ rows_are ∙ (λ i. parts (conds i) (db.content n (place i) whole)) ∙ ap (λ (f : Fetch). parts f.conds (db.content n (placed_in catalogue f.leaf) whole)) one
+            ∙ rows_are ∙ (λ i. parts (conds i) (db.content n (place i) whole)) ∙ ap (λ (f : Fetch). parts f.conds (db.content n (placed_in in_force f.leaf) whole)) one
         go (Some rows) is_rows place conds false e there more =
             ap (λ b. if b then rows else given (brought asks) fetch.leaf) e
             ∙ more (ap (λ b. b || is_fetched list fetch.leaf) (sym e) ∙ there)
 
-    pub are_brought : AreBrought catalogue whole fetches (given (brought asks))
+    pub are_brought : AreBrought in_force whole fetches (given (brought asks))
     are_brought = each_in (λ read. given (brought asks) read.leaf ≡ plan.brought whole read (leaf_named read.leaf all)) fetches
         (λ fetch there.
         let is = of_in (IsEither all known.need known.other) fetches fetch known.each there in
@@ -127,9 +127,9 @@ module _ (db : Database) (of : IsOfCatalogue db) (n : ℕ) (unique : LeafNamesAr
 
   -- the deed of the evaluation is explained
   pub explained : (t : Name) (answer : Answer) (list : List Write) →
-      ((whole : Relations) → FitsSchema (schemas_of catalogue) whole → AreBrought catalogue whole fetches (given (brought asks)) → answer ≡ (meaning stated whole).0) →
-      ((whole : Relations) → FitsSchema (schemas_of catalogue) whole → AreBrought catalogue whole fetches (given (brought asks)) → list ≡ writes_between catalogue whole (meaning stated whole).1) →
-      Explained {L = language db} (desk.Worked t (n, stated) (map (ask_of db) asks) (answer, map write_of (map (unsent_from catalogue) list)))
+      ((whole : Relations) → FitsSchema (schemas_of in_force) whole → AreBrought in_force whole fetches (given (brought asks)) → answer ≡ (meaning stated whole).0) →
+      ((whole : Relations) → FitsSchema (schemas_of in_force) whole → AreBrought in_force whole fetches (given (brought asks)) → list ≡ writes_between in_force whole (meaning stated whole).1) →
+      Explained {L = language db} (desk.Worked t (n, stated) (map (ask_of db) asks) (answer, map write_of (map (unsent_from in_force) list)))
   explained t answer list answers writes = (
     planned.statement,
     λ whole fits tag gives.
@@ -137,7 +137,7 @@ module _ (db : Database) (of : IsOfCatalogue db) (n : ℕ) (unique : LeafNamesAr
         let are = are_brought whole.1 fits (subst (λ (m : ℕ). Gives {L = language db} (m, whole.1) (map (ask_of db) asks)) (sym tag) gives) in
         let after = (meaning stated whole.1).1 in (
           answers whole.1 there are,
-          writes_are catalogue list ∙ ap (map (write_in catalogue)) (writes whole.1 there are) ∙ sym (of.writes n whole.1 after) ∙ ap (λ (m : ℕ). db.writes m whole.1 after) tag,
+          writes_are in_force list ∙ ap (map (write_in in_force)) (writes whole.1 there are) ∙ sym (of.writes n whole.1 after) ∙ ap (λ (m : ℕ). db.writes m whole.1 after) tag,
         ),
   )
 

@@ -310,9 +310,9 @@ fn start(
 
 /// Whether a transaction may state something: it is undecided, and between two statements.
 fn may_state(volatile: &Volatile, txn: &Txn) -> Result<(), Refusal>
-    ensures accepted { (db : Database) (stated : ℕ × StatementNow) → OnOk result (refusal (State stated) (txn_in db (volatile_of volatile.now) txn.now) ≡ None) }
+    ensures accepted { (db : Database) (statement : StatementNow) → OnOk result (refusal (State (volatile.now.version, statement)) (txn_in db (volatile_of volatile.now) txn.now) ≡ None) }
     ensures idle { OnOk result (option_map (λ found. found.stage) (open_in ((volatile_of volatile.now).standing txn.now)) ≡ Some stages.Idle) }
-    ensures told { (db : Database) (stated : ℕ × StatementNow) → IfErr result (λ told. option_map refused_as (refusal (State stated) (txn_in db (volatile_of volatile.now) txn.now)) ≡ Some told) }
+    ensures told { (db : Database) (statement : StatementNow) → IfErr result (λ told. option_map refused_as (refusal (State (volatile.now.version, statement)) (txn_in db (volatile_of volatile.now) txn.now)) ≡ Some told) }
     ensures own { result ≢ Err refusals.Full }
 {
     let Some(undecided) = undecided_of(volatile, txn) else {

@@ -34,7 +34,7 @@ returns-in-Ok-clause-ok c = λ db kept of same fits.
 pub returns-in_err-may_state-clause-told : goal.returns-in_err-may_state-clause-told
 returns-in_err-may_state-clause-told c = λ db.
     let is : c.from_residual-in_err-may_state.result ≡ Err c.in_err-may_state.field-0.0 = search rules in
-    told_by _ _ _ _ _ is (c.in_err-may_state.ensures.told db (c.args.volatile.now.version, c.args.statement.now))
+    told_by _ _ _ _ _ is (c.in_err-may_state.ensures.told db c.args.statement.now)
 
 pub returns-in-Err-clause-full : goal.returns-in-Err-clause-full
 returns-in-Err-clause-full c = λ db kept of same fits full.

@@ -21,12 +21,12 @@ returns-clause-ok c = λ db kept of same fits.
 
 pub returns-clause-told : goal.returns-clause-told
 returns-clause-told c = λ db other.
-    ran_told c.call_run.result _ _ _ _ _ (c.in_ok-may_state.ensures.accepted db (c.args.volatile.now.version, c.in_ok-statement.statement)) (c.in_ok-may_state.ensures.accepted db (c.args.volatile.now.version, other)) (c.call_run.ensures.told db)
+    ran_told c.call_run.result _ _ _ _ _ (c.in_ok-may_state.ensures.accepted db c.in_ok-statement.statement) (c.in_ok-may_state.ensures.accepted db other) (c.call_run.ensures.told db)
 
 pub returns-in_err-may_state-clause-told : goal.returns-in_err-may_state-clause-told
 returns-in_err-may_state-clause-told c = λ db statement.
     let is : c.from_residual.result ≡ Err c.in_err-may_state.field-0.0 = search rules in
-    told_by _ _ _ _ _ is (c.in_err-may_state.ensures.told db (c.args.volatile.now.version, statement))
+    told_by _ _ _ _ _ is (c.in_err-may_state.ensures.told db statement)
 
 pub returns-clause-full : goal.returns-clause-full
 returns-clause-full c = λ db kept of same fits full.
