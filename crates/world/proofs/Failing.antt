@@ -33,7 +33,7 @@ use Rattle.world.specs.Counted.{HaveRefused, NoFewer}
 use Rattle.world.specs.Fault.{FailsFor, is_memory}
 use Rattle.world.specs.Machines.{AreFit, Machines}
 use Rattle.world.specs.Settled.{AreDecided, AreThoseOf, brought_of}
-use Rattle.desk.specs.Place.{home_in}
+use Rattle.desk.specs.Place.{Place, home_in}
 use Rattle.world.proofs.DatabasePlaces.{home_there}
 use Rattle.world.proofs.DatabaseIsHoused.{housed, parts_fit}
 use Rattle.world.proofs.Counting.{refused_since}
@@ -76,7 +76,7 @@ module _ (catalogue : Catalogue) (base : IsBase (database catalogue)) (unique : 
       let all = catalogue_leaves catalogue in
       let leaf = is.leaf in
       let home = home_in catalogue leaf.name in
-      let place = (home, leaf.name) in
+      let place : Place = (home, leaf.name) in
       let house = housed catalogue (base.of_catalogue.formed 0) unique ascend 0 in
       let there : leaf_named fetch.leaf all ≡ Some leaf = ap (λ (f : Fetch). leaf_named f.leaf all) is.is ∙ is.here.unique in
       let own : leaf_named leaf.name all ≡ Some leaf = is.here.unique in

@@ -2,7 +2,6 @@
 use Rattle.world.proofs.Leaves.{leaves_still}
 use Rattle.std.proofs.Common.{ℕ, List, ◌++◌, ◌∷◌, [], ◌∙◌, refl, sym, ap, subst, true, IfErr, IfOk}
 use Rattle.catalog.specs.Catalogue.{Catalogue}
-use Rattle.reader.specs.Printable.{AreDistinct}
 use Rattle.protocol.specs.World.{Desk_restarts, desk_restarts}
 use Rattle.world.specs.declared.event.Event as events
 use Rattle.world.specs.declared.event.Event.TheVariants as event
@@ -14,7 +13,7 @@ use Rattle.world.specs.Runs.{Spares, StepsOn, entry_of}
 use Rattle.world.proofs.CallsKept.{any_ok}
 use Rattle.world.proofs.SiteSteps.{if_ok_too}
 use Rattle.world.proofs.Refusals.{by_desk_err, call_refused, desk_refused}
-use Rattle.world.proofs.Running.{by_desk_ok, runs_on}
+use Rattle.world.proofs.Running.{over_of, by_desk_ok, runs_on}
 use Rattle.world.proofs.Told.{desk_restarts_silent, silent_step}
 use Rattle.world.proofs.machines.apply_event.Goals as goal
 
@@ -36,7 +35,7 @@ returns-in-DeskRestarts-clause-ok g c = λ db whole past of is clean sound so.
     subst (λ (what : events.Event). IfOk c.by_desk-in-DeskRestarts.result (λ out. StepsOn db whole before after entries (entries ++ entry_of what out ∷ []) past)) (sym c.in-DeskRestarts.is)
     (by_desk_ok (λ out. StepsOn db whole before after entries (entries ++ entry_of what out ∷ []) past) c.restart.result c.by_desk-in-DeskRestarts.result c.by_desk-in-DeskRestarts.ensures
     (if_ok_too c.restart.result (λ out kept_so leads. runs_on db whole before after entries past what out desk_restarts (Desk_restarts true) so leads refl (ap Desk_restarts (sym kept_so)) refl
-    (silent_step db before after out.letters out.replies what desk_restarts leads refl refl (desk_restarts_silent (world_of db before [] []) refl))) c.restart.ensures.called (c.restart.ensures.ok db (record { sites = of.sites _ ∙ ap (λ (cat : Catalogue). cat.sites) is; distinct = subst AreDistinct (sym (of.sites _)) (of.formed _).distinct }) clean sound so.fit)))
+    (silent_step db before after out.letters out.replies what desk_restarts leads refl refl (desk_restarts_silent (world_of db before [] []) refl))) c.restart.ensures.called (c.restart.ensures.ok db (over_of db _ c.args.machines.now.desk.catalog of is) clean sound so.fit)))
 
 pub returns-in-Call-clause-refused : goal.returns-in-Call-clause-refused
 returns-in-Call-clause-refused g c = λ db of is fit.
