@@ -29,7 +29,8 @@ module _ (db : Database) (whole : Relations) where
     fit = still.fit;
   }
 
-  nothing_more : (machines : Machines) (past : List (Deed (language db))) → IsServed db whole machines past → IsServed db whole machines (past ++ [])
+  -- so they are where nothing more happens
+  pub nothing_more : (machines : Machines) (past : List (Deed (language db))) → IsServed db whole machines past → IsServed db whole machines (past ++ [])
   nothing_more machines past served = subst (IsServed db whole machines) (sym (append-nil past)) served
 
   module _ (law : ReachedLaw (language db)) where

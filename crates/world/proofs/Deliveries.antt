@@ -111,18 +111,6 @@ module _ (db : Database) (step : World (language db) → World (language db)) (f
     explained = all_both Explained one.deeds other.deeds one.explained other.explained;
   }
 
-  -- what has gone well may also be said of a break
-  pub goes_breaks : Breaks db step first second.machines
-  goes_breaks = record {
-    comings = one.comings;
-    deeds = one.deeds;
-    left = map (sent db) second.waiting;
-    fit = one.fit;
-    is = one.is;
-    version = one.version;
-    explained = one.explained;
-  }
-
 -- a letter of some rank leaves some rank
 one_left : (rank n : ℕ) → 2 ≤ rank → rank ≤ suc n → 1 ≤ n
 one_left rank n two few = omega arith
@@ -219,10 +207,6 @@ module _ (db : Database) (ask : Ask (language db)) (before mid : Machines) (out 
 
   pub call_fails : AsksForNow db before.table.version ask → (after : Machines) → Breaks db (λ w. w) (put_out_by mid out) after → Fails db before after
   call_fails now after breaks = inr (ask, now, then_breaks db (asked ask) (at_rest before) (put_out_by mid out) called_goes after breaks)
-
--- a call that went well may be said of as one that failed
-pub serves_fails : (db : Database) (ask : Ask (language db)) (before after : Machines) (heard : List Notice) → AsksForNow db before.table.version ask → Serves db ask before after heard → Fails db before after
-serves_fails db ask before after heard now serves = inr (ask, now, record { comings = serves.comings; deeds = serves.deeds; left = []; fit = serves.fit; is = serves.is; version = serves.version; explained = serves.explained })
 
 -- ---- rounds
 pub all_in_round : (db : Database) (n count : ℕ) (here : Scene) → count ≡ length here.waiting → RanksUnder (suc n) (world_at db here) → IsInRound db n count here

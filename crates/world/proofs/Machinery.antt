@@ -168,10 +168,6 @@ with_seats machines seats = record { desk = machines.desk; table = machines.tabl
 
 -- ---- something is done at a site
 module _ (db : Database) (before : Machines) (seat : Seat) (after : List Seat) (out : List letters.Letter) (fit : AreFit db before) where
-  -- a site's step
-  abbrev steps_to : World (language db) → List ℕ → SiteState (language db) → List (Letter (language db)) → World (language db)
-  steps_to w name new put = site_steps w name new put
-
   module _ (name : List ℕ) (new : Seat) (moves : Moves name seat new before.seats after) where
     stepped : (waiting : List (Letter (language db))) (past : List (Deed (language db))) (put : List (Letter (language db))) → site_steps (world_of db before waiting past) name (state_at (statements db) new) put ≡ world_of db (with_seats before after) (waiting ++ put) (past ++ [])
     stepped waiting past put =

@@ -47,7 +47,3 @@ module _ (db : Database) where
   pub placed_both : (one other : List letters.Letter) → AreOfPlaces db one → AreOfPlaces db other → AreOfPlaces db (one ++ other)
   placed_both [] other first second = second
   placed_both (l ∷ one) other first second = (first.0, placed_both one other first.1 second)
-
-  pub placed_behind : (one other : List letters.Letter) → AreOfPlaces db (one ++ other) → AreOfPlaces db other
-  placed_behind [] other both = both
-  placed_behind (l ∷ one) other both = placed_behind one other both.1

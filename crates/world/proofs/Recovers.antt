@@ -27,8 +27,8 @@ use Rattle.protocol.specs.Recovery.{AtRest, EndsRow, Hears, OfRecovery, Recoveri
 use Rattle.protocol.specs.Serial.{AllExplained, committed, statement_in, statements_of}
 use Rattle.protocol.specs.Site.{Status, Dead, SiteState, inquiries, is_active, is_dead, is_prepared}
 use Rattle.protocol.specs.Site as site_status
+use Rattle.protocol.specs.Catalogues as catalogues
 use Rattle.protocol.specs.Catalogues.{Catalogues, letter_at, status_at}
-use Rattle.protocol.specs.Catalogues.{listed as with_places}
 use Rattle.protocol.specs.VisitPlaces.{at}
 use Rattle.protocol.specs.World.{World, desk_lives, desk_restarts, inquires, is_site}
 use Rattle.protocol.proofs.Basics.{Every, clash, either_if, every_flat, or_left, or_right, or_none_left, or_none_right}
@@ -61,7 +61,7 @@ use Rattle.world.proofs.Waking.{OneEach, one_each, seat_behind}
 -- ---- what a site is as it comes up
 module _ (S : Catalogues local) where
   -- no visit stands, and what stands is listed
-  pub record Rests (s : SiteState (with_places local S)) : Type 0 where
+  pub record Rests (s : SiteState (catalogues.listed local S)) : Type 0 where
     pub unvisited : (k : Name) → is_active (s.status k) ≡ false
     pub listed : (k : Name) → is_dead (s.status k) ≡ false → In k s.known
 
@@ -230,9 +230,6 @@ module _ (db : Database) where
     state_there (statements db) seat.name (done ++ seat ∷ rest) seat (seat_behind seat.name done seat rest each.0 (name_self seat.name)),
     subst (λ (seats : List Seat). AllByRecursion (λ s. states_of (statements db) seats s.name ≡ state_at (statements db) s) rest) (append_assoc done (seat ∷ []) rest) (own_states (done ++ seat ∷ []) rest each.1),
   )
-
-  asks_of : Seat → List (Letter L)
-  asks_of seat = inquiries seat.name (state_at (statements db) seat)
 
   module _ (machines : Machines) (past : List (Deed L)) where
     asked_is : (rest : List Seat) (waiting : List (Letter L)) → AllByRecursion (λ seat. states_of (statements db) machines.seats seat.name ≡ state_at (statements db) seat) rest →

@@ -4,8 +4,9 @@ use Rattle.catalog.specs.declared.relation.SplitRelation.{SplitRelation}
 use Rattle.desk.specs.Database.{language}
 use Rattle.desk.specs.OfCatalogue.{IsOfCatalogue}
 use Rattle.protocol.specs.Client.{ReachedLaw}
-use Rattle.std.proofs.Common.{List, ℕ, refl, subst}
+use Rattle.std.proofs.Common.{List, [], ℕ, refl, subst}
 use Rattle.world.proofs.Calls.{leaves_of}
+use Rattle.world.proofs.Deeds.{nothing_more}
 use Rattle.world.proofs.Leaves.{leaves_still}
 use Rattle.world.proofs.Outcomes.{executed}
 use Rattle.desk.specs.CatalogueDatabase.{database, fits}
@@ -41,3 +42,8 @@ returns-clause-inside g c = λ txn going some spelled. c.command-done.ensures.in
 
 pub returns-clause-blames : goal.returns-clause-blames
 returns-clause-blames g c = λ going clean sound. c.command-done.ensures.comes.blames clean sound
+
+pub returns-in-Some-clause-served : goal.returns-in-Some-clause-served
+returns-in-Some-clause-served g c = λ whole past clean sound served.
+    let db = database (catalogue_of c.args.self.now.machines.desk.catalog) in
+    ([], nothing_more db whole (counted g.D.DeskStore.kept g.S.SiteStore.kept g.D.DeskStore.refused g.S.SiteStore.refused c.args.self.now.machines) past served)

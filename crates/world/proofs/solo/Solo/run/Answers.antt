@@ -1,6 +1,7 @@
 -- Why `run` meets its contract.
+use Rattle.world.proofs.Deeds.{nothing_more}
 use Rattle.world.proofs.Leaves.{leaves_still}
-use Rattle.std.proofs.Common.{◌≡◌, List, ℕ, refl, subst}
+use Rattle.std.proofs.Common.{◌≡◌, List, [], ℕ, refl, subst}
 use Rattle.catalog.specs.declared.relation.SplitRelation.{SplitRelation}
 use Rattle.catalog.specs.Relation.{catalogue_of}
 use Rattle.protocol.specs.Client.{ReachedLaw}
@@ -74,3 +75,13 @@ returns-in-Some-clause-leaves g c = leaves_still g.D.DeskStore.is_clean g.S.Site
 
 pub returns-then-is_some-clause-leaves : goal.returns-then-is_some-clause-leaves
 returns-then-is_some-clause-leaves g c = leaves_still g.D.DeskStore.is_clean g.S.SiteStore.is_clean g.D.DeskStore.is_sound g.S.SiteStore.is_sound g.D.DeskStore.refused g.S.SiteStore.refused c.args.self.now.machines
+
+pub returns-in-Some-clause-served : goal.returns-in-Some-clause-served
+returns-in-Some-clause-served g c = λ whole past clean sound served.
+    let db = database (catalogue_of c.args.self.now.machines.desk.catalog) in
+    ([], nothing_more db whole (counted g.D.DeskStore.kept g.S.SiteStore.kept g.D.DeskStore.refused g.S.SiteStore.refused c.args.self.now.machines) past served)
+
+pub returns-then-is_some-clause-served : goal.returns-then-is_some-clause-served
+returns-then-is_some-clause-served g c = λ whole past clean sound served.
+    let db = database (catalogue_of c.args.self.now.machines.desk.catalog) in
+    ([], nothing_more db whole (counted g.D.DeskStore.kept g.S.SiteStore.kept g.D.DeskStore.refused g.S.SiteStore.refused c.args.self.now.machines) past served)
