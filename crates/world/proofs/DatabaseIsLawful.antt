@@ -1,5 +1,5 @@
 -- The database of a catalogue is that of the catalogue, and its language is lawful.
-use Rattle.std.proofs.Common.{◌≡◌, refl, sym, ap, ◌∙◌, ℕ, List, [], ◌∷◌, map, Option, Some, None}
+use Rattle.std.proofs.Common.{◌≡◌, refl, ap, ◌∙◌, ℕ, List, [], ◌∷◌, map, Option, Some, None}
 use Rattle.std.specs.FinMap as fin
 use Rattle.std.specs.List.{AllByRecursion, slice_get}
 use Rattle.meaning.specs.Whole.{FitsSchema, Relations, rows_of}

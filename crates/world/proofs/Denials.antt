@@ -3,7 +3,6 @@ use Rattle.std.proofs.Common.{◌≡◌, ◌≢◌, refl, sym, ap, ◌∙◌, su
 use Rattle.std.specs.Option.{option_map}
 use Rattle.meaning.specs.declared.schema.RelationSchema.{RelationSchema}
 use Rattle.meaning.specs.declared.statement.Statement.{Statement}
-use Rattle.catalog.specs.FragmentLeaf.{schemas_of}
 use Rattle.reader.specs.declared.command.Command.{Command}
 use Rattle.reader.specs.declared.command.Command.TheVariants.{Begin, Commit, Rollback as Rollback_command, Run}
 use Rattle.reader.specs.declared.fault.Rule.TheVariants as rules
@@ -14,7 +13,6 @@ use Rattle.store.specs.Content.{Content}
 use Rattle.store.specs.declared.name.Txn.{Txn}
 use Rattle.protocol.specs.Desk.{Commit_call, Deed, Idle, Request, Rollback, State, refusal, refusal_at}
 use Rattle.protocol.specs.Letters.{txn_name}
-use Rattle.protocol.specs.WithoutRefusal.{Ready}
 use Rattle.desk.specs.declared.refusal.Refusal as refusals
 use Rattle.desk.specs.declared.refusal.Refusal.TheVariants as told_as
 use Rattle.desk.specs.Request.{refused_as, txn_in}

@@ -1,5 +1,5 @@
 -- The relations that a serial run makes, and what is shown of them.
-use Rattle.std.proofs.Common.{◌≡◌, refl, ℕ, List, [], ◌∷◌, map, Option, Result, Ok, Err, IfOk}
+use Rattle.std.proofs.Common.{◌≡◌, ℕ, List, [], ◌∷◌, map, Option, Result, Ok, Err, IfOk}
 use Rattle.std.specs.List.{AllByRecursion}
 use Rattle.terms.specs.declared.value.Value.{Value}
 use Rattle.meaning.specs.declared.statement.Statement.{Statement}

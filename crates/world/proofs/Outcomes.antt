@@ -3,7 +3,6 @@ use Rattle.std.proofs.Common.{◌≡◌, sym, ap, ◌∙◌, subst, ℕ, true, L
 use Rattle.meaning.specs.declared.answer.Answer.{Answer as AnswerNow}
 use Rattle.meaning.specs.declared.statement.Statement.{Statement}
 use Rattle.meaning.specs.Whole.{Relations}
-use Rattle.catalog.specs.FragmentLeaf.{schemas_of}
 use Rattle.reader.specs.declared.command.Command.TheVariants.{Run}
 use Rattle.reader.specs.Command.{IsTextOf, OneCommandOfText}
 use Rattle.store.specs.Content.{Content}

@@ -26,7 +26,7 @@ use Rattle.meaning.proofs.ListedLemmas.{listed_all}
 use Rattle.catalog.specs.declared.fragment_leaf.FragmentLeaf.{FragmentLeaf}
 use Rattle.catalog.specs.Catalogue.{Catalogue, SplitRelation}
 use Rattle.catalog.specs.Formed.{IsFormed, IsFormedRelation}
-use Rattle.catalog.specs.FragmentLeaf.{catalogue_leaves, is_name_of, leaf_named, schemas_of}
+use Rattle.catalog.specs.FragmentLeaf.{catalogue_leaves, leaf_named, schemas_of}
 use Rattle.catalog.specs.Laws.{LeafNamesAreUnique}
 use Rattle.plan.specs.declared.fetch.Fetch.{Fetch}
 use Rattle.plan.specs.declared.reduce.Reduced.{Reduced}

@@ -9,7 +9,6 @@ use Rattle.store.specs.declared.name.Txn as names
 use Rattle.reader.specs.Printable.{AreDistinct}
 use Rattle.catalog.specs.declared.relation.SplitRelation.{SplitRelation}
 use Rattle.catalog.specs.Catalogue.{Catalogue}
-use Rattle.catalog.specs.Relation.{catalogue_of}
 use Rattle.protocol.specs.Desk.{Choice, Deed, Request}
 use Rattle.protocol.specs.Language.{Lang}
 use Rattle.protocol.specs.Letter.{Letter, is_for_desk}

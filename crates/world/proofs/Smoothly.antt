@@ -1,7 +1,6 @@
 -- What served machines do where all letters come smoothly.
 use Rattle.std.proofs.Common.{◌≡◌, refl, sym, ap, ◌∙◌, subst, Bool, true, false, List, [], ◌∷◌, ◌++◌, map, ℕ, ◌⊎◌, inl, inr, ⊎_elim}
 use Rattle.std.specs.List.{filter_map}
-use Rattle.terms.specs.declared.leaf.Leaf.{Leaf}
 use Rattle.store.specs.Content.{Content}
 use Rattle.meaning.specs.Whole.{Relations}
 use Rattle.protocol.specs.Client.{IsQuiet, IsReached, first}

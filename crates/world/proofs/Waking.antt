@@ -26,7 +26,7 @@ use Rattle.world.specs.declared.sites.SiteAction.TheVariants.{Restart}
 use Rattle.world.specs.Machines.{AreFit, Leads, Machines, world_of}
 use Rattle.world.specs.Recovery.{AllWake, ComeUp, ComingUpLaw, Wakes, lost_by}
 use Rattle.world.specs.Seated.{SomeSeatDoes}
-use Rattle.world.specs.Sites.{IsSeated, Seat, is_called, reseated, seat_of, state_at, states_of}
+use Rattle.world.specs.Sites.{IsSeated, Seat, is_called, reseated, seat_of, states_of}
 use Rattle.world.proofs.Machinery.{done_leads, with_seats}
 use Rattle.world.proofs.Reasoned.{no_choice}
 use Rattle.world.proofs.Seating.{name_is, name_self}

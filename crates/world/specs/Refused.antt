@@ -7,7 +7,6 @@ use Rattle.store.specs.declared.letter.Letter.{Letter}
 use Rattle.site.specs.declared.fault.SiteFault as site_faults
 use Rattle.site.specs.declared.fault.SiteFault.TheVariants as site_fault
 use Rattle.meaning.specs.declared.statement.Statement.{Statement}
-use Rattle.catalog.specs.FragmentLeaf.{schemas_of}
 use Rattle.protocol.specs.Desk.{Commit_call, Rollback, State, desk_began, is_desk_within, refusal}
 use Rattle.desk.specs.declared.refusal.Refusal as refusals
 use Rattle.desk.specs.declared.refusal.Refusal.TheVariants as refusal_of

@@ -4,7 +4,6 @@ use Rattle.world.proofs.InForce.{in_force_on}
 use Rattle.std.proofs.Common.{◌∙◌, ◌+◌, ◌++◌, ◌∷◌, List, [], refl, sym, ap, subst, take, arith, Ok, Err}
 use Rattle.std.specs.Prelude.{⊤}
 use Rattle.std.proofs.lemmas.List.{take_all}
-use Rattle.catalog.specs.Relation.{catalogue_of}
 use Rattle.world.specs.declared.transaction.Outcome as outcomes
 use Rattle.world.specs.declared.transaction.Transaction.{Transaction}
 use Rattle.world.specs.Batch.{RunsAll, RunsOne}

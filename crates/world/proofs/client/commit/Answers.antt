@@ -1,5 +1,5 @@
 -- Why `commit` meets its contract.
-use Rattle.std.proofs.Common.{rules, List, ◌∙◌, sym, ap, inl, Err}
+use Rattle.std.proofs.Common.{rules, List, inl, Err}
 use Rattle.protocol.specs.Desk.{Commit_call}
 use Rattle.protocol.specs.Letters.{txn_name}
 use Rattle.desk.specs.Database.{language}

@@ -1,5 +1,5 @@
 -- Why `greet` meets its contract.
-use Rattle.std.proofs.Common.{rules, List, ◌∙◌, sym, ap, inl}
+use Rattle.std.proofs.Common.{rules, List, inl}
 use Rattle.desk.specs.Database.{language}
 use Rattle.desk.specs.declared.reply.Notice.{Notice}
 use Rattle.world.specs.Counted.{counts}

@@ -1,8 +1,7 @@
 -- Why `deliver_one` meets its contract.
 use Rattle.desk.specs.Request.{IsOver}
 use Rattle.catalog.specs.declared.relation.SplitRelation.{SplitRelation}
-use Rattle.std.proofs.Common.{rules, ◌∙◌, sym, ap, subst, IfSome, Option, ℕ, List}
-use Rattle.catalog.specs.Relation.{catalogue_of}
+use Rattle.std.proofs.Common.{rules, ◌∙◌, sym, subst, IfSome, Option, ℕ, List}
 use Rattle.world.specs.Counted.{counts}
 use Rattle.world.specs.Contents.{counted, held}
 use Rattle.world.specs.Machines.{AreFit}

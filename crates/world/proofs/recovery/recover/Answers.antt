@@ -1,5 +1,5 @@
 -- Why `recover` meets its contract.
-use Rattle.std.proofs.Common.{◌++◌, true, sym, ap, ◌∙◌, subst, map, refl}
+use Rattle.std.proofs.Common.{◌++◌, true, sym, ◌∙◌, subst, map, refl}
 use Rattle.std.specs.List.{AllByRecursion, flat_map}
 use Rattle.protocol.specs.Letters.{letter_of}
 use Rattle.protocol.specs.Site.{inquiries}

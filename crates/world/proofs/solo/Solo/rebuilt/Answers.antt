@@ -1,5 +1,5 @@
 -- Why `Solo::rebuilt` meets its contract.
-use Rattle.std.proofs.Common.{subst, []}
+use Rattle.std.proofs.Common.{subst}
 use Rattle.catalog.specs.Relation.{catalogue_of}
 use Rattle.protocol.specs.Client.{ReachedLaw}
 use Rattle.desk.specs.Database.{language}
