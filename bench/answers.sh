@@ -1,7 +1,7 @@
 #!/usr/bin/env bash
 # Times a statement from its plan to its writes, by a small program, bench/answers/main.rt.in, over files that this script
 # makes: `localize` and `reduce` at the limits, `evaluate` and `finish` at growing numbers of rows and of leaves, and a
-# change of one row. Then it refuses each allocation of that program, from the catalogue to the writes, on a join and on
+# change of one row; and it counts the steps of unions over 32 leaves, of joins of 64 fragments and of look-ups. Then it refuses each allocation of that program, from the catalogue to the writes, on a join and on
 # an update. It proves and builds the program in a copy of the crates below it with the work that earlier checks kept, so
 # check these first; that takes some ten minutes.
 #
@@ -64,7 +64,7 @@ def timed(statement, rows, leaves):
         ran = subprocess.run([PROGRAM, catalogue(leaves), statement, parts(rows, leaves), "time"], stdout=subprocess.PIPE)
         if ran.returncode:
             sys.exit(f"{statement}: status {ran.returncode}")
-        _, _, first, second, count = map(int, ran.stdout.split())
+        _, _, first, second, count, _ = map(int, ran.stdout.split())
         evaluated.append(first)
         finished.append(second - first)
     return min(evaluated), min(finished), count
@@ -127,6 +127,44 @@ for name, statement in STATEMENTS.items():
 series([f"SELECT, {leaves} leaves" for leaves in (2, 8, 32)], (timed(STATEMENTS["SELECT"], 20000, leaves) for leaves in (2, 8, 32)), 4)
 # A change of one row doesn't look at the others.
 series([f"UPDATE by key over {rows} rows" for rows in SIZES], (timed("UPDATE t SET part = part + 1 WHERE id = 7", rows, 8) for rows in SIZES), 4)
+
+
+def split(leaves):
+    """Two relations of the same columns in so many leaves each, by their column `part`."""
+    bounds = ["part < 1"] + [f"part = {n}" for n in range(1, leaves - 1)] + [f"part >= {leaves - 1}"]
+    rows = ", ".join(f"{{ where = '{text}', site = 'here' }}" for text in bounds)
+    how = f"rows = [{rows}]" if leaves > 1 else "site = 'here'"
+    path = f"{ROOM}/split{leaves}"
+    with open(path, "w") as it:
+        it.write("sites = ['here']\n" + "".join(f"relations.{name} = {{ columns = ['id int', 'part int', 'other int', 'note text'], {how} }}\n" for name in "tu"))
+    return path
+
+
+def split_parts(rows, leaves):
+    """The parts of so many rows of both; neighbours by the key are in different leaves, and each has a partner."""
+    path = f"{ROOM}/split_parts{rows}-{leaves}"
+    with open(path, "w") as it:
+        for name in "tu":
+            for leaf in range(leaves):
+                it.writelines(f"{name}.{leaf + 1} {key}, {leaf}, {rows - 1 - key}, note {key}\n" for key in range(leaf, rows, leaves))
+    return path
+
+
+# The steps that putting rows together takes: a union of 32 leaves compares each row at each of five halvings at most, a key
+# join each row of both sides once, and a look-up puts each row of the one side into its map and looks up each of the other.
+for name, statement, leaves, most in (
+    ("a look-up", "SELECT t.id, u.note FROM t JOIN u ON t.other = u.id", 1, 2),
+    ("a union of 32 leaves", "SELECT note FROM t", 32, 5),
+    ("all columns of 32 leaves", "SELECT * FROM t", 32, 19),
+    ("a join of 64 fragments", "SELECT t.id, u.note FROM t JOIN u ON t.other = u.id", 32, 12),
+):
+    for rows in (2500, 20000):
+        ran = subprocess.run([PROGRAM, split(leaves), statement, split_parts(rows, leaves), "time"], stdout=subprocess.PIPE)
+        if ran.returncode:
+            sys.exit(f"{statement}: status {ran.returncode}")
+        _, _, took, _, count, steps = map(int, ran.stdout.split())
+        failed = failed or count != rows or steps > most * rows
+        print(f"{name + f', {rows} rows':38} {steps:8} steps, {steps / rows:6.3f} a row, at most {most}  {took / 1000:9.3f} ms{' TOO MANY' if steps > most * rows else ''}", flush=True)
 sys.exit(1 if failed else 0)
 PYTHON
 cat > "$room/parts" <<'PARTS'

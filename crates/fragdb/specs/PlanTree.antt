@@ -1,5 +1,6 @@
 -- What the program shows of a statement's plan as a tree.
 use Rattle.std.specs.Prelude.{◌≡◌, ℕ, if◌then◌else◌, List, [], ◌∷◌, ◌++◌, Option, Some, None, codes, length, map}
+use Rattle.std.specs.List.{Contains}
 use Rattle.meaning.specs.declared.schema.Column.{Column}
 use Rattle.meaning.specs.declared.schema.RelationSchema.{RelationSchema}
 use Rattle.meaning.specs.declared.statement.Join.{Join}
@@ -8,9 +9,9 @@ use Rattle.meaning.specs.declared.statement.Statement.TheVariants as statement
 use Rattle.catalog.specs.Catalogue.{Catalogue}
 use Rattle.catalog.specs.FragmentLeaf.{schemas_of}
 use Rattle.plan.specs.declared.fetch.Fetch.{Fetch}
-use Rattle.plan.specs.Located.{located}
-use Rattle.plan.specs.Reduced.{is_fetched, reduced}
+use Rattle.plan.specs.Reduced.{FindsAll}
 use Rattle.plan.specs.Stated.{AreFetchesOf}
+use Rattle.plan.specs.Uniform.{EachRead}
 use Rattle.fragdb.specs.Columns.{columns_of}
 use Rattle.fragdb.specs.FetchLine.{count_line}
 use Rattle.plan.specs.Shape.{Shape}
@@ -41,8 +42,11 @@ statement_columns relations (statement.Delete delete) = columns_of relations del
 abbrev pub tree_lines : Catalogue → List Column → Shape → List ℕ
 tree_lines catalogue columns plan = if reads_nothing plan then line [] (codes "nothing") else plan_lines catalogue columns Nothing [] plan
 
--- The text of the plan of a statement as a tree: of its plan without the reads of leaves that it can't need, and how many fetches there are.
+-- The text of a plan of a statement as a tree, of one that reads the fetches alone and finds what the statement is to find; and how many fetches there are.
 pub record IsPlanTree (catalogue : Catalogue) (statement : Statement) (text : List ℕ) : Type 0 where
   pub fetches : List Fetch
   pub are : AreFetchesOf catalogue statement fetches
-  pub same : text ≡ tree_lines catalogue (statement_columns (schemas_of catalogue) statement) (reduced (is_fetched fetches) (located catalogue statement)) ++ count_line (length fetches)
+  pub plan : Shape
+  pub finds : FindsAll catalogue statement fetches plan
+  pub fetched : EachRead (λ read. Contains fetches read) plan
+  pub same : text ≡ tree_lines catalogue (statement_columns (schemas_of catalogue) statement) plan ++ count_line (length fetches)

@@ -39,3 +39,16 @@ site = \"north\"
 where = \"zone >= 10\"
 site = \"south\"
 ";
+
+/// One relation whose two columns are in a leaf each.
+pub const PAIR: &str = "sites = [\"north\"]
+
+[relations.pair]
+columns = [\"id int\", \"one int\", \"other int\"]
+[[relations.pair.cols]]
+of = [\"one\"]
+site = \"north\"
+[[relations.pair.cols]]
+of = [\"other\"]
+site = \"north\"
+";

@@ -1,7 +1,7 @@
 //! What statements over fragments answer and write, from parts that are given by hand.
 
-use crate::catalogues::{EMP_AND_DEPT, ITEM};
-use answers::evaluate::evaluate;
+use crate::catalogues::{EMP_AND_DEPT, ITEM, PAIR};
+use answers::evaluate::{evaluate, evaluate_counted};
 use answers::finish::{Outcome, finish};
 use answers::table::{FetchRows, are_all_parts};
 use answers::work::work;
@@ -184,4 +184,51 @@ fn inserted(rt: HostRuntime) {
             "changed 1\nPut item.2 2, 50, 'b'\n"
         )
     );
+}
+
+/// The rows of two columns that are in a leaf each, and the steps that putting them together takes, where the
+/// leaves have parts at so many first keys.
+fn put_together(alloc: Global, counts: [i64; 2]) -> Result<(usize, u64), Memory> {
+    let catalog = Catalog::read(alloc, PAIR).map_err(|_| Memory)?;
+    let Ok(Command::Run(statement)) = read(alloc, "SELECT one, other FROM pair", catalog.schema())
+    else {
+        return Err(Memory);
+    };
+    let plan = localize(alloc, &catalog, &statement)?;
+    let less = reduce(alloc, &catalog, &statement, plan)?;
+    let reads = fetches(&less);
+    let mut rows = Vec::new(alloc);
+    for (read, count) in reads.iter().zip(counts) {
+        let mut parts = Vec::new(alloc);
+        for key in 0..count {
+            parts.push(part(alloc, format!(in alloc; "{key}, {key}")?.as_str())?)?;
+        }
+        rows.push(FetchRows {
+            leaf: read.leaf.copy()?,
+            parts: Seq::new(parts),
+        })?;
+    }
+    let rows = rows.as_slice();
+    if !are_all_parts(reads, rows) {
+        return Err(Memory);
+    }
+    let (table, steps) = evaluate_counted(alloc, &less.plan, rows)?;
+    Ok((table.rows.as_slice().len(), steps))
+}
+
+#[test]
+fn steps_counted(rt: HostRuntime) {
+    let cases = [
+        ([1000, 1000], 1000, 1000),
+        ([1000, 0], 0, 0),
+        ([0, 1000], 0, 0),
+    ];
+    for (counts, wanted, least) in cases {
+        let made = put_together(rt.alloc(), counts).or_else(|_| put_together(rt.alloc(), counts));
+        assert!(rt;
+            made.is_ok_and(|(rows, steps)| rows == wanted
+                && steps >= least
+                && steps <= least + 1000)
+        );
+    }
 }
