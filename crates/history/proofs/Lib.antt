@@ -1,0 +1,19 @@
+-- What proves the contracts of the crate, by topic.
+pub mod Growing
+pub mod SiteCells
+pub mod DeskMachine
+pub mod DeskCells
+pub mod Opens
+pub mod Events
+pub mod Turns
+pub mod Law
+pub mod RowPlaces
+pub mod Merging
+pub mod MapSteps
+pub mod Linked
+pub mod Happening
+pub mod LastCalls
+pub mod Heard
+pub mod Looking
+pub mod Taken
+pub mod Woven

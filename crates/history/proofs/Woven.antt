@@ -1,0 +1,112 @@
+-- What the weaving makes of its parts.
+use Rattle.std.proofs.Common.{◌≡◌, refl, sym, ap, ◌∙◌, subst, ℕ, suc, ◌+◌, List, [], ◌∷◌, map, Some, slice_get, arith}
+use Rattle.std.specs.List.{AllByRecursion}
+use Rattle.meaning.specs.Whole.{FitsSchema, Relations}
+use Rattle.catalog.specs.Catalogue.{Catalogue}
+use Rattle.catalog.specs.Formed.{IsFormed}
+use Rattle.catalog.specs.FragmentLeaf.{schemas_of}
+use Rattle.catalog.specs.Relation.{catalogue_of}
+use Rattle.store.specs.declared.commit.DeskKept.{DeskKept}
+use Rattle.store.specs.declared.prepared.SiteKept.{SiteKept}
+use Rattle.store.specs.DeskContent.{DeskContent}
+use Rattle.store.specs.SiteContent.{SiteContent}
+use Rattle.site.specs.Seat.{Seat, seat_from}
+use Rattle.desk.specs.CatalogueDatabase.{database}
+use Rattle.world.specs.declared.event.Entry as world
+use Rattle.world.specs.declared.event.Event.{Event}
+use Rattle.world.specs.declared.machines.Machines.{Machines}
+use Rattle.world.specs.Contents.{OfStores}
+use Rattle.world.specs.Placed.{IsPlaced}
+use Rattle.world.proofs.DatabaseIsOpened.{placed}
+use Rattle.world.proofs.Openings.{has_its}
+use Rattle.history.specs.declared.brought.Unbrought as unbrought
+use Rattle.history.specs.declared.brought.Unbrought.TheVariants as brought
+use Rattle.history.specs.declared.entry.Entry.{Entry}
+use Rattle.history.specs.declared.merge.Unmerged as unmerged
+use Rattle.history.specs.declared.merge.Unmerged.TheVariants as merged
+use Rattle.history.specs.declared.records.Past.{Past}
+use Rattle.history.specs.declared.told.Told.{Told}
+use Rattle.history.specs.declared.weave.WeaveFault.TheVariants as fault
+use Rattle.history.specs.DeskHistory.{desk_from}
+use Rattle.history.specs.Records.{AreRecords, AreSitesOf, pasts_in}
+use Rattle.history.specs.Told.{AllStand}
+use Rattle.history.specs.Weaving.{AreRecorded, HasLeaves, SitePast, WovenAreRuns, WovenAreSerial}
+use Rattle.history.specs.Woven.{ArePutTogether, IsSettled, WeavesRun, not_brought, out_of_order}
+
+-- ---- faults
+pub ordered_is : (why : unmerged.Unmerged) (k : ℕ) → out_of_order why ≡ fault.NotARun k → why ≡ merged.OutOfOrder k
+ordered_is merged.Memory k e = cc
+ordered_is (merged.OutOfOrder j) k e = let is : j ≡ k = cc in ap merged.OutOfOrder is
+
+pub brought_is : (why : unbrought.Unbrought) (k : ℕ) → not_brought why ≡ fault.NotARun k → why ≡ brought.NotBrought k
+brought_is brought.Memory k e = cc
+brought_is (brought.NotBrought j) k e = let is : j ≡ k = cc in ap brought.NotBrought is
+
+-- ---- lists
+all_of_map : {A B : Type 0} (f : A → B) (P : B → Type 0) (xs : List A) → AllByRecursion P (map f xs) → AllByRecursion (λ x. P (f x)) xs
+all_of_map f P [] all = tt
+all_of_map f P (x ∷ xs) all = (all.0, all_of_map f P xs all.1)
+
+map_of_map : {A B C : Type 0} (f : A → B) (g : B → C) (xs : List A) → map g (map f xs) ≡ map (λ x. g (f x)) xs
+map_of_map f g [] = refl
+map_of_map f g (x ∷ xs) = let later = map_of_map f g xs in λ i. g (f x) ∷ later i
+
+-- ---- sites
+module _ (c : Catalogue) (formed : IsFormed c) where
+  -- sites of a catalogue have its names
+  sites_named : (place : ℕ) (names : List (List ℕ)) (seats : List Seat) → AreSitesOf c place names seats → map (λ (seat : Seat). seat.name) seats ≡ names
+  sites_named place [] [] are = refl
+  sites_named place [] (seat ∷ seats) are = absurd are
+  sites_named place (name ∷ names) [] are = absurd are
+  sites_named place (name ∷ names) (seat ∷ seats) are = let later = sites_named (suc place) names seats are.1 in λ i. are.0.0 i ∷ later i
+
+  -- and its leaves
+  sites_have : (n : ℕ) (whole : Relations) → IsPlaced (database c) n c whole → (place : ℕ) (names : List (List ℕ)) (seats : List Seat) → AreSitesOf c place names seats →
+      ((i : ℕ) (name : List ℕ) → slice_get names i ≡ Some name → slice_get c.sites (place + i) ≡ Some name) → AllByRecursion (HasLeaves (database c)) seats
+  sites_have n whole places place [] [] are there = tt
+  sites_have n whole places place [] (seat ∷ seats) are there = absurd are
+  sites_have n whole places place (name ∷ names) [] are there = absurd are
+  sites_have n whole places place (name ∷ names) (seat ∷ seats) are there = (
+    has_its (database c) n c whole formed.distinct places place name seat are.0.0 are.0.1 (subst (λ p. slice_get c.sites p ≡ Some name) (let e : place + 0 ≡ place = omega arith in e) (there 0 name refl)),
+    sites_have n whole places (suc place) names seats are.1 (λ i name got. subst (λ p. slice_get c.sites p ≡ Some name) (let e : place + suc i ≡ suc place + i = omega arith in e) (there (suc i) name got)),
+  )
+
+module _ {D S : Type 0} (desk_is_clean desk_is_sound : D → Type 0) (desk_content : D → DeskContent) (site_is_clean site_is_sound : S → Type 0) (site_content : S → SiteContent)
+    (machines : Machines D S) (opening : DeskKept) (entries : List Entry) (pasts : List Past)
+    (records : AreRecords desk_is_clean desk_is_sound desk_content site_is_clean site_is_sound site_content machines opening entries pasts)
+    (clean : OfStores desk_is_clean site_is_clean machines) (settled : IsSettled opening (map (λ (past : Past). past.opening) pasts)) where
+  -- records of clean stores, at whose opening nothing was decided or in doubt, are those of a run
+  recorded_in : (whole : Relations) → FitsSchema (schemas_of (catalogue_of machines.desk.catalog)) whole → AreRecorded (database (catalogue_of machines.desk.catalog)) opening entries (desk_from desk_content machines.desk) (pasts_in site_content machines.sites.items pasts)
+  recorded_in whole fits =
+      let c = catalogue_of machines.desk.catalog in
+      let formed : IsFormed c = records.base.of_catalogue.formed 0 in
+      let all = pasts_in site_content machines.sites.items pasts in
+      let are = records.sites clean.1 in
+      let last : SitePast → Seat = λ past. past.last in
+      let have = sites_have c formed opening.version whole (placed c opening.version whole formed fits) 0 c.sites (map (seat_from site_content) machines.sites.items) are
+      (λ i name got. subst (λ p. slice_get c.sites p ≡ Some name) (let e : i ≡ 0 + i = omega arith in e) got) in
+      record {
+        desk = records.desk clean.0;
+        sites = records.recorded clean.1;
+        names = sym (map_of_map last (λ (seat : Seat). seat.name) all) ∙ ap (map (λ (seat : Seat). seat.name)) records.lasts ∙ sites_named c formed 0 c.sites (map (seat_from site_content) machines.sites.items) are;
+        leaves = all_of_map last (HasLeaves (database c)) all (subst (AllByRecursion (HasLeaves (database c))) (sym records.lasts) have);
+        decided = settled.0;
+        prepared = all_of_map (λ (past : SitePast). past.opening) (λ (kept : SiteKept). kept.rows.prepared ≡ []) all (subst (AllByRecursion (λ (kept : SiteKept). kept.rows.prepared ≡ [])) (sym records.openings) settled.1);
+      }
+
+  -- so what was put together of them is a run
+  pub weaves_run : WovenAreRuns (database (catalogue_of machines.desk.catalog)) → WovenAreSerial (database (catalogue_of machines.desk.catalog)) → (lists : List (List Told)) (happened : List world.Entry) (events : List Event) →
+      ArePutTogether machines.desk.catalog.0 (entries ∷ map (λ (past : Past). past.entries.items) pasts) happened → events ≡ map (λ (entry : world.Entry). entry.event) happened → AllStand (schemas_of (catalogue_of machines.desk.catalog)) entries lists →
+      WeavesRun (database (catalogue_of machines.desk.catalog)) opening entries (desk_from desk_content machines.desk) (pasts_in site_content machines.sites.items pasts) lists events
+  weaves_run runs serial lists happened events put told stand =
+      let last = desk_from desk_content machines.desk in
+      let all = pasts_in site_content machines.sites.items pasts in
+      let own : ArePutTogether machines.desk.catalog.0 (entries ∷ map (λ (past : SitePast). past.entries) all) happened =
+      subst (λ others. ArePutTogether machines.desk.catalog.0 (entries ∷ others) happened) (sym records.histories) put in
+      record {
+        woven = record { happened = happened; put = own; told = told; stand = stand };
+        run = λ whole rebuilds.
+            let recorded = recorded_in whole rebuilds.fits in
+            let ran = runs whole opening entries last all own.acts happened recorded rebuilds own.merged own.have in
+            record { past = ran.0; run = ran.1; serial = serial whole opening entries last all own.acts happened recorded rebuilds own.merged own.have };
+      }

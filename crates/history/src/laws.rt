@@ -1,0 +1,23 @@
+//! The threads' law, of each catalogue's database: as the contract of functions that change nothing.
+
+ghost use Rattle.catalog.specs.Relation.{catalogue_of};
+ghost use Rattle.desk.specs.CatalogueDatabase.{database};
+ghost use Rattle.history.specs.Weaving.{WovenAreRuns, WovenAreSerial};
+
+use catalog::catalogue::Catalog;
+use world::laws::{database_is_of_catalogue, runs_are_serial};
+
+/// Histories that replay, put together by their numbers with each letter put out before it was taken, are a run of the machines.
+pub fn woven_are_runs(catalog: &Catalog)
+    ensures { WovenAreRuns (database (catalogue_of catalog.now)) }
+{
+    database_is_of_catalogue(catalog);
+}
+
+/// So they are serial.
+pub fn woven_are_serial(catalog: &Catalog)
+    ensures { WovenAreSerial (database (catalogue_of catalog.now)) }
+{
+    woven_are_runs(catalog);
+    runs_are_serial(catalog);
+}
