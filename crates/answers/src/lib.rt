@@ -10,7 +10,7 @@
 //!
 //! ```text
 //! let less = reduce(alloc, &catalog, &statement, plan)?;     // DELETE FROM item WHERE zone = 3
-//! let outcome = work(alloc, &catalog, &statement, &less, fetched)?;
+//! let outcome = work(alloc, &catalog, &statement, &less.plan, fetches(&less), fetched)?;
 //! // outcome.answer: Answer::Changed(1); outcome.writes: Write::Del(item.1, 1)
 //! ```
 #![tactic(auto)]

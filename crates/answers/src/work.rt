@@ -20,12 +20,13 @@ use crate::finish::{Outcome, finish};
 use crate::table::FetchRows;
 use catalog::catalogue::Catalog;
 use meaning::statement::Statement;
+use plan::fetch::Fetch;
 use plan::laws::{brought_is_read, contents_give};
-use plan::reduce::Reduced;
+use plan::plan::Plan;
 use std::alloc::Global;
 use terms::memory::Memory;
 
-/// What a statement answers and writes, by its reduced plan and by what the plan's fetches brought.
+/// What a statement answers and writes, by its reduced plan, by the plan's fetches and by what these brought.
 ///
 /// Where it is a statement of the catalogue's schema, and the plan a reduced one of it, then over each whole
 /// database of which the fetches bring these parts it is the statement's meaning: the answer, and the writes
@@ -34,30 +35,31 @@ pub fn work(
     alloc: Global,
     catalog: &Catalog,
     statement: &Statement,
-    reduced: &Reduced,
+    plan: &Plan,
+    fetches: &[Fetch],
     fetched: &[FetchRows],
 ) -> Result<Outcome, Memory>
     // What holds of the reads of each reduced plan.
-    requires fetched { EachRead (λ read. Contains reduced.now.fetches.items read) (shape reduced.now.plan) }
-    requires uniform { IsUniform (shape reduced.now.plan) }
+    requires fetched { EachRead (λ read. Contains fetches.now read) (shape plan.now) }
+    requires uniform { IsUniform (shape plan.now) }
     // The parts of each fetch have its columns, and their keys ascend.
-    requires parts { AllByRecursion (λ read. AreParts read.columns (given fetched.now read.leaf)) reduced.now.fetches.items }
+    requires parts { AllByRecursion (λ read. AreParts read.columns (given fetched.now read.leaf)) fetches.now }
     ensures answer { IsStatementOf (schemas_of (catalogue_of catalog.now)) statement.now
-        → AreFetchesOf (catalogue_of catalog.now) statement.now reduced.now.fetches.items
-        → FindsAll (catalogue_of catalog.now) statement.now reduced.now.fetches.items (shape reduced.now.plan)
+        → AreFetchesOf (catalogue_of catalog.now) statement.now fetches.now
+        → FindsAll (catalogue_of catalog.now) statement.now fetches.now (shape plan.now)
         → IfOk result (λ outcome. (whole : Relations) → FitsSchema (schemas_of (catalogue_of catalog.now)) whole →
-        AreBrought (catalogue_of catalog.now) whole reduced.now.fetches.items (given fetched.now) → outcome.answer ≡ (meaning statement.now whole).0) }
+        AreBrought (catalogue_of catalog.now) whole fetches.now (given fetched.now) → outcome.answer ≡ (meaning statement.now whole).0) }
     ensures writes { IsStatementOf (schemas_of (catalogue_of catalog.now)) statement.now
-        → AreFetchesOf (catalogue_of catalog.now) statement.now reduced.now.fetches.items
-        → FindsAll (catalogue_of catalog.now) statement.now reduced.now.fetches.items (shape reduced.now.plan)
+        → AreFetchesOf (catalogue_of catalog.now) statement.now fetches.now
+        → FindsAll (catalogue_of catalog.now) statement.now fetches.now (shape plan.now)
         → IfOk result (λ outcome. (whole : Relations) → FitsSchema (schemas_of (catalogue_of catalog.now)) whole →
-        AreBrought (catalogue_of catalog.now) whole reduced.now.fetches.items (given fetched.now) → outcome.writes ≡ writes_between (catalogue_of catalog.now) whole (meaning statement.now whole).1) }
+        AreBrought (catalogue_of catalog.now) whole fetches.now (given fetched.now) → outcome.writes ≡ writes_between (catalogue_of catalog.now) whole (meaning statement.now whole).1) }
     // And whatever the fetches brought, each write is to a leaf of the catalogue.
     ensures leaves { IfOk result (λ outcome. AllByRecursion (λ write. is_leaf_in (catalogue_leaves (catalogue_of catalog.now)) (leaf_of write) ≡ true) outcome.writes) }
 {
     brought_is_read();
     contents_give();
     let _relations = catalog.relations();
-    let table = evaluate(alloc, &reduced.plan, fetched)?;
+    let table = evaluate(alloc, plan, fetched)?;
     finish(alloc, catalog, statement, &table)
 }

@@ -4,7 +4,7 @@ use Rattle.std.specs.Option.{option_map}
 use Rattle.meaning.specs.declared.answer.Answer.{Answer}
 use Rattle.meaning.specs.declared.answer.Answer.TheVariants as answer
 use Rattle.meaning.specs.declared.statement.Statement.{Statement}
-use Rattle.plan.specs.declared.reduce.Reduced.{Reduced}
+use Rattle.desk.specs.ReducedPlan.{ReducedPlan, plan_in}
 use Rattle.store.specs.declared.name.Ticket.{Ticket}
 use Rattle.store.specs.declared.name.Txn.{Txn}
 use Rattle.store.specs.declared.reply.Reply.TheVariants as replies
@@ -91,9 +91,9 @@ step_as : (db : Database) (txn : Txn) (new : Undecided) (step : Progress) (one o
 step_as db txn new step one other same is = subst (IsProgress db txn new step) (sym same) is
 
 -- ---- a statement is stated
-module _ (db : Database) (of : IsOfCatalogue db) (n : ℕ) (txn : Txn) (u : Undecided) (idle : u.stage ≡ stage.Idle) (stated : Statement) (plan : Reduced) (planned : IsOfPlan db n stated plan (map (ask_from (db.catalogue n)) plan.fetches.items)) where
+module _ (db : Database) (of : IsOfCatalogue db) (n : ℕ) (txn : Txn) (u : Undecided) (idle : u.stage ≡ stage.Idle) (stated : Statement) (plan : ReducedPlan) (planned : IsOfPlan db n stated plan (map (ask_from (db.catalogue n)) plan.fetches)) where
   abbrev asks : List Ask
-  asks = map (ask_from (db.catalogue n)) plan.fetches.items
+  asks = map (ask_from (db.catalogue n)) plan.fetches
 
   abbrev wanted : desk.Choice (language db) → desk.Transition (language db)
   wanted choice = desk.on_request (txn_name txn) choice (desk.State (n, stated)) (desk.Known (undecided_of db u))
@@ -104,7 +104,7 @@ module _ (db : Database) (of : IsOfCatalogue db) (n : ℕ) (txn : Txn) (u : Unde
   pub wanted_is : (choice : desk.Choice (language db)) → wanted choice ≡ begun choice (map (ask_of db) asks)
   wanted_is choice =
       ap (λ st. desk.on_state {L = language db} (txn_name txn) (undecided_of db u) (n, stated) choice (stage_of db u.participants st)) idle
-      ∙ ap (λ (list : List (desk.Ask (language db))). begun choice list) (ap (map (desk.ask_of {L = language db})) (of.fetches n stated plan.fetches.items planned.statement planned.fetches) ∙ sym (asks_fresh db (db.catalogue n) plan.fetches.items))
+      ∙ ap (λ (list : List (desk.Ask (language db))). begun choice list) (ap (map (desk.ask_of {L = language db})) (of.fetches n stated plan.fetches planned.statement planned.fetches) ∙ sym (asks_fresh db (db.catalogue n) plan.fetches))
 
   module _ (new : Undecided) (step : Progress) where
     pub states_reads : (first : Ask) (rest : List Ask) → asks ≡ first ∷ rest → ((choice : desk.Choice (language db)) → IsProgress db txn new step (desk.states (txn_name txn) (undecided_of db u) (n, stated) (map (ask_of db) asks) choice)) → IsIn db n (standing.Undecided new) → Does db n txn new step wanted
@@ -209,7 +209,7 @@ module _ (db : Database) (n : ℕ) (txn : Txn) (u : Undecided) (site : List ℕ)
         let all = known db of n unique reading.statement reading.plan reading.asks.items planned in
         rowed_is choice true (stage.Reading reading) first here
         ∙ ap (λ (m : ℕ). desk.on_rows {L = language db} (txn_name txn) (undecided_of db u) site rows.op rows.parts choice (desk.Reading (m, reading.statement) (map (ask_of db) reading.asks.items))) of_reading.0
-        ∙ ap (λ (list : List (desk.Ask (language db))). desk.rows_go {L = language db} (txn_name txn) (undecided_of db u) (n, reading.statement) list choice) (sym (rows_are db of n reading.statement site rows.op rows.parts all.need all.other reading.asks.items reading.plan.fetches.items planned.in_order all.each))
+        ∙ ap (λ (list : List (desk.Ask (language db))). desk.rows_go {L = language db} (txn_name txn) (undecided_of db u) (n, reading.statement) list choice) (sym (rows_are db of n reading.statement site rows.op rows.parts all.need all.other reading.asks.items reading.plan.fetches planned.in_order all.each))
 
     abbrev go_if : desk.Choice (language db) → Bool → desk.Transition (language db)
     go_if choice b = if b then desk.works {L = language db} (txn_name txn) (undecided_of db u) (n, reading.statement) (map (ask_of db) given) choice else desk.stays (desk.Known (record (undecided_of db u) { stage = desk.Reading (n, reading.statement) (map (ask_of db) given) }))
@@ -249,8 +249,8 @@ module _ (db : Database) (n : ℕ) (txn : Txn) (u : Undecided) (site : List ℕ)
           }
 
 -- ---- where a call may fail
-module _ (db : Database) (of : IsOfCatalogue db) (n : ℕ) (txn : Txn) (u new : Undecided) (idle : u.stage ≡ stage.Idle) (stated : Statement) (plan : Reduced) (list : List Ask) (of_plan : IsOfPlan db n stated plan list) (same : list ≡ map (ask_from (db.catalogue n)) plan.fetches.items) {E : Type 0} (result : Result Progress E) (within : OnOk result (IsIn db n (standing.Undecided new))) where
-  planned_so : IsOfPlan db n stated plan (map (ask_from (db.catalogue n)) plan.fetches.items)
+module _ (db : Database) (of : IsOfCatalogue db) (n : ℕ) (txn : Txn) (u new : Undecided) (idle : u.stage ≡ stage.Idle) (stated : Statement) (plan : ReducedPlan) (list : List Ask) (of_plan : IsOfPlan db n stated plan list) (same : list ≡ map (ask_from (db.catalogue n)) plan.fetches) {E : Type 0} (result : Result Progress E) (within : OnOk result (IsIn db n (standing.Undecided new))) where
+  planned_so : IsOfPlan db n stated plan (map (ask_from (db.catalogue n)) plan.fetches)
   planned_so = subst (IsOfPlan db n stated plan) same of_plan
 
   pub works_once : list ≡ [] → (told : Answer) (unsent : List Unsent) → UnsentAtHome db unsent → Explained {L = language db} (desk.Worked (txn_name txn) (n, stated) (map (ask_of db) list) (told, map write_of unsent)) →
@@ -331,21 +331,21 @@ module _ (db : Database) (kept : DeskContent) (table : VolatileState) (fits : Fi
   participants_there of = record { sites = known_there.0; distinct = subst AreDistinct (sym (known_there.0 ∙ of.sites table.version)) (of.formed table.version).distinct }
 
 -- ---- a plan that is made
-pub plan_made : (db : Database) → IsOfCatalogue db → (n : ℕ) (catalogue : Catalogue) → db.catalogue n ≡ catalogue → (stated : Statement) (plan : Reduced) (asks : List Ask) → IsStatementOf (schemas_of catalogue) stated → AreFetchesOf catalogue stated plan.fetches.items → FindsAll catalogue stated plan.fetches.items (shape plan.plan) →
-    asks ≡ map (ask_from catalogue) plan.fetches.items → IsOfPlan db n stated plan asks
+pub plan_made : (db : Database) → IsOfCatalogue db → (n : ℕ) (catalogue : Catalogue) → db.catalogue n ≡ catalogue → (stated : Statement) (plan : ReducedPlan) (asks : List Ask) → IsStatementOf (schemas_of catalogue) stated → AreFetchesOf catalogue stated plan.fetches → FindsAll catalogue stated plan.fetches (plan_in plan) →
+    asks ≡ map (ask_from catalogue) plan.fetches → IsOfPlan db n stated plan asks
 plan_made db of n catalogue same stated plan those is are finds list = record {
   statement = subst (λ (ss : List RelationSchema). IsStatementOf ss stated) (sym (of.schemas n ∙ ap schemas_of same)) is;
-  fetches = subst (λ cat. AreFetchesOf cat stated plan.fetches.items) (sym same) are;
-  finds = subst (λ cat. FindsAll cat stated plan.fetches.items (shape plan.plan)) (sym same) finds;
-  in_order = ap (map asked) (list ∙ ap (λ cat. map (ask_from cat) plan.fetches.items) (sym same)) ∙ asks_order (db.catalogue n) plan.fetches.items;
+  fetches = subst (λ cat. AreFetchesOf cat stated plan.fetches) (sym same) are;
+  finds = subst (λ cat. FindsAll cat stated plan.fetches (plan_in plan)) (sym same) finds;
+  in_order = ap (map asked) (list ∙ ap (λ cat. map (ask_from cat) plan.fetches) (sym same)) ∙ asks_order (db.catalogue n) plan.fetches;
 }
 
-module _ (db : Database) (of : IsOfCatalogue db) (n : ℕ) (unique : LeafNamesAreUnique) (stated : Statement) (plan : Reduced) (list : List Ask) (of_plan : IsOfPlan db n stated plan list) (same : list ≡ map (ask_from (db.catalogue n)) plan.fetches.items) where
+module _ (db : Database) (of : IsOfCatalogue db) (n : ℕ) (unique : LeafNamesAreUnique) (stated : Statement) (plan : ReducedPlan) (list : List Ask) (of_plan : IsOfPlan db n stated plan list) (same : list ≡ map (ask_from (db.catalogue n)) plan.fetches) where
   pub ready_home : AsksAtHome db list
-  ready_home = let all = known db of n unique stated plan list of_plan in subst (AsksAtHome db) (sym same) (asks_home db of n all.need all.other plan.fetches.items all.each)
+  ready_home = let all = known db of n unique stated plan list of_plan in subst (AsksAtHome db) (sym same) (asks_home db of n all.need all.other plan.fetches all.each)
 
   pub ready_participants : (participants : List Participant) → sites_of participants ≡ db.sites → HaveParticipants participants (ask_sites list)
-  ready_participants participants those = let all = known db of n unique stated plan list of_plan in subst (λ (l : List Ask). HaveParticipants participants (ask_sites l)) (sym same) (asks_participants db of n participants those all.need all.other plan.fetches.items all.each)
+  ready_participants participants those = let all = known db of n unique stated plan list of_plan in subst (λ (l : List Ask). HaveParticipants participants (ask_sites l)) (sym same) (asks_participants db of n participants those all.need all.other plan.fetches all.each)
 
 -- ---- an idle transaction
 pub idle_there : (o : Option TxnState) → option_map (λ found. found.stage) (open_in o) ≡ Some stage.Idle → (u : Undecided) × (o ≡ Some (standing.Undecided u)) × (u.stage ≡ stage.Idle)

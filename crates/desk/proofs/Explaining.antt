@@ -14,7 +14,7 @@ use Rattle.catalog.specs.declared.fragment_leaf.FragmentLeaf.{FragmentLeaf}
 use Rattle.catalog.specs.FragmentLeaf.{catalogue_leaves, is_name_of, leaf_named, schemas_of}
 use Rattle.catalog.specs.Laws.{LeafNamesAreUnique}
 use Rattle.plan.specs.declared.fetch.Fetch.{Fetch}
-use Rattle.plan.specs.declared.reduce.Reduced.{Reduced}
+use Rattle.desk.specs.ReducedPlan.{ReducedPlan, plan_in}
 use Rattle.plan.specs.Given.{AreBrought}
 use Rattle.plan.specs.Given as plan
 use Rattle.catalog.specs.Catalogue.{Catalogue}
@@ -63,7 +63,7 @@ fetched_in (first ∷ fetches) fetch (inr there) = go (same_leaf first.leaf fetc
     go true is = refl
     go false is = is
 
-module _ (db : Database) (of : IsOfCatalogue db) (n : ℕ) (unique : LeafNamesAreUnique) (stated : Statement) (reduced : Reduced) (asks : List Ask) (planned : IsOfPlan db n stated reduced asks) where
+module _ (db : Database) (of : IsOfCatalogue db) (n : ℕ) (unique : LeafNamesAreUnique) (stated : Statement) (reduced : ReducedPlan) (asks : List Ask) (planned : IsOfPlan db n stated reduced asks) where
   abbrev in_force : Catalogue
   in_force = db.catalogue n
 
@@ -71,7 +71,7 @@ module _ (db : Database) (of : IsOfCatalogue db) (n : ℕ) (unique : LeafNamesAr
   all = catalogue_leaves in_force
 
   abbrev fetches : List Fetch
-  fetches = reduced.fetches.items
+  fetches = reduced.fetches
 
   -- it is a statement of the schema of the catalogue in force
   pub stated_there : IsStatementOf (schemas_of in_force) stated
@@ -142,10 +142,10 @@ module _ (db : Database) (of : IsOfCatalogue db) (n : ℕ) (unique : LeafNamesAr
   )
 
 -- so, where the catalogue, the rows and the writes go by other names
-pub explained_of : (db : Database) → IsOfCatalogue db → (n : ℕ) → LeafNamesAreUnique → (stated : Statement) (reduced : Reduced) (asks : List Ask) → IsOfPlan db n stated reduced asks → (t : Name) (answer : Answer) (list : List Write) (catalogue : Catalogue) → db.catalogue n ≡ catalogue →
+pub explained_of : (db : Database) → IsOfCatalogue db → (n : ℕ) → LeafNamesAreUnique → (stated : Statement) (reduced : ReducedPlan) (asks : List Ask) → IsOfPlan db n stated reduced asks → (t : Name) (answer : Answer) (list : List Write) (catalogue : Catalogue) → db.catalogue n ≡ catalogue →
     (rows : List FetchRows) → rows ≡ brought asks → (unsent : List Unsent) → unsent ≡ map (unsent_from catalogue) list →
-    (IsStatementOf (schemas_of catalogue) stated → AreFetchesOf catalogue stated reduced.fetches.items → FindsAll catalogue stated reduced.fetches.items (shape reduced.plan) → (whole : Relations) → FitsSchema (schemas_of catalogue) whole → AreBrought catalogue whole reduced.fetches.items (given rows) → answer ≡ (meaning stated whole).0) →
-    (IsStatementOf (schemas_of catalogue) stated → AreFetchesOf catalogue stated reduced.fetches.items → FindsAll catalogue stated reduced.fetches.items (shape reduced.plan) → (whole : Relations) → FitsSchema (schemas_of catalogue) whole → AreBrought catalogue whole reduced.fetches.items (given rows) → list ≡ writes_between catalogue whole (meaning stated whole).1) →
+    (IsStatementOf (schemas_of catalogue) stated → AreFetchesOf catalogue stated reduced.fetches → FindsAll catalogue stated reduced.fetches (plan_in reduced) → (whole : Relations) → FitsSchema (schemas_of catalogue) whole → AreBrought catalogue whole reduced.fetches (given rows) → answer ≡ (meaning stated whole).0) →
+    (IsStatementOf (schemas_of catalogue) stated → AreFetchesOf catalogue stated reduced.fetches → FindsAll catalogue stated reduced.fetches (plan_in reduced) → (whole : Relations) → FitsSchema (schemas_of catalogue) whole → AreBrought catalogue whole reduced.fetches (given rows) → list ≡ writes_between catalogue whole (meaning stated whole).1) →
     Explained {L = language db} (desk.Worked t (n, stated) (map (ask_of db) asks) (answer, map write_of unsent))
 explained_of db of n unique stated reduced asks planned t answer list catalogue same rows rows_are unsent unsent_are answers writes =
     subst (λ us. Explained {L = language db} (desk.Worked t (n, stated) (map (ask_of db) asks) (answer, map write_of us))) (sym unsent_are)
@@ -158,11 +158,11 @@ explained_of db of n unique stated reduced asks planned t answer list catalogue 
     of_statement : IsStatementOf (schemas_of catalogue) stated
     of_statement = subst (λ cat. IsStatementOf (schemas_of cat) stated) same (stated_there db of n unique stated reduced asks planned)
 
-    of_fetches : AreFetchesOf catalogue stated reduced.fetches.items
-    of_fetches = subst (λ cat. AreFetchesOf cat stated reduced.fetches.items) same planned.fetches
+    of_fetches : AreFetchesOf catalogue stated reduced.fetches
+    of_fetches = subst (λ cat. AreFetchesOf cat stated reduced.fetches) same planned.fetches
 
-    of_finds : FindsAll catalogue stated reduced.fetches.items (shape reduced.plan)
-    of_finds = subst (λ cat. FindsAll cat stated reduced.fetches.items (shape reduced.plan)) same planned.finds
+    of_finds : FindsAll catalogue stated reduced.fetches (plan_in reduced)
+    of_finds = subst (λ cat. FindsAll cat stated reduced.fetches (plan_in reduced)) same planned.finds
 
-    brought_there : (whole : Relations) → AreBrought (db.catalogue n) whole reduced.fetches.items (given (brought asks)) → AreBrought catalogue whole reduced.fetches.items (given rows)
-    brought_there whole are = subst (λ r. AreBrought catalogue whole reduced.fetches.items (given r)) (sym rows_are) (subst (λ cat. AreBrought cat whole reduced.fetches.items (given (brought asks))) same are)
+    brought_there : (whole : Relations) → AreBrought (db.catalogue n) whole reduced.fetches (given (brought asks)) → AreBrought catalogue whole reduced.fetches (given rows)
+    brought_there whole are = subst (λ r. AreBrought catalogue whole reduced.fetches (given r)) (sym rows_are) (subst (λ cat. AreBrought cat whole reduced.fetches (given (brought asks))) same are)

@@ -5,7 +5,7 @@ use Rattle.std.specs.Option.{option_map}
 use Rattle.meaning.specs.declared.answer.Answer.{Answer}
 use Rattle.meaning.specs.declared.answer.Answer.TheVariants as answer
 use Rattle.meaning.specs.declared.statement.Statement.{Statement}
-use Rattle.plan.specs.declared.reduce.Reduced.{Reduced}
+use Rattle.desk.specs.ReducedPlan.{ReducedPlan, plan_in}
 use Rattle.catalog.specs.Laws.{LeafNamesAreUnique}
 use Rattle.store.specs.DeskContent.{DeskContent}
 use Rattle.store.specs.declared.name.Ticket.{Ticket}
@@ -48,7 +48,7 @@ explained_as : {L : Lang} (one other : desk.Transition L) → one ≡ other → 
 explained_as one other same why = subst (λ turn. AllExplained turn.deeds) (sym same) why
 
 -- ---- a statement is stated
-module _ (db : Database) (of : IsOfCatalogue db) (n : ℕ) (txn : Txn) (u : Undecided) (idle : u.stage ≡ stage.Idle) (stated : Statement) (plan : Reduced) (list : List Ask) (of_plan : IsOfPlan db n stated plan list) (same : list ≡ map (ask_from (db.catalogue n)) plan.fetches.items) where
+module _ (db : Database) (of : IsOfCatalogue db) (n : ℕ) (txn : Txn) (u : Undecided) (idle : u.stage ≡ stage.Idle) (stated : Statement) (plan : ReducedPlan) (list : List Ask) (of_plan : IsOfPlan db n stated plan list) (same : list ≡ map (ask_from (db.catalogue n)) plan.fetches) where
   abbrev stating : desk.Choice (language db) → desk.Transition (language db)
   stating choice = desk.on_request (txn_name txn) choice (desk.State (n, stated)) (desk.Known (undecided_of db u))
 

@@ -5,7 +5,7 @@ use Rattle.meaning.specs.declared.answer.Answer.{Answer}
 use Rattle.desk.specs.declared.reply.Reply.{Reply}
 use Rattle.desk.specs.declared.reply.Reply.TheVariants as reply
 use Rattle.meaning.specs.declared.statement.Statement.{Statement}
-use Rattle.plan.specs.declared.reduce.Reduced.{Reduced}
+use Rattle.desk.specs.ReducedPlan.{ReducedPlan, plan_in}
 use Rattle.store.specs.declared.name.Ticket.{Ticket}
 use Rattle.store.specs.declared.name.Txn.{Txn}
 use Rattle.protocol.specs.Letters.{name_of}
@@ -37,7 +37,7 @@ pub ticket_sites : (site : List ℕ) (ticket : Option Ticket) (participants : Li
 ticket_sites site ticket participants = same_sites (changed_at site (with_ticket ticket)) (changed_site (with_ticket ticket) (λ s. refl) site) participants
 
 -- a plan whose asks are the same in order
-pub same_plan : (db : Database) (n : ℕ) (stated : Statement) (plan : Reduced) (asks others : List Ask) → map asked others ≡ map asked asks → IsOfPlan db n stated plan asks → IsOfPlan db n stated plan others
+pub same_plan : (db : Database) (n : ℕ) (stated : Statement) (plan : ReducedPlan) (asks others : List Ask) → map asked others ≡ map asked asks → IsOfPlan db n stated plan asks → IsOfPlan db n stated plan others
 same_plan db n stated plan asks others same planned = record { statement = planned.statement; fetches = planned.fetches; finds = planned.finds; in_order = same ∙ planned.in_order }
 
 module _ (db : Database) (n : ℕ) (txn : Txn) (opened : List Participant) (those : sites_of opened ≡ db.sites) (new : Undecided) where
@@ -45,7 +45,7 @@ module _ (db : Database) (n : ℕ) (txn : Txn) (opened : List Participant) (thos
   in_stage : (st : Stage) → new.stage ≡ st → sites_of new.participants ≡ db.sites → IsAtHome db st → IsPlanned db n st → IsIn db n (standing.Undecided new)
   in_stage st is sites home planned = (sites, subst (IsAtHome db) (sym is) home, subst (IsPlanned db n) (sym is) planned)
 
-  pub reads_in : (asks : List Ask) (stated : Statement) (plan : Reduced) (reading : Reading) → AsksAtHome db asks → IsOfPlan db n stated plan asks → reading.version ≡ n → reading.statement ≡ stated → reading.plan ≡ plan → reading.asks.items ≡ (asks_go txn asks opened).left →
+  pub reads_in : (asks : List Ask) (stated : Statement) (plan : ReducedPlan) (reading : Reading) → AsksAtHome db asks → IsOfPlan db n stated plan asks → reading.version ≡ n → reading.statement ≡ stated → reading.plan ≡ plan → reading.asks.items ≡ (asks_go txn asks opened).left →
       new.participants ≡ (asks_go txn asks opened).participants → new.stage ≡ stage.Reading reading → IsIn db n (standing.Undecided new)
   reads_in asks stated plan reading home planned version same_statement plan_is left participants now =
       in_stage (stage.Reading reading) now

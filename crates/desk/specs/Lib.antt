@@ -13,6 +13,7 @@ pub mod Transition
 pub mod Opening
 pub mod Send
 pub mod Statement
+pub mod ReducedPlan
 pub mod Planned
 pub mod Fetches
 pub mod Stepped

@@ -6,9 +6,7 @@ use Rattle.meaning.specs.declared.statement.Statement.{Statement}
 use Rattle.meaning.specs.Statement.{IsStatementOf}
 use Rattle.catalog.specs.Catalogue.{Catalogue}
 use Rattle.plan.specs.declared.fetch.Fetch.{Fetch}
-use Rattle.plan.specs.declared.reduce.Reduced.{Reduced}
 use Rattle.plan.specs.Reduced.{FindsAll}
-use Rattle.plan.specs.Shape.{shape}
 use Rattle.plan.specs.Stated.{AreFetchesOf}
 use Rattle.protocol.specs.Letters.{leaf_of}
 use Rattle.desk.specs.declared.fetches.Ask.{Ask}
@@ -17,6 +15,7 @@ use Rattle.desk.specs.declared.transaction.Stage.TheVariants as stage
 use Rattle.desk.specs.declared.transaction.Unsent.{Unsent}
 use Rattle.desk.specs.Database.{Database}
 use Rattle.desk.specs.Place.{Place, fetch_in, home_in}
+use Rattle.desk.specs.ReducedPlan.{ReducedPlan, plan_in}
 
 -- a fetch that is to be sent
 abbrev pub ask_from : Catalogue → Fetch → Ask
@@ -31,11 +30,11 @@ abbrev pub asked : Ask → Place × List Cond
 asked ask = ((ask.site, ask.leaf), ask.conds)
 
 -- a statement of the database, a reduced plan of it under the catalogue of this number, and the plan's fetches, in order, each at its site
-pub record IsOfPlan (db : Database) (n : ℕ) (stated : Statement) (plan : Reduced) (asks : List Ask) : Type 0 where
+pub record IsOfPlan (db : Database) (n : ℕ) (stated : Statement) (plan : ReducedPlan) (asks : List Ask) : Type 0 where
   pub statement : IsStatementOf db.schemas stated
-  pub fetches : AreFetchesOf (db.catalogue n) stated plan.fetches.items
-  pub finds : FindsAll (db.catalogue n) stated plan.fetches.items (shape plan.plan)
-  pub in_order : map asked asks ≡ map (fetch_in (db.catalogue n)) plan.fetches.items
+  pub fetches : AreFetchesOf (db.catalogue n) stated plan.fetches
+  pub finds : FindsAll (db.catalogue n) stated plan.fetches (plan_in plan)
+  pub in_order : map asked asks ≡ map (fetch_in (db.catalogue n)) plan.fetches
 
 -- what is known of a waiting plan: it was made under the catalogue of this number
 abbrev pub IsPlanned : Database → ℕ → Stage → Type 0

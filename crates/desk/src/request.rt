@@ -45,7 +45,6 @@ use crate::volatile::Volatile;
 use catalog::catalogue::Catalog;
 use catalog::laws::leaf_names_are_unique;
 use meaning::statement::Statement;
-use plan::reduce::fetches;
 use reader::command::Command;
 use reader::fault::{ReadFault, Rule};
 use reader::read::read;
@@ -210,11 +209,11 @@ fn run_at_once(
     asks: &[Ask],
 ) -> Result<Progress, Refusal>
     ensures does { (db : Database) (n : ℕ) → IsOfCatalogue db → InForce db n catalog.now → AreParticipants db undecided.old.participants → undecided.old.stage ≡ stages.Idle
-        → IsOfPlan db n statement.now plan.now asks.now → asks.now ≡ map (ask_from (db.catalogue n)) plan.now.fetches.items → asks.now ≡ []
+        → IsOfPlan db n statement.now plan.now asks.now → asks.now ≡ map (ask_from (db.catalogue n)) plan.now.fetches → asks.now ≡ []
         → IfOk result (λ step. Does db n txn undecided.new step (λ choice. on_request (txn_name txn) choice (State (n, statement.now)) (Known (undecided_of db undecided.old)))) }
     ensures goes { GoesOnOrStays undecided.old undecided.new result }
     ensures full { (db : Database) (n : ℕ) → IsOfCatalogue db → InForce db n catalog.now → AreParticipants db undecided.old.participants → undecided.old.stage ≡ stages.Idle
-        → IsOfPlan db n statement.now plan.now asks.now → asks.now ≡ map (ask_from (db.catalogue n)) plan.now.fetches.items → asks.now ≡ [] → result ≡ Err refusals.Full
+        → IsOfPlan db n statement.now plan.now asks.now → asks.now ≡ map (ask_from (db.catalogue n)) plan.now.fetches → asks.now ≡ [] → result ≡ Err refusals.Full
         → IsLong db (λ choice. on_request (txn_name txn) choice (State (n, statement.now)) (Known (undecided_of db undecided.old))) }
 {
     let worked = evaluate(alloc, catalog, statement, plan, asks)?;
@@ -234,11 +233,11 @@ fn start_reading(
     version: u64,
 ) -> Result<Progress, Refusal>
     ensures does { (db : Database) → IsOfCatalogue db → InForce db version catalog.now → AreParticipants db undecided.old.participants → undecided.old.stage ≡ stages.Idle
-        → IsOfPlan db version statement plan asks.items → asks.items ≡ map (ask_from (db.catalogue version)) plan.fetches.items
+        → IsOfPlan db version statement plan asks.items → asks.items ≡ map (ask_from (db.catalogue version)) plan.fetches
         → IfOk result (λ step. Does db version txn undecided.new step (λ choice. on_request (txn_name txn) choice (State (version, statement)) (Known (undecided_of db undecided.old)))) }
     ensures goes { GoesOnOrStays undecided.old undecided.new result }
     ensures full { (db : Database) → IsOfCatalogue db → InForce db version catalog.now → AreParticipants db undecided.old.participants → undecided.old.stage ≡ stages.Idle
-        → IsOfPlan db version statement plan asks.items → asks.items ≡ map (ask_from (db.catalogue version)) plan.fetches.items → result ≡ Err refusals.Full
+        → IsOfPlan db version statement plan asks.items → asks.items ≡ map (ask_from (db.catalogue version)) plan.fetches → result ≡ Err refusals.Full
         → IsLong db (λ choice. on_request (txn_name txn) choice (State (version, statement)) (Known (undecided_of db undecided.old))) }
 {
     leaf_names_are_unique();
@@ -261,11 +260,11 @@ fn start_in(
     version: u64,
 ) -> Result<Progress, Refusal>
     ensures does { (db : Database) (old : UndecidedNow) → IsOfCatalogue db → InForce db version catalog.now → standing.old ≡ standings.Undecided old → AreParticipants db old.participants → old.stage ≡ stages.Idle
-        → IsOfPlan db version statement plan asks.items → asks.items ≡ map (ask_from (db.catalogue version)) plan.fetches.items
+        → IsOfPlan db version statement plan asks.items → asks.items ≡ map (ask_from (db.catalogue version)) plan.fetches
         → IfOk result (λ step. DoesIn db version txn standing.new step (λ choice. on_request (txn_name txn) choice (State (version, statement)) (Known (undecided_of db old)))) }
     ensures short { IsShort standing.old → OnOk result (IsShort standing.new) }
     ensures full { (db : Database) (old : UndecidedNow) → IsOfCatalogue db → InForce db version catalog.now → standing.old ≡ standings.Undecided old → AreParticipants db old.participants → old.stage ≡ stages.Idle
-        → IsOfPlan db version statement plan asks.items → asks.items ≡ map (ask_from (db.catalogue version)) plan.fetches.items → result ≡ Err refusals.Full
+        → IsOfPlan db version statement plan asks.items → asks.items ≡ map (ask_from (db.catalogue version)) plan.fetches → result ≡ Err refusals.Full
         → IsLong db (λ choice. on_request (txn_name txn) choice (State (version, statement)) (Known (undecided_of db old))) }
     ensures same { OnErr result (standing.new ≡ standing.old) }
 {
@@ -289,10 +288,10 @@ fn start(
     asks: Vec<Ask>,
 ) -> Result<Progress, Refusal>
     ensures goes { (db : Database) (kept : DeskContent) (old : UndecidedNow) → IsOfCatalogue db → InForce db volatile.old.version catalog.now → Fits db kept (volatile_of volatile.old)
-        → (volatile_of volatile.old).standing txn ≡ Some (standings.Undecided old) → old.stage ≡ stages.Idle → IsOfPlan db volatile.old.version statement plan asks.items → asks.items ≡ map (ask_from (db.catalogue volatile.old.version)) plan.fetches.items
+        → (volatile_of volatile.old).standing txn ≡ Some (standings.Undecided old) → old.stage ≡ stages.Idle → IsOfPlan db volatile.old.version statement plan asks.items → asks.items ≡ map (ask_from (db.catalogue volatile.old.version)) plan.fetches
         → IfOk result (λ step. GoesOn db volatile.old (volatile_of volatile.new) txn step (λ choice. on_request (txn_name txn) choice (State (volatile.old.version, statement)) (txn_in db (volatile_of volatile.old) txn))) }
     ensures full { (db : Database) (kept : DeskContent) (old : UndecidedNow) → IsOfCatalogue db → InForce db volatile.old.version catalog.now → Fits db kept (volatile_of volatile.old)
-        → (volatile_of volatile.old).standing txn ≡ Some (standings.Undecided old) → old.stage ≡ stages.Idle → IsOfPlan db volatile.old.version statement plan asks.items → asks.items ≡ map (ask_from (db.catalogue volatile.old.version)) plan.fetches.items → result ≡ Err refusals.Full
+        → (volatile_of volatile.old).standing txn ≡ Some (standings.Undecided old) → old.stage ≡ stages.Idle → IsOfPlan db volatile.old.version statement plan asks.items → asks.items ≡ map (ask_from (db.catalogue volatile.old.version)) plan.fetches → result ≡ Err refusals.Full
         → IsLong db (λ choice. on_request (txn_name txn) choice (State (volatile.old.version, statement)) (txn_in db (volatile_of volatile.old) txn)) }
     ensures err { OnErr result (volatile_of volatile.new ≡ volatile_of volatile.old) }
     ensures ordered { IsOrdered txn_cmp volatile.old.standings }
@@ -406,7 +405,7 @@ pub(crate) fn call_run(
     let room = room(volatile.alloc)?;
     may_state(volatile, &txn)?;
     let plan = Planned::new(volatile.alloc, catalog, statement)?;
-    let asks = asks_of(volatile.alloc, catalog, fetches(plan.reduced()))?;
+    let asks = asks_of(volatile.alloc, catalog, plan.fetches())?;
     let copy = statement.copy()?;
     match start(volatile, catalog, txn, copy, plan, asks) {
         Ok(step) => Ok(put_out(room, txn, step)),

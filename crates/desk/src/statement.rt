@@ -41,7 +41,6 @@ use catalog::catalogue::Catalog;
 use catalog::laws::leaf_names_are_unique;
 use meaning::answer::Answer;
 use meaning::statement::Statement;
-use plan::reduce::fetches;
 use std::alloc::Global;
 use store::letter::Letter;
 use store::name::{Ticket, Txn};
@@ -277,12 +276,14 @@ pub(crate) fn evaluate(
 {
     leaf_names_are_unique();
     let fetched = brought(alloc, asks)?;
-    let reduced = plan.reduced();
+    let fetches = plan.fetches();
+    let fetched = fetched.as_slice();
     // Each list of rows was looked at as it came, so nothing is turned away here.
-    if !are_all_parts(fetches(reduced), fetched.as_slice()) {
+    if !are_all_parts(fetches, fetched) {
         return Err(Memory);
     }
-    let outcome = work(alloc, catalog, statement, reduced, fetched.as_slice())?;
+    let plan = plan.plan(alloc)?;
+    let outcome = work(alloc, catalog, statement, &plan, fetches, fetched)?;
     let unsent = unsent_of(alloc, catalog, outcome.writes.as_slice())?;
     Ok(Worked {
         answer: outcome.answer,

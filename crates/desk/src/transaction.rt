@@ -9,13 +9,17 @@ ghost use Rattle.plan.specs.Reduced.{FindsAll};
 ghost use Rattle.plan.specs.Shape.{shape};
 ghost use Rattle.plan.specs.Stated.{AreFetchesOf};
 ghost use Rattle.plan.specs.Uniform.{EachRead, IsUniform};
+ghost use Rattle.desk.specs.ReducedPlan.{plan_in};
 
 use crate::fetches::Ask;
 use crate::participant::Participant;
 use catalog::catalogue::Catalog;
 use meaning::answer::Answer;
 use meaning::statement::Statement;
+use plan::fetch::Fetch;
 use plan::localize::localize;
+use plan::plan::Plan;
+use plan::postfix::{Node, plan_of, postfix};
 use plan::reduce::{Reduced, reduce};
 use std::alloc::Global;
 use std::collections::BTreeMap;
@@ -71,27 +75,25 @@ pub(crate) struct Undecided {
     pub(crate) stage: Stage,
 }
 
-/// A reduced plan. It reads its fetches alone, and both sides of each of its unions have the same columns.
+/// A reduced plan, as the list of its nodes, and its fetches. It reads its fetches alone, and both sides of each of its
+/// unions have the same columns.
 #[derive(Debug, Drop)]
 pub(crate) struct Planned {
-    reduced: Reduced,
+    nodes: Vec<Node>,
+    fetches: Vec<Fetch>,
 }
 
 impl Model for Planned {
     ghost use Rattle.std.specs.List.{Contains};
-    ghost use Rattle.plan.specs.declared.reduce.Reduced.{Reduced as ReducedNow};
-    ghost use Rattle.plan.specs.Shape.{shape};
+    ghost use Rattle.plan.specs.Postfix.{plan_of};
     ghost use Rattle.plan.specs.Uniform.{EachRead, IsUniform};
-    ghost use Rattle.std.specs.Coded.{codes};
-    ghost use Rattle.plan.specs.contracts.plan.Plan as plan;
+    ghost use Rattle.desk.specs.ReducedPlan.{ReducedPlan};
 
-    ghost Value = { ReducedNow };
+    ghost Value = { ReducedPlan };
 
-    ghost coded = { Prim.hlevel (codes, plan.the_row.coded) };
+    ghost view = { λ p. record { nodes = p.nodes.items; fetches = p.fetches.items } };
 
-    ghost view = { λ p. p.reduced };
-
-    ghost invariant = { λ p. EachRead (λ read. Contains p.reduced.fetches.items read) (shape p.reduced.plan) × IsUniform (shape p.reduced.plan) };
+    ghost invariant = { λ p. EachRead (λ read. Contains p.fetches.items read) (plan_of p.nodes.items) × IsUniform (plan_of p.nodes.items) };
 }
 
 impl Planned {
@@ -102,21 +104,30 @@ impl Planned {
         statement: &Statement,
     ) -> Result<Planned, Memory>
         requires { IsStatementOf (schemas_of (catalogue_of catalog.now)) statement.now }
-        ensures fetches { IfOk result (λ plan. AreFetchesOf (catalogue_of catalog.now) statement.now plan.fetches.items) }
-        ensures finds { IfOk result (λ plan. FindsAll (catalogue_of catalog.now) statement.now plan.fetches.items (shape plan.plan)) }
+        ensures fetches { IfOk result (λ plan. AreFetchesOf (catalogue_of catalog.now) statement.now plan.fetches) }
+        ensures finds { IfOk result (λ plan. FindsAll (catalogue_of catalog.now) statement.now plan.fetches (plan_in plan)) }
     {
         let plan = localize(alloc, catalog, statement)?;
         let reduced = reduce(alloc, catalog, statement, plan)?;
-        Ok(Planned { reduced })
+        let Reduced { plan, fetches } = reduced;
+        let nodes = postfix(alloc, plan)?;
+        Ok(Planned { nodes, fetches })
     }
 
-    /// The plan and its fetches.
-    pub(crate) fn reduced(&self) -> &Reduced
-        ensures same { result.now ≡ self.now }
-        ensures fetched { EachRead (λ read. Contains self.now.fetches.items read) (shape self.now.plan) }
-        ensures uniform { IsUniform (shape self.now.plan) }
+    /// The plan.
+    pub(crate) fn plan(&self, alloc: Global) -> Result<Plan, Memory>
+        ensures same { IfOk result (λ plan. shape plan ≡ plan_in self.now) }
+        ensures fetched { IfOk result (λ plan. EachRead (λ read. Contains self.now.fetches read) (shape plan)) }
+        ensures uniform { IfOk result (λ plan. IsUniform (shape plan)) }
     {
-        &self.reduced
+        plan_of(alloc, self.nodes.as_slice())
+    }
+
+    /// Its fetches.
+    pub(crate) fn fetches(&self) -> &[Fetch]
+        ensures { result.now ≡ self.now.fetches }
+    {
+        self.fetches.as_slice()
     }
 }
 

@@ -33,3 +33,4 @@ pub mod PutOn
 pub mod PickedStated
 pub mod LeavesFit
 pub mod ContentParts
+pub mod Postfixed

@@ -4,6 +4,7 @@ pub mod Fetch
 pub mod Stated
 pub mod Picked
 pub mod Shape
+pub mod Postfix
 pub mod Rows
 pub mod Found
 pub mod Reduced

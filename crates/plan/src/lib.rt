@@ -12,5 +12,6 @@ pub mod laws;
 pub mod localize;
 pub mod need;
 pub mod plan;
+pub mod postfix;
 pub mod reduce;
 pub mod stated;

@@ -92,7 +92,7 @@ fn outcomes(
     if !are_all_parts(reads, rows) {
         return Err(Memory);
     }
-    let one = work(alloc, &catalog, &statement, &less, rows)?;
+    let one = work(alloc, &catalog, &statement, &less.plan, reads, rows)?;
     let table = evaluate(alloc, &less.plan, rows)?;
     let other = finish(alloc, &catalog, &statement, &table)?;
     Ok((shown(alloc, &one)?, shown(alloc, &other)?))

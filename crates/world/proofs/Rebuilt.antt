@@ -33,7 +33,9 @@ use Rattle.plan.specs.declared.reduce.Reduced.{Reduced}
 use Rattle.plan.specs.Given.{AreBrought}
 use Rattle.plan.specs.Need.{places_to}
 use Rattle.plan.specs.Reduced.{FindsAll}
+use Rattle.plan.specs.Postfix.{postfix}
 use Rattle.plan.specs.Shape.{shape}
+use Rattle.plan.proofs.Postfixed.{plan_is}
 use Rattle.plan.specs.Stated.{AreFetchesOf}
 use Rattle.plan.proofs.JoinFound.{fits_long}
 use Rattle.answers.specs.declared.table.FetchRows.{FetchRows}
@@ -47,6 +49,7 @@ use Rattle.desk.specs.Fetches.{brought}
 use Rattle.desk.specs.Database.{Database, language, statements}
 use Rattle.desk.specs.Place.{fetch_in, home_in, placed_in, site_in}
 use Rattle.desk.specs.Planned.{IsOfPlan, asked}
+use Rattle.desk.specs.ReducedPlan.{ReducedPlan}
 use Rattle.desk.specs.Transaction.{ask_of}
 use Rattle.desk.proofs.AtHomes.{found_so}
 use Rattle.desk.proofs.Explaining.{are_brought}
@@ -155,9 +158,10 @@ pub are_all_brought : (catalogue : Catalogue) → IsBase (database catalogue) �
 are_all_brought catalogue base unique n stated reduced whole of fetches finds fits rows are =
     let db = database catalogue in
     let asks = map (ghost_ask db n whole) reduced.fetches.items in
-    let planned : IsOfPlan db n stated reduced asks = record { statement = of; fetches = fetches; finds = finds; in_order = in_order db n whole reduced.fetches.items } in
+    let plan : ReducedPlan = record { nodes = postfix (shape reduced.plan); fetches = reduced.fetches.items } in
+    let planned : IsOfPlan db n stated plan asks = record { statement = of; fetches = fetches; finds = subst (FindsAll catalogue stated reduced.fetches.items) (sym (plan_is (shape reduced.plan))) finds; in_order = in_order db n whole reduced.fetches.items } in
     subst (λ rs. AreBrought catalogue whole reduced.fetches.items (given rs)) (all_brought db n whole reduced.fetches.items ∙ sym are)
-    (are_brought db base.of_catalogue n unique stated reduced asks planned whole fits (all_given db n whole reduced.fetches.items))
+    (are_brought db base.of_catalogue n unique stated plan asks planned whole fits (all_given db n whole reduced.fetches.items))
 
 -- ---- the SELECT of all columns
 below : (first n : ℕ) → AllByRecursion (λ col. col < first + n) (range_with_len first n)

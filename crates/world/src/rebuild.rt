@@ -307,10 +307,11 @@ fn answer(
         → IfOk result (λ answer. (whole : Relations) → FitsSchema (schemas_of (catalogue_of catalog.now)) whole → AreBrought (catalogue_of catalog.now) whole reduced.now.fetches.items (given brought.now) → answer ≡ (meaning statement.now whole).0) }
     ensures fails { AllByRecursion (λ read. AreParts read.columns (given brought.now read.leaf)) reduced.now.fetches.items → IfErr result (λ fault. fault ≡ faults.Desk refusals.Memory) }
 {
-    if !are_all_parts(fetches(reduced), brought) {
+    let reads = fetches(reduced);
+    if !are_all_parts(reads, brought) {
         return Err(Fault::Site(SiteFault::Store(StoreFault::Damaged)));
     }
-    Ok(work(alloc, catalog, statement, reduced, brought)?.answer)
+    Ok(work(alloc, catalog, statement, &reduced.plan, reads, brought)?.answer)
 }
 
 /// The rows of an answer.

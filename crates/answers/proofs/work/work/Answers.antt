@@ -14,26 +14,26 @@ use Rattle.answers.proofs.work.work.Goals as goal
 
 pub evaluate-requires-clause-parts : goal.evaluate-requires-clause-parts
 evaluate-requires-clause-parts c =
-    each_read (λ read. AreParts read.columns (given c.args.fetched.now read.leaf)) c.args.reduced.now.fetches.items (shape c.args.reduced.now.plan) c.requires.parts c.requires.fetched
+    each_read (λ read. AreParts read.columns (given c.args.fetched.now read.leaf)) c.args.fetches.now (shape c.args.plan.now) c.requires.parts c.requires.fetched
 
 pub returns-clause-answer : goal.returns-clause-answer
 returns-clause-answer c = λ of are finds.
     let catalogue = catalogue_of c.args.catalog.now in
     let statement = c.args.statement.now in
-    let fetches = c.args.reduced.now.fetches.items in
+    let fetches = c.args.fetches.now in
     let contents = given c.args.fetched.now in
     let Holds : Outcome → Relations → Type 0 = λ outcome whole. outcome.answer ≡ (meaning statement whole).0 in
     over_brought c.finish.result (FitsSchema (schemas_of catalogue)) (λ whole. IsTableOf statement whole c.in_ok-table.table) (λ whole. AreBrought catalogue whole fetches contents) Holds
-    (table_of catalogue statement fetches (shape c.args.reduced.now.plan) contents c.in_ok-table.table c.brought_is_read.ensures c.contents_give.ensures.reads c.relations-relations.ensures.formed of are finds c.in_ok-table.ensures)
+    (table_of catalogue statement fetches (shape c.args.plan.now) contents c.in_ok-table.table c.brought_is_read.ensures c.contents_give.ensures.reads c.relations-relations.ensures.formed of are finds c.in_ok-table.ensures)
     (c.finish.ensures.answer of)
 
 pub returns-clause-writes : goal.returns-clause-writes
 returns-clause-writes c = λ of are finds.
     let catalogue = catalogue_of c.args.catalog.now in
     let statement = c.args.statement.now in
-    let fetches = c.args.reduced.now.fetches.items in
+    let fetches = c.args.fetches.now in
     let contents = given c.args.fetched.now in
     let Holds : Outcome → Relations → Type 0 = λ outcome whole. outcome.writes ≡ writes_between catalogue whole (meaning statement whole).1 in
     over_brought c.finish.result (FitsSchema (schemas_of catalogue)) (λ whole. IsTableOf statement whole c.in_ok-table.table) (λ whole. AreBrought catalogue whole fetches contents) Holds
-    (table_of catalogue statement fetches (shape c.args.reduced.now.plan) contents c.in_ok-table.table c.brought_is_read.ensures c.contents_give.ensures.reads c.relations-relations.ensures.formed of are finds c.in_ok-table.ensures)
+    (table_of catalogue statement fetches (shape c.args.plan.now) contents c.in_ok-table.table c.brought_is_read.ensures c.contents_give.ensures.reads c.relations-relations.ensures.formed of are finds c.in_ok-table.ensures)
     (c.finish.ensures.writes of)
