@@ -9,13 +9,13 @@ use Rattle.sqlite.specs.Schema.{Schema}
 use Rattle.sqlite.specs.State.{State, Shows}
 use Rattle.sqlite.specs.declared.error.Error.{Error}
 use Rattle.sqlite.proofs.InsideLemmas.{keeps_then}
-use Rattle.sqlstore.specs.Rows.{AreTablesOf, RewritesOf, Loses, Gains}
+use Rattle.sqlstore.specs.Rows.{RewritesOf, Loses, Gains}
 use Rattle.sqlstore.specs.declared.intent.Intent.{Intent}
 use Rattle.sqlstore.specs.declared.visit.Visit.{Visit}
 use Rattle.sqlite_rules.specs.Lists.{Has}
 use Rattle.sqlite_rules.proofs.ListLemmas.{has_left, has_right, has_either}
-use Rattle.sqlstore.specs.Step.{StepsOf, Follows, Empties, Takes, Keeps, Intends, Promises, slot_params, intend_params, is_at_some}
-use Rattle.sqlstore.specs.Tests.{at_slot, passes}
+use Rattle.sqlstore.specs.Step.{StepsOn, Empties, Takes, Forgets, Keeps, Intends, Promises, slot_params, visit_params, intend_params, is_at_some}
+use Rattle.sqlstore.specs.Tests.{at_slot, of_visit, passes}
 
 -- a step that answered
 abbrev pub good : ℕ → Result ℕ Error
@@ -25,26 +25,14 @@ shows_then : (old mid new : State) → Shows old mid mid.now old.committed true 
 shows_then old mid new first second = record { was_open = first.was_open; is_open = second.is_open; now_is = refl; committed_is = second.committed_is ∙ first.committed_is; mode = second.mode }
 
 -- a statement that follows another
-pub then_step : {own : Schema} {A B : Type 0} (P Q R : Database → Database → Type 0) (old mid new : State) (value : A) (result : Result B Error) → (P old.now mid.now → AreTablesOf own mid.now) → (P old.now mid.now → Q mid.now new.now → R old.now new.now)
-    → StepsOf own P old mid (Ok value) → StepsOf own Q mid new result → StepsOf own R old new result
-then_step P Q R old mid new value (Ok other) tables both first second = record {
+pub then_step : {Known Between : Database → Type 0} {A B : Type 0} (P Q R : Database → Database → Type 0) (old mid new : State) (value : A) (result : Result B Error) → (P old.now mid.now → Between mid.now) → (P old.now mid.now → Q mid.now new.now → R old.now new.now)
+    → StepsOn Known P old mid (Ok value) → StepsOn Between Q mid new result → StepsOn Known R old new result
+then_step P Q R old mid new value (Ok other) known both first second = record {
   kept = keeps_then old mid new first.kept second.kept;
   shows = shows_then old mid new first.shows second.shows;
-  does = λ were. let p = first.does were in both p (second.does (tables p));
+  does = λ were. let p = first.does were in both p (second.does (known p));
 }
-then_step P Q R old mid new value (Err e) tables both first second = record { kept = keeps_then old mid new first.kept second.kept; shows = tt; does = λ _. tt }
-
-pub follow_step : {own : Schema} {A B : Type 0} (P Q : Database → Database → Type 0) (old mid new : State) (value : A) (result : Result B Error) → (P old.now mid.now → AreTablesOf own mid.now)
-    → StepsOf own P old mid (Ok value) → StepsOf own Q mid new result → StepsOf own (Follows P Q) old new result
-follow_step P Q old mid new value result tables = then_step P Q (Follows P Q) old mid new value result tables (λ p q. (mid.now, p, q))
-
--- what is said of a step that answered, whatever it answered
-pub same_step : {own : Schema} {A B : Type 0} (P R : Database → Database → Type 0) (old new : State) (value : A) (other : B) → (P old.now new.now → R old.now new.now) → StepsOf own P old new (Ok value) → StepsOf own R old new (Ok other)
-same_step P R old new value other weaker step = record { kept = step.kept; shows = step.shows; does = λ were. weaker (step.does were) }
-
--- a step that failed, after others that didn't
-pub failed_step : {own : Schema} {A B C : Type 0} (P Q R : Database → Database → Type 0) (old mid new : State) (value : A) (result : Result B Error) (e : Error) → StepsOf own P old mid (Ok value) → StepsOf own Q mid new result → StepsOf {A = C} own R old new (Err e)
-failed_step P Q R old mid new value result e first second = record { kept = keeps_then old mid new first.kept second.kept; shows = tt; does = λ _. tt }
+then_step P Q R old mid new value (Err e) known both first second = record { kept = keeps_then old mid new first.kept second.kept; shows = tt; does = λ _. tt }
 
 -- rows that go after others that went
 pub loses_more : (one other both : Row → Bool) (a b c : List Row) → ((row : Row) → both row ≡ (one row || other row)) → Loses one a b → Loses other b c → Loses both a c
@@ -119,6 +107,10 @@ keeps_more visit txn intents i intent a b c lt is first second =
           ])
           first.2 second,
     )
+
+-- no part is taken out yet
+pub empties_none : (visit : Visit) (a b : Database) → Forgets visit a b → Empties visit [] a b
+empties_none visit a b first = (b, first, loses_none 0 (Forgets visit) (Loses (passes of_visit (visit_params visit))) 2 a b first)
 
 -- no intent is kept yet
 pub keeps_none : (visit txn : Visit) (a b : Database) → Promises visit txn a b → Keeps visit txn [] a b

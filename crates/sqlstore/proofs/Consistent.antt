@@ -1,5 +1,5 @@
 -- Rows that pass each test are as a site's store leaves them, and the other way about.
-use Rattle.std.proofs.Common.{List, [], Result, Ok, Err, OnOk, refl, inl, inr}
+use Rattle.std.proofs.Common.{List, [], refl, inl, inr}
 use Rattle.std.specs.List.{AllByRecursion}
 use Rattle.sqlite.specs.Order.{Row}
 use Rattle.sqlite_rules.specs.Lists.{Has}
@@ -13,10 +13,6 @@ use Rattle.sqlstore.proofs.Rising.{keyed_by_numbers}
 use Rattle.sqlstore.proofs.Sharing.{four_keyed}
 
 -- ---- what is stored
-
-pub on_ok : {T E P Q : Type 0} (result : Result T E) → (P → Q) → OnOk result P → OnOk result Q
-on_ok (Ok value) means holds = means holds
-on_ok (Err e) means holds = tt
 
 no_rows : AreKeyed []
 no_rows = record { ints = λ row there. absurd there; apart = λ one other h k same. absurd h }

@@ -1,18 +1,27 @@
 -- The statements of the coordinator's calls, one after another.
-use Rattle.std.proofs.Common.{◌≡◌, ℕ, ℤ, ◌+◌, ◌<◌, List, [], ◌∷◌, ◌++◌, take, length, get_or, string_bytes, Ok, Err, Result, OnOk, refl, sym, ap, ◌∙◌, subst, inl, inr}
+use Rattle.std.proofs.Common.{◌≡◌, ℕ, ℤ, ◌+◌, ◌<◌, List, [], ◌∷◌, ◌++◌, take, length, get_or, string_bytes, refl, sym, ap, ◌∙◌, subst, inl, inr}
 use Rattle.std.proofs.lemmas.List.{take_more}
 use Rattle.sqlite.specs.Effect.{Database}
 use Rattle.sqlite.specs.Order.{Row}
-use Rattle.sqlite.specs.declared.error.Error.{Error}
 use Rattle.sqlite_rules.specs.Lists.{Has}
 use Rattle.sqlite_rules.proofs.ListLemmas.{has_left, has_right, has_either}
 use Rattle.sqlstore.specs.declared.visit.Visit.{Visit}
 use Rattle.sqlstore.specs.declared.vote.Vote.{Vote}
-use Rattle.sqlstore.specs.declared.decision.Decision.{Decision}
-use Rattle.sqlstore.specs.DeskQuery.{AreEpochs, DecidesNow}
-use Rattle.sqlstore.specs.Query.{first_life}
-use Rattle.sqlstore.specs.DeskStep.{Decides, Votes, vote_params}
+use Rattle.sqlstore.specs.DeskStep.{Decides, MovesTo, Votes, vote_params}
 use Rattle.sqlstore.proofs.Composed.{gains_again}
+
+-- no voter is kept yet
+pub decides_none : (txn : Visit) (life version : ℤ) (a b : Database) → MovesTo life version a b → Decides txn [] life version a b
+decides_none txn life version a b moved = (
+  b,
+  moved,
+  record {
+    tables = moved.2.tables;
+    sound = moved.2.sound;
+    rows = record { kept = λ row there. there; made = λ cells from. absurd from.1; only = λ row there. inl there };
+    others = λ table listed apart. refl;
+  },
+)
 
 -- one voter more is kept
 pub decides_more : (txn : Visit) (votes : List Vote) (life version : ℤ) (i : ℕ) (vote : Vote) (a b c : Database) → i < length votes → vote ≡ get_or votes i vote → Decides txn (take i votes) life version a b → Votes txn (string_bytes vote.site) vote.ticket b c
@@ -32,9 +41,3 @@ decides_more txn votes life version i vote a b c lt is first second =
           ])
           first.2 second,
     )
-
--- what is kept beside the incarnation that a query showed
-pub decided_now : (decision : Decision) (rows : List Row) (life : ℤ) (old new : Database) (result : Result (Unit {0}) Error) → AreEpochs (old.trees 2) rows → first_life rows ≡ life → OnOk result (Decides decision.txn decision.votes.items life decision.version old new)
-    → OnOk result (DecidesNow decision old new)
-decided_now decision rows life old new (Ok done) shows is made = (rows, shows, subst (λ n. Decides decision.txn decision.votes.items n decision.version old new) (sym is) made)
-decided_now decision rows life old new (Err e) shows is made = tt

@@ -91,7 +91,7 @@ module _ (leaves : List Leaf) (named : AreNamed leaves) (db : Database) (sound :
       let typed = part_typed db sound stored.tables from.0 from.1 in
       let spells = (stored.parts from.0 from.1).spells in
       let cell : column it 0 ≡ column from.0 3 = ap (λ r. column r 0) from.3 in
-      (cell ∙ typed.body ∙ ap (λ v. Blob (bytes v)) (sym cell), (spells.part, ap (λ v. part_from (bytes v)) cell ∙ spells.spelled))
+      record { body = cell ∙ typed.body ∙ ap (λ v. Blob (bytes v)) (sym cell); part = spells.part; spelled = ap (λ v. part_from (bytes v)) cell ∙ spells.spelled }
 
 -- what is committed as it was is unchanged
 pub unchanged_by : (leaves : List Leaf) (old new : Database) → new ≡ old → IsUnchanged (kept_of leaves old) (kept_of leaves new)

@@ -9,6 +9,7 @@ pub mod Composed
 pub mod Showing
 pub mod Committing
 pub mod Crashing
+pub mod Framing
 pub mod Typed
 pub mod Bridge
 pub mod Contents

@@ -15,8 +15,8 @@ use Rattle.sqlite.specs.declared.types.Value.{Value}
 use Rattle.sqlite.specs.declared.types.Value.TheVariants.{Null, Int, Text, Blob}
 use Rattle.sqlite_rules.specs.Lists.{Has}
 use Rattle.sqlstore.specs.declared.visit.Visit.{Visit}
-use Rattle.sqlstore.specs.Rows.{AreTablesOf, RewritesOf, Gains}
-use Rattle.sqlstore.specs.Step.{StepsOf, Steps, Takes, Gives, Clears, Forgets, Promises, Intends, EndsLife, StartsLife, visit_params, slot_params, promise_params, intend_params, given}
+use Rattle.sqlstore.specs.Rows.{RewritesOf, Gains}
+use Rattle.sqlstore.specs.Step.{StepsOn, Steps, Takes, Gives, Clears, Forgets, Promises, Intends, EndsLife, StartsLife, visit_params, slot_params, promise_params, intend_params, given}
 use Rattle.sqlstore.specs.Tables.{site_schema, part_table, prepared_table, intent_table, state_table}
 use Rattle.sqlstore.specs.Tests.{at_slot, of_visit, puts_of_visit, passes, shown}
 use Rattle.sqlstore.proofs.Querying.{answered}
@@ -30,8 +30,8 @@ pub undone_keeps : (old new : State) → IsRolledBack old new → KeepsCommit ol
 undone_keeps old new undone = record { was_open = undone.was_open; committed = λ is_open. (undone.undone is_open).1 }
 
 -- a statement within a transaction steps by what it does where it answers
-pub steps_by : {own : Schema} (P : Database → Database → Type 0) (sql : List ℕ) (params : Row) (old new : State) (result : Result ℕ Error) → (AreTablesOf own old.now → (count : ℕ) → Executes sql params old new (Ok count) → P old.now new.now)
-    → ExecutesInside 0 sql params old new result → StepsOf own P old new result
+pub steps_by : {Known : Database → Type 0} (P : Database → Database → Type 0) (sql : List ℕ) (params : Row) (old new : State) (result : Result ℕ Error) → (Known old.now → (count : ℕ) → Executes sql params old new (Ok count) → P old.now new.now)
+    → ExecutesInside 0 sql params old new result → StepsOn Known P old new result
 steps_by P sql params old new (Ok count) does ran = record {
   kept = record { was_open = λ _. ran.1.was_open; committed = λ _. ran.1.committed_is };
   shows = ran.1;

@@ -1,5 +1,5 @@
 -- A walk through all parts meets each of them.
-use Rattle.std.proofs.Common.{◌≡◌, ◌<◌, ◌==◌, ◌-◌, ℕ, zero, suc, Bool, true, false, cond, List, [], ◌∷◌, ◌++◌, length, length-append, Option, Some, None, Ok, Err, IsTrue, MatchBool, refl, sym, ap, ◌∙◌, subst, subst₂, inl, inr, arith}
+use Rattle.std.proofs.Common.{◌≡◌, ◌<◌, ◌==◌, ◌-◌, ℕ, zero, suc, Bool, true, false, cond, List, [], ◌∷◌, ◌++◌, length, length-append, Option, Some, None, Ok, Err, IsTrue, MatchBool, refl, sym, ap, ◌∙◌, subst, subst₂, inl, inr, arith, ◌≢◌, Result}
 use Rattle.std.specs.List.{AllByRecursion}
 use Rattle.std.proofs.lemmas.Bool.{cases_lt}
 use Rattle.std.proofs.lemmas.List.{append_assoc}
@@ -21,7 +21,12 @@ use Rattle.sqlite_resolve.specs.declared.compiled.Compiled.{Compiled}
 use Rattle.sqlite_rules.proofs.ListLemmas.{all_has, has_right}
 use Rattle.store.specs.Content.{Changes}
 use Rattle.terms.specs.declared.leaf.Leaf.{Leaf}
-use Rattle.sqlstore.specs.Gathered.{Looks, ShowsAll}
+use Rattle.store.specs.declared.fault.StoreFault.{StoreFault}
+use Rattle.store.specs.declared.fault.StoreFault.TheVariants.{Memory, Damaged}
+use Rattle.std.specs.Result.{IsErr}
+use Rattle.sqlstore.specs.Frame.{LooksAt, WalksParts}
+use Rattle.sqlstore.specs.Gathered.{ShowsAll}
+use Rattle.sqlstore.specs.Rows.{HasSchema}
 use Rattle.sqlstore.specs.Listed.{HasCells, part_terms, with_row, with_rows}
 use Rattle.sqlstore.specs.Numbered.{AreNumbered, Follows, row_at}
 use Rattle.sqlstore.specs.Sound.{IsPart}
@@ -226,20 +231,24 @@ module _ {S : Type 0} (g : Ghosts S) (leaves : List Leaf) where
     way_to c is_open schema = (goes (clean c)).2 (now_schema c is_open schema)
 
     -- a walk that is broken off
-    pub broken_off : {A E : Type 0} (P : Database → A → Type 0) (fault : E) → Looks P (state g old) (state g new) (Err fault)
-    broken_off P fault = record {
-      clean = λ c. (goes (clean c)).0;
-      was_open = was_open;
+    pub broken_off : {A E : Type 0} (P : Database → A → Type 0) (fault : E) → new.in_transaction ≡ false → LooksAt (HasSchema site_schema) P (state g old) (state g new) (Err fault)
+    broken_off P fault mode = record {
+      outside = record { clean = λ c. (goes (clean c)).0; was_open = was_open; mode = mode };
       same = λ c is_open schema. (kept c).committed is_open ∙ (way_to c is_open schema).same.0.committed_is;
       shows = λ c is_open schema. tt;
     }
 
+    -- so to a caller, where the fault isn't damage of parts that are as they should be
+    pub walks_short : {A : Type 0} (P : Database → A → Type 0) (result : Result A StoreFault) → IsErr result → new.in_transaction ≡ false
+        → (HasCleanDisk (state g new) → IsTrue (state g new).is_open → HasSchema site_schema (state g old).committed → AreParts leaves ((state g old).committed.trees 0) → result ≢ Err Damaged) → WalksParts leaves P (state g old) (state g new) result
+    walks_short P (Ok value) failed mode intact = absurd (let e = failed in cc)
+    walks_short P (Err fault) failed mode intact = record { looks = broken_off P fault mode; intact = intact }
+
     -- and one that has met all parts
-    pub finished : {E : Type 0} → IsLive (state g old) → (HasCleanDisk (state g new) → Advances g mid new None)
-        → Looks {A = Unit {0}} {E = E} (λ db _. HasWalked leaves (db.trees 0) keeps start changes) (state g old) (state g new) (Ok tt)
-    finished live gives = record {
-      clean = λ c. (goes (clean c)).0;
-      was_open = was_open;
+    pub finished : {E : Type 0} → new.in_transaction ≡ false → IsLive (state g old) → (HasCleanDisk (state g new) → Advances g mid new None)
+        → LooksAt {A = Unit {0}} {E = E} (HasSchema site_schema) (λ db _. HasWalked leaves (db.trees 0) keeps start changes) (state g old) (state g new) (Ok tt)
+    finished mode live gives = record {
+      outside = record { clean = λ c. (goes (clean c)).0; was_open = was_open; mode = mode };
       same = λ c is_open schema. (kept c).committed is_open ∙ (way_to c is_open schema).same.0.committed_is;
       shows = λ c is_open schema.
           let was = was_open c is_open in
@@ -255,3 +264,15 @@ module _ {S : Type 0} (g : Ghosts S) (leaves : List Leaf) where
 
 pub kept_self : (s : State) → KeepsCommit s s
 kept_self s = record { was_open = λ is_open. is_open; committed = λ is_open. refl }
+
+-- a walk that has come to the end finds no damage
+pub walks_on : {A : Type 0} (leaves : List Leaf) (P : Database → A → Type 0) (old new : State) (value : A) → LooksAt {E = StoreFault} (HasSchema site_schema) P old new (Ok value) → WalksParts leaves P old new (Ok value)
+walks_on leaves P old new value looks = record { looks = looks; intact = λ clean is_open schema parts damaged. absurd (let same = damaged in cc) }
+
+-- want of memory is no damage
+pub memory_intact : {A : Type 0} → ◌≢◌ {A = Result A StoreFault} (Err Memory) (Err Damaged)
+memory_intact damaged = absurd (let same = damaged in cc)
+
+-- a walk on a connection, told of it under another name
+pub walks_to : {S A : Type 0} (g : Ghosts S) (leaves : List Leaf) (P : Database → A → Type 0) (old end here : Held S) (result : Result A StoreFault) → end ≡ here → WalksParts leaves P (state g old) (state g end) result → WalksParts leaves P (state g old) (state g here) result
+walks_to g leaves P old end here result same walks = subst (λ h. WalksParts leaves P (state g old) (state g h) result) same walks

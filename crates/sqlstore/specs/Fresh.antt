@@ -1,17 +1,18 @@
 -- New stores.
-use Rattle.std.specs.Prelude.{◌≡◌, ◌⊎◌, true, [], None, Result, OnOk, IsTrue}
+use Rattle.std.specs.Prelude.{◌≡◌, ◌⊎◌, [], None, Result, IsTrue}
 use Rattle.std.specs.FinMap as map
 use Rattle.sqlite.specs.Change.{created, next_tree, KeepsRows}
 use Rattle.sqlite.specs.Effect.{Database}
 use Rattle.sqlite.specs.Schema.{Schema}
-use Rattle.sqlite.specs.State.{State, KeepsCommit, Shows}
+use Rattle.sqlite.specs.State.{State}
 use Rattle.sqlite.specs.Table.{Table}
 use Rattle.sqlite.specs.Tree.{Trees}
 use Rattle.sqlite.specs.declared.error.Error.{Error}
 use Rattle.store.specs.declared.name.Ticket.{Ticket}
 use Rattle.store.specs.SiteContent.{SiteContent}
 use Rattle.terms.specs.declared.leaf.Leaf.{Leaf}
-use Rattle.sqlstore.specs.Step.{Follows}
+use Rattle.sqlstore.specs.Rows.{HasSchema}
+use Rattle.sqlstore.specs.Step.{Follows, StepsOn}
 use Rattle.sqlstore.specs.Tables.{no_schema, part_table, prepared_table, intent_table, site_schema, state_table}
 
 -- the tables are a site's, and no row is in them
@@ -38,11 +39,9 @@ pub record MakesTable (before : Schema) (table : Table) (old new : Database) : T
   pub empty : new.trees (next_tree before) ≡ []
   pub kept : KeepsRows before.tables old.trees new.trees
 
--- a statement commits nothing, and where it answers, under this schema, has made this of the tables
-pub record Builds {A : Type 0} (before : Schema) (P : Database → Database → Type 0) (old new : State) (result : Result A Error) : Type 0 where
-  pub kept : KeepsCommit old new
-  pub shows : OnOk result (Shows old new new.now old.committed true)
-  pub does : old.now.schema ≡ before → OnOk result (P old.now new.now)
+-- a statement that, under this schema, has made this of the tables
+abbrev pub Builds : {A : Type 0} → Schema → (Database → Database → Type 0) → State → State → Result A Error → Type 0
+Builds before P old new result = StepsOn (HasSchema before) P old new result
 
 -- the first two tables, the others, and all
 abbrev pub MakesFirst : Database → Database → Type 0

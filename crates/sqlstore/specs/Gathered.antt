@@ -1,13 +1,11 @@
 -- All rows of a site's tables, as queries show them.
-use Rattle.std.specs.Prelude.{◌≡◌, ◌≢◌, pos, ◌≤ℤ◌, true, Option, IsSome, if◌then◌else◌, Result, IfOk, IsTrue, List, [], ◌∷◌, slice_index_or}
+use Rattle.std.specs.Prelude.{◌≡◌, ◌≢◌, pos, ◌≤ℤ◌, true, Option, IsSome, if◌then◌else◌, List, [], ◌∷◌, slice_index_or}
 use Rattle.std.specs.FinMap as map
 use Rattle.std.specs.List.{AllByRecursion}
 use Rattle.std.specs.Option.{option_map}
 use Rattle.std.specs.List.Sorted.{IsSorted}
 use Rattle.sqlite.specs.Effect.{Database}
 use Rattle.sqlite.specs.Order.{Row, value_cmp}
-use Rattle.sqlite.specs.Schema.{Schema}
-use Rattle.sqlite.specs.State.{State, HasCleanDisk}
 use Rattle.sqlite.specs.Term.{Term, lit, col}
 use Rattle.sqlite.specs.Tree.{rowid}
 use Rattle.sqlite.specs.declared.types.Value.TheVariants.{Null}
@@ -81,14 +79,3 @@ pub record AreAllNumbered (tables : Gathered) : Type 0 where
   pub prepared : AreNumbered tables.prepared.items
   pub intents : AreNumbered tables.intents.items
   pub state : AreNumbered tables.state.items
-
--- a query outside of a transaction: where the tables are those of a store it leaves what is committed, and shows this of it
-pub record LooksOf {A E : Type 0} (own : Schema) (P : Database → A → Type 0) (old new : State) (result : Result A E) : Type 0 where
-  pub clean : HasCleanDisk new → HasCleanDisk old
-  pub was_open : HasCleanDisk new → IsTrue new.is_open → IsTrue old.is_open
-  pub same : HasCleanDisk new → IsTrue new.is_open → old.committed.schema ≡ own → new.committed ≡ old.committed
-  pub shows : HasCleanDisk new → IsTrue new.is_open → old.committed.schema ≡ own → IfOk result (P old.committed)
-
--- so where the tables are a site's
-abbrev pub Looks : {A E : Type 0} → (Database → A → Type 0) → State → State → Result A E → Type 0
-Looks P old new result = LooksOf site_schema P old new result

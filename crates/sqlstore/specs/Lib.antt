@@ -29,3 +29,4 @@ pub mod Walk
 pub mod DeskRows
 pub mod Fresh
 pub mod Site
+pub mod Frame

@@ -3,6 +3,7 @@ use Rattle.std.specs.Prelude.{◌≡◌, ℕ, ◌+◌, ℤ, pos, Option, Some, N
 use Rattle.sqlite.specs.Edit.{id_in}
 use Rattle.sqlite.specs.Effect.{Database}
 use Rattle.sqlite.specs.Order.{Row, bytes, column}
+use Rattle.sqlite.specs.declared.types.Value.{Value}
 use Rattle.sqlite.specs.declared.types.Value.TheVariants.{Int, Text, Blob}
 use Rattle.terms.specs.declared.value.Value.{Value as Cell}
 use Rattle.terms.specs.Stored.{part_from}
@@ -63,6 +64,12 @@ first_life (row ∷ rows) = id_in (column row 0)
 abbrev pub LivesNext : ℕ → Database → Database → Type 0
 LivesNext next old new = (rows : List Row) × AreLives (old.trees 6) rows × (life : ℕ) × (first_life rows ≡ pos life) × (next ≡ life + 1) × LivesOn (pos next) old new
 
+-- so where a table holds a number more; else nothing is changed
+abbrev pub LivesIf : Option ℕ → Database → Database → Type 0
+LivesIf None old new = new ≡ old
+LivesIf (Some next) old new = LivesNext next old new
+
+-- the incarnation after the one that is kept begins, whichever that is
 abbrev pub LivesSome : Database → Database → Type 0
 LivesSome old new = (next : ℕ) × LivesNext next old new
 
@@ -82,7 +89,13 @@ abbrev pub first_part : List Row → Option (List Cell)
 first_part [] = None
 first_part (row ∷ rows) = Some (decoded (bytes (column row 0)))
 
--- the first of these, if there is one, is a body that spells a part
+-- a cell is a body that spells a part
+pub record SpellsPart (cell : Value) : Type 0 where
+  pub body : cell ≡ Blob (bytes cell)
+  pub part : List Cell
+  pub spelled : part_from (bytes cell) ≡ Ok part
+
+-- so does the first of these, if there is one
 abbrev pub SpellsFirst : List Row → Type 0
 SpellsFirst [] = Unit {0}
-SpellsFirst (row ∷ rows) = (column row 0 ≡ Blob (bytes (column row 0))) × ((part : List Cell) × (part_from (bytes (column row 0)) ≡ Ok part))
+SpellsFirst (row ∷ rows) = SpellsPart (column row 0)

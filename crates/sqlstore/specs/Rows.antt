@@ -14,6 +14,10 @@ pub record AreKeyed (rows : List Row) : Type 0 where
   pub ints : (row : Row) → Has rows row → is_int (rowid row) ≡ true
   pub apart : (one other : Row) → Has rows one → Has rows other → rowid one ≡ rowid other → one ≡ other
 
+-- the schema is this
+abbrev pub HasSchema : Schema → Database → Type 0
+HasSchema own db = db.schema ≡ own
+
 -- the tables are those of a store, and the rows of each are numbered
 pub record AreTablesOf (own : Schema) (db : Database) : Type 0 where
   pub schema : db.schema ≡ own

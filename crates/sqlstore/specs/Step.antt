@@ -18,11 +18,15 @@ use Rattle.sqlite_rules.specs.Lists.{Has}
 use Rattle.sqlite.specs.Cast.{cast}
 use Rattle.sqlite.specs.Kind.TheVariants as kinds
 
--- a statement commits nothing, and where it answers has made this of the tables
-pub record StepsOf {A : Type 0} (own : Schema) (P : Database → Database → Type 0) (old new : State) (result : Result A Error) : Type 0 where
+-- a statement commits nothing, and where it answers has made this of tables that are known
+pub record StepsOn {A : Type 0} (Known : Database → Type 0) (P : Database → Database → Type 0) (old new : State) (result : Result A Error) : Type 0 where
   pub kept : KeepsCommit old new
   pub shows : OnOk result (Shows old new new.now old.committed true)
-  pub does : AreTablesOf own old.now → OnOk result (P old.now new.now)
+  pub does : Known old.now → OnOk result (P old.now new.now)
+
+-- so over the tables of a store
+abbrev pub StepsOf : {A : Type 0} → Schema → (Database → Database → Type 0) → State → State → Result A Error → Type 0
+StepsOf own P old new result = StepsOn (AreTablesOf own) P old new result
 
 -- so over a site's tables
 abbrev pub Steps : {A : Type 0} → (Database → Database → Type 0) → State → State → Result A Error → Type 0

@@ -1,13 +1,12 @@
 //! A transaction is committed in one change of the coordinator's tables, and its voters are dropped in another.
 
-ghost use Rattle.std.specs.Prelude.{◌≡◌, IsTrue, OnOk, OnErr, false, string_bytes};
+ghost use Rattle.std.specs.Prelude.{◌≡◌, false, string_bytes};
 ghost use Rattle.sqlite.specs.Held.{state};
-ghost use Rattle.sqlite.specs.State.{HasCleanDisk, Survives};
 ghost use Rattle.sqlstore.specs.DeskQuery.{DecidesNow};
 ghost use Rattle.sqlstore.specs.DeskStep.{Decides, Undecides, Votes};
 ghost use Rattle.sqlstore.specs.DeskTables.{desk_schema};
 ghost use Rattle.sqlstore.specs.Rows.{AreTablesOf};
-ghost use Rattle.sqlstore.specs.Step.{StepsOf, MayLeaveOf};
+ghost use Rattle.sqlstore.specs.Frame.{Commits, RunsWithin};
 
 use crate::decision::Decision;
 use crate::epoch::{epochs, kept_life, move_to};
@@ -22,9 +21,7 @@ fn vote<S: Alter>(
     site: &String,
     ticket: &Visit,
 ) -> Result<usize, Error>
-    ensures same_reference { tx.new.conn.ghost_name ≡ tx.old.conn.ghost_name }
-    ensures does { HasCleanDisk (state S.Store tx.new.conn.now) → IsTrue (state S.Store tx.old.conn.now).in_transaction → StepsOf desk_schema (Votes txn.now (string_bytes site.now) ticket.now) (state S.Store tx.old.conn.now) (state S.Store tx.new.conn.now) result }
-    ensures survives { Survives (state S.Store tx.old.conn.now) (state S.Store tx.new.conn.now) (λ _. ⊥) }
+    ensures { RunsWithin S.Store (AreTablesOf desk_schema) (Votes txn.now (string_bytes site.now) ticket.now) tx.old.conn tx.new.conn result }
 {
     tx.execute(
         "INSERT INTO decided (tlife, tnumber, site, life, visit) VALUES (?1, ?2, ?3, ?4, ?5)",
@@ -40,9 +37,7 @@ fn vote<S: Alter>(
 
 /// Takes out the voters of a transaction.
 fn take_out<S: Alter>(tx: &mut Transaction<'_, S>, txn: &Visit) -> Result<usize, Error>
-    ensures same_reference { tx.new.conn.ghost_name ≡ tx.old.conn.ghost_name }
-    ensures does { HasCleanDisk (state S.Store tx.new.conn.now) → IsTrue (state S.Store tx.old.conn.now).in_transaction → StepsOf desk_schema (Undecides txn.now) (state S.Store tx.old.conn.now) (state S.Store tx.new.conn.now) result }
-    ensures survives { Survives (state S.Store tx.old.conn.now) (state S.Store tx.new.conn.now) (λ _. ⊥) }
+    ensures { RunsWithin S.Store (AreTablesOf desk_schema) (Undecides txn.now) tx.old.conn tx.new.conn result }
 {
     tx.execute(
         "DELETE FROM decided WHERE tlife = ?1 AND tnumber = ?2",
@@ -56,9 +51,7 @@ fn keep_rows<S: Alter>(
     decision: &Decision,
     life: &i64,
 ) -> Result<(), Error>
-    ensures same_reference { tx.new.conn.ghost_name ≡ tx.old.conn.ghost_name }
-    ensures does { HasCleanDisk (state S.Store tx.new.conn.now) → IsTrue (state S.Store tx.old.conn.now).in_transaction → StepsOf desk_schema (Decides decision.now.txn decision.now.votes.items life.now decision.now.version) (state S.Store tx.old.conn.now) (state S.Store tx.new.conn.now) result }
-    ensures survives { Survives (state S.Store tx.old.conn.now) (state S.Store tx.new.conn.now) (λ _. ⊥) }
+    ensures { RunsWithin S.Store (AreTablesOf desk_schema) (Decides decision.now.txn decision.now.votes.items life.now decision.now.version) tx.old.conn tx.new.conn result }
 {
     move_to(tx, life, &decision.version)?;
     let votes = decision.votes.as_slice();
@@ -75,12 +68,7 @@ fn decide_in<S: Alter>(
     life: &i64,
 ) -> Result<(), Error>
     requires { conn.old.in_transaction ≡ false }
-    ensures done { HasCleanDisk (state S.Store conn.new) → AreTablesOf desk_schema (state S.Store conn.old).committed → OnOk result (Decides decision.now.txn decision.now.votes.items life.now decision.now.version (state S.Store conn.old).committed (state S.Store conn.new).committed) }
-    ensures unchanged { HasCleanDisk (state S.Store conn.new) → IsTrue (state S.Store conn.new).is_open → AreTablesOf desk_schema (state S.Store conn.old).committed → OnErr result ((state S.Store conn.new).committed ≡ (state S.Store conn.old).committed) }
-    ensures clean { HasCleanDisk (state S.Store conn.new) → HasCleanDisk (state S.Store conn.old) }
-    ensures was_open { HasCleanDisk (state S.Store conn.new) → IsTrue (state S.Store conn.new).is_open → IsTrue (state S.Store conn.old).is_open }
-    ensures mode { conn.new.in_transaction ≡ false }
-    ensures crash { Survives (state S.Store conn.old) (state S.Store conn.new) (MayLeaveOf desk_schema (Decides decision.now.txn decision.now.votes.items life.now decision.now.version) (state S.Store conn.old)) }
+    ensures { Commits desk_schema (Decides decision.now.txn decision.now.votes.items life.now decision.now.version) (state S.Store conn.old) (state S.Store conn.new) result }
 {
     let _settled = conn.is_autocommit();
     let mut tx = conn.transaction();
@@ -91,12 +79,7 @@ fn decide_in<S: Alter>(
 /// Keeps that a transaction is committed, who voted for it, and the catalogue's version. The incarnation stays.
 pub fn decide<S: Alter>(conn: &mut Connection<S>, decision: &Decision) -> Result<(), Error>
     requires { conn.old.in_transaction ≡ false }
-    ensures done { HasCleanDisk (state S.Store conn.new) → IsTrue (state S.Store conn.new).is_open → AreTablesOf desk_schema (state S.Store conn.old).committed → OnOk result (DecidesNow decision.now (state S.Store conn.old).committed (state S.Store conn.new).committed) }
-    ensures unchanged { HasCleanDisk (state S.Store conn.new) → IsTrue (state S.Store conn.new).is_open → AreTablesOf desk_schema (state S.Store conn.old).committed → OnErr result ((state S.Store conn.new).committed ≡ (state S.Store conn.old).committed) }
-    ensures clean { HasCleanDisk (state S.Store conn.new) → HasCleanDisk (state S.Store conn.old) }
-    ensures was_open { HasCleanDisk (state S.Store conn.new) → IsTrue (state S.Store conn.new).is_open → IsTrue (state S.Store conn.old).is_open }
-    ensures mode { conn.new.in_transaction ≡ false }
-    ensures crash { Survives (state S.Store conn.old) (state S.Store conn.new) (MayLeaveOf desk_schema (DecidesNow decision.now) (state S.Store conn.old)) }
+    ensures { Commits desk_schema (DecidesNow decision.now) (state S.Store conn.old) (state S.Store conn.new) result }
 {
     let _settled = conn.is_autocommit();
     let rows = epochs(conn)?;
@@ -107,12 +90,7 @@ pub fn decide<S: Alter>(conn: &mut Connection<S>, decision: &Decision) -> Result
 /// Drops the voters of a transaction.
 pub fn undecide<S: Alter>(conn: &mut Connection<S>, txn: &Visit) -> Result<(), Error>
     requires { conn.old.in_transaction ≡ false }
-    ensures done { HasCleanDisk (state S.Store conn.new) → AreTablesOf desk_schema (state S.Store conn.old).committed → OnOk result (Undecides txn.now (state S.Store conn.old).committed (state S.Store conn.new).committed) }
-    ensures unchanged { HasCleanDisk (state S.Store conn.new) → IsTrue (state S.Store conn.new).is_open → AreTablesOf desk_schema (state S.Store conn.old).committed → OnErr result ((state S.Store conn.new).committed ≡ (state S.Store conn.old).committed) }
-    ensures clean { HasCleanDisk (state S.Store conn.new) → HasCleanDisk (state S.Store conn.old) }
-    ensures was_open { HasCleanDisk (state S.Store conn.new) → IsTrue (state S.Store conn.new).is_open → IsTrue (state S.Store conn.old).is_open }
-    ensures mode { conn.new.in_transaction ≡ false }
-    ensures crash { Survives (state S.Store conn.old) (state S.Store conn.new) (MayLeaveOf desk_schema (Undecides txn.now) (state S.Store conn.old)) }
+    ensures { Commits desk_schema (Undecides txn.now) (state S.Store conn.old) (state S.Store conn.new) result }
 {
     let _settled = conn.is_autocommit();
     let mut tx = conn.transaction();

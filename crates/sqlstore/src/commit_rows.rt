@@ -1,11 +1,10 @@
 //! Commit rows, the incarnation and the version, from the rows of the tables.
 
-ghost use Rattle.std.specs.Prelude.{◌≡◌, ◌≢◌, ◌++◌, ◌∷◌, [], MatchOption, IfOk, IfSome, IsSome, OnOk, Err, Some, None, true, if◌then◌else◌, unwrap_or};
+ghost use Rattle.std.specs.Prelude.{◌≡◌, ◌++◌, ◌∷◌, [], MatchOption, IfOk, IfSome, IsSome, OnOk, Some, None, true, if◌then◌else◌, unwrap_or};
 ghost use Rattle.std.specs.BTreeMap as tree;
 ghost use Rattle.std.specs.BTreeMap.{IsOrdered};
 ghost use Rattle.std.specs.Bool.{Decides};
 ghost use Rattle.std.specs.List.{AllByRecursion};
-ghost use Rattle.store.specs.declared.fault.StoreFault.TheVariants.{Refused, Damaged};
 ghost use Rattle.store.specs.declared.name.Txn.{Txn as Of};
 ghost use Rattle.store.specs.DeskContent.{Lists, is_txn};
 ghost use Rattle.store.specs.Name.{txn_cmp};
@@ -14,6 +13,7 @@ ghost use Rattle.sqlstore.specs.Content.{life_in};
 ghost use Rattle.sqlstore.specs.Decided.{is_by, version_in, voter_in, voters_by};
 ghost use Rattle.sqlstore.specs.DeskRows.{AreDeskRows, some_voters, told_by};
 ghost use Rattle.sqlstore.specs.DeskSound.{HasNames, IsEpoch, IsVote};
+ghost use Rattle.sqlstore.specs.Frame.{Tests};
 
 use crate::cells::{int_in, natural_in, text_in};
 use crate::desk_rows::DeskRows;
@@ -47,9 +47,8 @@ fn names_in(row: &Row) -> Option<(Txn, Ticket)>
 
 /// A row's transaction and voter.
 fn vote_in(alloc: Global, row: &Row) -> Result<(Txn, Voter), StoreFault>
-    ensures vote { IfOk result (λ vote. (is_by vote.0 row.now ≡ true) × (vote.1 ≡ voter_in row.now) × IsVote row.now) }
-    ensures intact { IsVote row.now → result ≢ Err Damaged }
-    ensures kept { result ≢ Err Refused }
+    ensures vote { IfOk result (λ vote. (is_by vote.0 row.now ≡ true) × (vote.1 ≡ voter_in row.now)) }
+    ensures tests { Tests (IsVote row.now) result }
 {
     let Some((txn, ticket)) = names_in(row) else {
         return Err(StoreFault::Damaged);
@@ -79,9 +78,7 @@ fn put_vote(
     row: &Row,
 ) -> Result<(), StoreFault>
     ensures ok { OnOk result ((txn : Of) → tree.get txn_cmp commits.new txn ≡ (if is_by txn row.now then Some (unwrap_or (tree.get txn_cmp commits.old txn) [] ++ voter_in row.now ∷ []) else tree.get txn_cmp commits.old txn)) }
-    ensures sound { OnOk result (IsVote row.now) }
-    ensures intact { IsVote row.now → result ≢ Err Damaged }
-    ensures kept { result ≢ Err Refused }
+    ensures tests { Tests (IsVote row.now) result }
 {
     let (txn, voter) = match vote_in(alloc, row) {
         Ok(vote) => vote,
@@ -100,9 +97,7 @@ fn put_vote(
 /// The voters of rows, by transaction.
 fn voters_of(alloc: Global, rows: &[Row]) -> Result<BTreeMap<Txn, Seq<Voter>>, StoreFault>
     ensures ok { IfOk result (λ commits. (txn : Of) → tree.get txn_cmp commits txn ≡ some_voters (voters_by rows.now txn)) }
-    ensures sound { OnOk result (AllByRecursion IsVote rows.now) }
-    ensures intact { AllByRecursion IsVote rows.now → result ≢ Err Damaged }
-    ensures kept { result ≢ Err Refused }
+    ensures tests { Tests (AllByRecursion IsVote rows.now) result }
 {
     let mut commits = BTreeMap::new(alloc);
     for row in rows {
@@ -178,9 +173,7 @@ fn epoch_of(rows: &[Row]) -> Option<(u64, u64)>
 /// What rows keep.
 pub fn kept_of(alloc: Global, rows: &DeskRows) -> Result<DeskKept, StoreFault>
     ensures all { IfOk result (Lists (told_by rows.now)) }
-    ensures learnt { OnOk result (AreDeskRows rows.now) }
-    ensures intact { AreDeskRows rows.now → result ≢ Err Damaged }
-    ensures kept { result ≢ Err Refused }
+    ensures tests { Tests (AreDeskRows rows.now) result }
 {
     if !are_numbered(&rows.votes) || !are_numbered(&rows.epoch) {
         return Err(StoreFault::Damaged);

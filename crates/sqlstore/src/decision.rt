@@ -1,6 +1,6 @@
 //! What is put into the tables for a transaction that is committed.
 
-ghost use Rattle.std.specs.Prelude.{◌≡◌, IfOk, IfSome};
+ghost use Rattle.std.specs.Prelude.{IfOk, IfSome};
 ghost use Rattle.sqlstore.specs.Votes.{IsDecisionOf};
 
 use crate::visit::{Visit, txn_of};

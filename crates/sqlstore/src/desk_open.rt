@@ -1,6 +1,6 @@
 //! The coordinator's store is opened.
 
-ghost use Rattle.std.specs.Prelude.{◌≡◌, ◌≢◌, ◌⊎◌, IfOk, IfErr, OnOk, OnErr, Err, IsTrue, false};
+ghost use Rattle.std.specs.Prelude.{◌≡◌, ◌≢◌, ◌⊎◌, IfOk, IfErr, Err, IsTrue, false};
 ghost use Rattle.sqlite.specs.Files.{file_state};
 ghost use Rattle.sqlite.specs.Held.{state};
 ghost use Rattle.sqlite.specs.State.{HasCleanDisk};
@@ -9,8 +9,10 @@ ghost use Rattle.store.specs.declared.fault.StoreFault.TheVariants.{Damaged};
 ghost use Rattle.sqlstore.specs.Desk.{IsSoundDesk, desk_kept};
 ghost use Rattle.sqlstore.specs.DeskFresh.{FoundsDesk, KeepsNoCommit};
 ghost use Rattle.sqlstore.specs.DeskTables.{desk_schema};
+ghost use Rattle.sqlstore.specs.Rows.{HasSchema};
 ghost use Rattle.sqlstore.specs.Site.{IsClean};
 ghost use Rattle.sqlstore.specs.Tables.{no_schema};
+ghost use Rattle.sqlstore.specs.Frame.{FoundsTables};
 
 use crate::blame::{cause, opening_fault};
 use crate::desk::SqlDesk;
@@ -26,13 +28,7 @@ use store::fault::StoreFault;
 /// are.
 fn found<S: Alter>(alloc: Global, conn: &mut Connection<S>) -> Result<(), StoreFault>
     requires { conn.old.in_transaction ≡ false }
-    ensures founds { HasCleanDisk (state S.Store conn.new) → IsTrue (state S.Store conn.new).is_open → OnOk result (FoundsDesk (state S.Store conn.old).committed (state S.Store conn.new).committed) }
-    ensures unchanged { HasCleanDisk (state S.Store conn.new) → IsTrue (state S.Store conn.new).is_open → OnErr result ((state S.Store conn.new).committed ≡ (state S.Store conn.old).committed) }
-    ensures intact { HasCleanDisk (state S.Store conn.new) → IsTrue (state S.Store conn.new).is_open
-        → ((state S.Store conn.old).committed.schema ≡ desk_schema) ⊎ ((state S.Store conn.old).committed.schema ≡ no_schema) → result ≢ Err Damaged }
-    ensures clean { HasCleanDisk (state S.Store conn.new) → HasCleanDisk (state S.Store conn.old) }
-    ensures was_open { HasCleanDisk (state S.Store conn.new) → IsTrue (state S.Store conn.new).is_open → IsTrue (state S.Store conn.old).is_open }
-    ensures mode { conn.new.in_transaction ≡ false }
+    ensures { FoundsTables desk_schema FoundsDesk (state S.Store conn.old) (state S.Store conn.new) result }
 {
     let _settled = conn.is_autocommit();
     match is_desk_schema(alloc, conn.schema()) {
@@ -70,6 +66,19 @@ impl<S: Alter> SqlDesk<S> {
     }
 }
 
+impl<S: Alter + Drop> SqlDesk<S> {
+    /// A store over such a connection, of which nothing is left where it is refused.
+    fn hold(alloc: Global, conn: Connection<S>) -> Result<SqlDesk<S>, StoreFault>
+        requires { conn.in_transaction ≡ false }
+        ensures { IfOk result (λ desk. HasCleanDisk (state S.Store desk.conn) → IsTrue (state S.Store desk.conn).is_open → HasSchema desk_schema (state S.Store desk.conn).committed) }
+    {
+        match SqlDesk::adopt(alloc, conn) {
+            Ok(desk) => Ok(desk),
+            Err((fault, _)) => Err(fault),
+        }
+    }
+}
+
 impl SqlDesk<MemStore> {
     /// A new store in memory.
     pub fn memory(alloc: Global) -> Result<SqlDesk<MemStore>, StoreFault>
@@ -97,9 +106,6 @@ impl SqlDesk<FileStore<File>> {
             Ok(conn) => conn,
             Err(error) => return Err(opening_fault(error)),
         };
-        match SqlDesk::adopt(rt.alloc(), conn) {
-            Ok(desk) => Ok(desk),
-            Err((fault, _)) => Err(fault),
-        }
+        SqlDesk::hold(rt.alloc(), conn)
     }
 }

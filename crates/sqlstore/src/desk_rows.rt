@@ -4,7 +4,9 @@ ghost use Rattle.std.specs.Prelude.{◌≡◌, false};
 ghost use Rattle.sqlite.specs.Held.{state};
 ghost use Rattle.sqlstore.specs.DeskRows.{ShowsDesk};
 ghost use Rattle.sqlstore.specs.DeskTables.{desk_schema};
-ghost use Rattle.sqlstore.specs.Gathered.{LooksOf, ShowsAll};
+ghost use Rattle.sqlstore.specs.Gathered.{ShowsAll};
+ghost use Rattle.sqlstore.specs.Frame.{LooksAt};
+ghost use Rattle.sqlstore.specs.Rows.{HasSchema};
 
 use sqlite::{Alter, Connection, Error, Row};
 
@@ -17,8 +19,7 @@ pub struct DeskRows {
 
 fn vote_rows<S: Alter>(conn: &mut Connection<S>) -> Result<Vec<Row>, Error>
     requires { conn.old.in_transaction ≡ false }
-    ensures looks { LooksOf desk_schema (λ db rows. ShowsAll (db.trees 0) rows.items) (state S.Store conn.old) (state S.Store conn.new) result }
-    ensures mode { conn.new.in_transaction ≡ false }
+    ensures { LooksAt (HasSchema desk_schema) (λ db rows. ShowsAll (db.trees 0) rows.items) (state S.Store conn.old) (state S.Store conn.new) result }
 {
     let _live = conn.schema();
     let _settled = conn.is_autocommit();
@@ -30,8 +31,7 @@ fn vote_rows<S: Alter>(conn: &mut Connection<S>) -> Result<Vec<Row>, Error>
 
 fn epoch_rows<S: Alter>(conn: &mut Connection<S>) -> Result<Vec<Row>, Error>
     requires { conn.old.in_transaction ≡ false }
-    ensures looks { LooksOf desk_schema (λ db rows. ShowsAll (db.trees 2) rows.items) (state S.Store conn.old) (state S.Store conn.new) result }
-    ensures mode { conn.new.in_transaction ≡ false }
+    ensures { LooksAt (HasSchema desk_schema) (λ db rows. ShowsAll (db.trees 2) rows.items) (state S.Store conn.old) (state S.Store conn.new) result }
 {
     let _live = conn.schema();
     let _settled = conn.is_autocommit();
@@ -44,8 +44,7 @@ fn epoch_rows<S: Alter>(conn: &mut Connection<S>) -> Result<Vec<Row>, Error>
 /// The rows of both tables.
 pub fn desk_rows<S: Alter>(conn: &mut Connection<S>) -> Result<DeskRows, Error>
     requires { conn.old.in_transaction ≡ false }
-    ensures looks { LooksOf desk_schema ShowsDesk (state S.Store conn.old) (state S.Store conn.new) result }
-    ensures mode { conn.new.in_transaction ≡ false }
+    ensures { LooksAt (HasSchema desk_schema) ShowsDesk (state S.Store conn.old) (state S.Store conn.new) result }
 {
     let votes = vote_rows(conn)?;
     let epoch = epoch_rows(conn)?;

@@ -1,15 +1,14 @@
 //! The incarnation and the catalogue's version, which stand in one row.
 
-ghost use Rattle.std.specs.Prelude.{◌≡◌, IsTrue, IfOk, IfSome, OnOk, OnErr, None, false, FitsSigned};
+ghost use Rattle.std.specs.Prelude.{◌≡◌, IfOk, false, FitsSigned};
 ghost use Rattle.std.specs.Int.{w64};
 ghost use Rattle.sqlite.specs.Held.{state};
-ghost use Rattle.sqlite.specs.State.{HasCleanDisk, Survives};
-ghost use Rattle.sqlstore.specs.DeskQuery.{HasDeskSchema, AreEpochs, BeginsNext, BeginsSome, first_version};
+ghost use Rattle.sqlstore.specs.DeskQuery.{HasDeskSchema, AreEpochs, BeginsSome, first_version, BeginsIf};
 ghost use Rattle.sqlstore.specs.DeskStep.{EndsEpoch, StartsEpoch, MovesTo};
 ghost use Rattle.sqlstore.specs.DeskTables.{desk_schema};
-ghost use Rattle.sqlstore.specs.Query.{LeavesNothingOf, QueriesOf, first_life};
+ghost use Rattle.sqlstore.specs.Query.{first_life};
 ghost use Rattle.sqlstore.specs.Rows.{AreTablesOf};
-ghost use Rattle.sqlstore.specs.Step.{StepsOf, MayLeaveOf};
+ghost use Rattle.sqlstore.specs.Frame.{Asks, Commits, LooksAndCommits, RunsWithin};
 
 use crate::life::{after, first_life};
 use crate::param::number;
@@ -17,9 +16,7 @@ use sqlite::{Alter, Connection, Error, Row, Transaction};
 
 /// Takes out the incarnation and the version.
 fn end_epoch<S: Alter>(tx: &mut Transaction<'_, S>) -> Result<usize, Error>
-    ensures same_reference { tx.new.conn.ghost_name ≡ tx.old.conn.ghost_name }
-    ensures does { HasCleanDisk (state S.Store tx.new.conn.now) → IsTrue (state S.Store tx.old.conn.now).in_transaction → StepsOf desk_schema EndsEpoch (state S.Store tx.old.conn.now) (state S.Store tx.new.conn.now) result }
-    ensures survives { Survives (state S.Store tx.old.conn.now) (state S.Store tx.new.conn.now) (λ _. ⊥) }
+    ensures { RunsWithin S.Store (AreTablesOf desk_schema) EndsEpoch tx.old.conn tx.new.conn result }
 {
     tx.execute("DELETE FROM state", &[])
 }
@@ -30,9 +27,7 @@ fn start_epoch<S: Alter>(
     life: &i64,
     version: &i64,
 ) -> Result<usize, Error>
-    ensures same_reference { tx.new.conn.ghost_name ≡ tx.old.conn.ghost_name }
-    ensures does { HasCleanDisk (state S.Store tx.new.conn.now) → IsTrue (state S.Store tx.old.conn.now).in_transaction → StepsOf desk_schema (StartsEpoch life.now version.now) (state S.Store tx.old.conn.now) (state S.Store tx.new.conn.now) result }
-    ensures survives { Survives (state S.Store tx.old.conn.now) (state S.Store tx.new.conn.now) (λ _. ⊥) }
+    ensures { RunsWithin S.Store (AreTablesOf desk_schema) (StartsEpoch life.now version.now) tx.old.conn tx.new.conn result }
 {
     tx.execute(
         "INSERT INTO state (one, life, version) VALUES (1, ?1, ?2)",
@@ -46,9 +41,7 @@ pub fn move_to<S: Alter>(
     life: &i64,
     version: &i64,
 ) -> Result<usize, Error>
-    ensures same_reference { tx.new.conn.ghost_name ≡ tx.old.conn.ghost_name }
-    ensures does { HasCleanDisk (state S.Store tx.new.conn.now) → IsTrue (state S.Store tx.old.conn.now).in_transaction → StepsOf desk_schema (MovesTo life.now version.now) (state S.Store tx.old.conn.now) (state S.Store tx.new.conn.now) result }
-    ensures survives { Survives (state S.Store tx.old.conn.now) (state S.Store tx.new.conn.now) (λ _. ⊥) }
+    ensures { RunsWithin S.Store (AreTablesOf desk_schema) (MovesTo life.now version.now) tx.old.conn tx.new.conn result }
 {
     end_epoch(tx)?;
     start_epoch(tx, life, version)
@@ -56,10 +49,7 @@ pub fn move_to<S: Alter>(
 
 /// What the table of state says.
 pub fn epochs<S: Alter>(conn: &mut Connection<S>) -> Result<Vec<Row>, Error>
-    ensures does { HasCleanDisk (state S.Store conn.new) → QueriesOf HasDeskSchema (λ db rows. AreEpochs (db.trees 2) rows.items) (state S.Store conn.old) (state S.Store conn.new) result }
-    ensures clean { HasCleanDisk (state S.Store conn.new) → HasCleanDisk (state S.Store conn.old) }
-    ensures mode { conn.old.in_transaction ≡ false → conn.new.in_transaction ≡ false }
-    ensures survives { Survives (state S.Store conn.old) (state S.Store conn.new) (LeavesNothingOf HasDeskSchema (state S.Store conn.old)) }
+    ensures { Asks HasDeskSchema (λ db rows. AreEpochs (db.trees 2) rows.items) (state S.Store conn.old) (state S.Store conn.new) result }
 {
     conn.query_all("SELECT life, version FROM state", &[])
 }
@@ -87,12 +77,7 @@ fn kept_version(rows: &[Row]) -> Result<i64, Error>
 /// Keeps an incarnation and a version in place of others.
 fn keep_epoch<S: Alter>(conn: &mut Connection<S>, life: &i64, version: &i64) -> Result<(), Error>
     requires { conn.old.in_transaction ≡ false }
-    ensures done { HasCleanDisk (state S.Store conn.new) → AreTablesOf desk_schema (state S.Store conn.old).committed → OnOk result (MovesTo life.now version.now (state S.Store conn.old).committed (state S.Store conn.new).committed) }
-    ensures unchanged { HasCleanDisk (state S.Store conn.new) → IsTrue (state S.Store conn.new).is_open → AreTablesOf desk_schema (state S.Store conn.old).committed → OnErr result ((state S.Store conn.new).committed ≡ (state S.Store conn.old).committed) }
-    ensures clean { HasCleanDisk (state S.Store conn.new) → HasCleanDisk (state S.Store conn.old) }
-    ensures was_open { HasCleanDisk (state S.Store conn.new) → IsTrue (state S.Store conn.new).is_open → IsTrue (state S.Store conn.old).is_open }
-    ensures mode { conn.new.in_transaction ≡ false }
-    ensures crash { Survives (state S.Store conn.old) (state S.Store conn.new) (MayLeaveOf desk_schema (MovesTo life.now version.now) (state S.Store conn.old)) }
+    ensures { Commits desk_schema (MovesTo life.now version.now) (state S.Store conn.old) (state S.Store conn.new) result }
 {
     let _settled = conn.is_autocommit();
     let mut tx = conn.transaction();
@@ -103,13 +88,7 @@ fn keep_epoch<S: Alter>(conn: &mut Connection<S>, life: &i64, version: &i64) -> 
 /// Begins the incarnation after the one that is kept, and answers it, if a table holds it. The version stays.
 pub fn begin_next<S: Alter>(conn: &mut Connection<S>) -> Result<Option<u64>, Error>
     requires { conn.old.in_transaction ≡ false }
-    ensures done { HasCleanDisk (state S.Store conn.new) → IsTrue (state S.Store conn.new).is_open → AreTablesOf desk_schema (state S.Store conn.old).committed → IfOk result (λ found. IfSome found (λ next. BeginsNext next (state S.Store conn.old).committed (state S.Store conn.new).committed)) }
-    ensures none { HasCleanDisk (state S.Store conn.new) → IsTrue (state S.Store conn.new).is_open → AreTablesOf desk_schema (state S.Store conn.old).committed → IfOk result (λ found. found ≡ None → (state S.Store conn.new).committed ≡ (state S.Store conn.old).committed) }
-    ensures unchanged { HasCleanDisk (state S.Store conn.new) → IsTrue (state S.Store conn.new).is_open → AreTablesOf desk_schema (state S.Store conn.old).committed → OnErr result ((state S.Store conn.new).committed ≡ (state S.Store conn.old).committed) }
-    ensures clean { HasCleanDisk (state S.Store conn.new) → HasCleanDisk (state S.Store conn.old) }
-    ensures was_open { HasCleanDisk (state S.Store conn.new) → IsTrue (state S.Store conn.new).is_open → IsTrue (state S.Store conn.old).is_open }
-    ensures mode { conn.new.in_transaction ≡ false }
-    ensures crash { Survives (state S.Store conn.old) (state S.Store conn.new) (MayLeaveOf desk_schema (BeginsSome) (state S.Store conn.old)) }
+    ensures { LooksAndCommits desk_schema BeginsIf BeginsSome (state S.Store conn.old) (state S.Store conn.new) result }
 {
     let _settled = conn.is_autocommit();
     let rows = epochs(conn)?;

@@ -1,15 +1,13 @@
 //! The part at a key of a leaf.
 
 ghost use Rattle.std.specs.List.{AllByRecursion};
-ghost use Rattle.std.specs.Prelude.{◌≡◌, ◌≢◌, ◌<◌, ◌^◌, IfOk, Ok, Err, List, string_bytes};
-ghost use Rattle.store.specs.declared.fault.StoreFault.TheVariants.{Refused, Damaged};
+ghost use Rattle.std.specs.Prelude.{◌≡◌, ◌<◌, ◌^◌, IfOk, Ok, string_bytes};
 ghost use Rattle.sqlite.specs.Order.{bytes, column};
-ghost use Rattle.sqlite.specs.declared.types.Value.TheVariants.{Blob};
-ghost use Rattle.terms.specs.declared.value.Value.{Value as Cell};
 ghost use Rattle.terms.specs.Leaf.{leaf_text};
 ghost use Rattle.terms.specs.Stored.{part_from};
-ghost use Rattle.sqlstore.specs.Content.{decoded, has_leaf};
-ghost use Rattle.sqlstore.specs.Query.{first_part, SpellsFirst};
+ghost use Rattle.sqlstore.specs.Content.{has_leaf};
+ghost use Rattle.sqlstore.specs.Query.{first_part, SpellsFirst, SpellsPart};
+ghost use Rattle.sqlstore.specs.Frame.{FailsUnless};
 
 use sqlite::Row;
 use sqlite::types::ValueRef;
@@ -31,8 +29,7 @@ pub fn has(leaves: &[Leaf], leaf: &Leaf) -> bool
 /// The part that the first row spells, if there is a row.
 pub fn part_in(alloc: Global, rows: &[Row]) -> Result<Option<Part>, StoreFault>
     ensures part { IfOk result (λ found. found ≡ first_part rows.now) }
-    ensures intact { SpellsFirst rows.now → result ≢ Err Damaged }
-    ensures kept { result ≢ Err Refused }
+    ensures fails { FailsUnless (SpellsFirst rows.now) result }
 {
     match rows.first() {
         Some(row) => match part_at(alloc, row, 0) {
@@ -46,8 +43,7 @@ pub fn part_in(alloc: Global, rows: &[Row]) -> Result<Option<Part>, StoreFault>
 /// The part that a cell of a row spells.
 pub fn part_at(alloc: Global, row: &Row, at: usize) -> Result<Part, StoreFault>
     ensures part { IfOk result (λ part. part_from (bytes (column row.now at)) ≡ Ok part) }
-    ensures intact { (column row.now at ≡ Blob (bytes (column row.now at))) → (part : List Cell) → part_from (bytes (column row.now at)) ≡ Ok part → result ≢ Err Damaged }
-    ensures kept { result ≢ Err Refused }
+    ensures fails { FailsUnless (SpellsPart (column row.now at)) result }
 {
     let Ok(ValueRef::Blob(body)) = row.get_ref(at) else {
         return Err(StoreFault::Damaged);

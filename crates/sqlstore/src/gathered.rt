@@ -2,7 +2,10 @@
 
 ghost use Rattle.std.specs.Prelude.{◌≡◌, false};
 ghost use Rattle.sqlite.specs.Held.{state};
-ghost use Rattle.sqlstore.specs.Gathered.{Looks, ShowsAll, ShowsTables};
+ghost use Rattle.sqlstore.specs.Gathered.{ShowsAll, ShowsTables};
+ghost use Rattle.sqlstore.specs.Frame.{LooksAt};
+ghost use Rattle.sqlstore.specs.Tables.{site_schema};
+ghost use Rattle.sqlstore.specs.Rows.{HasSchema};
 
 use sqlite::{Alter, Connection, Error, Row};
 
@@ -16,8 +19,7 @@ pub struct Gathered {
 
 fn prepared_rows<S: Alter>(conn: &mut Connection<S>) -> Result<Vec<Row>, Error>
     requires { conn.old.in_transaction ≡ false }
-    ensures looks { Looks (λ db rows. ShowsAll (db.trees 2) rows.items) (state S.Store conn.old) (state S.Store conn.new) result }
-    ensures mode { conn.new.in_transaction ≡ false }
+    ensures { LooksAt (HasSchema site_schema) (λ db rows. ShowsAll (db.trees 2) rows.items) (state S.Store conn.old) (state S.Store conn.new) result }
 {
     let _live = conn.schema();
     let _settled = conn.is_autocommit();
@@ -29,8 +31,7 @@ fn prepared_rows<S: Alter>(conn: &mut Connection<S>) -> Result<Vec<Row>, Error>
 
 fn intent_rows<S: Alter>(conn: &mut Connection<S>) -> Result<Vec<Row>, Error>
     requires { conn.old.in_transaction ≡ false }
-    ensures looks { Looks (λ db rows. ShowsAll (db.trees 4) rows.items) (state S.Store conn.old) (state S.Store conn.new) result }
-    ensures mode { conn.new.in_transaction ≡ false }
+    ensures { LooksAt (HasSchema site_schema) (λ db rows. ShowsAll (db.trees 4) rows.items) (state S.Store conn.old) (state S.Store conn.new) result }
 {
     let _live = conn.schema();
     let _settled = conn.is_autocommit();
@@ -42,8 +43,7 @@ fn intent_rows<S: Alter>(conn: &mut Connection<S>) -> Result<Vec<Row>, Error>
 
 fn state_rows<S: Alter>(conn: &mut Connection<S>) -> Result<Vec<Row>, Error>
     requires { conn.old.in_transaction ≡ false }
-    ensures looks { Looks (λ db rows. ShowsAll (db.trees 6) rows.items) (state S.Store conn.old) (state S.Store conn.new) result }
-    ensures mode { conn.new.in_transaction ≡ false }
+    ensures { LooksAt (HasSchema site_schema) (λ db rows. ShowsAll (db.trees 6) rows.items) (state S.Store conn.old) (state S.Store conn.new) result }
 {
     let _live = conn.schema();
     let _settled = conn.is_autocommit();
@@ -53,8 +53,7 @@ fn state_rows<S: Alter>(conn: &mut Connection<S>) -> Result<Vec<Row>, Error>
 /// The rows of each table but that of parts.
 pub fn gather<S: Alter>(conn: &mut Connection<S>) -> Result<Gathered, Error>
     requires { conn.old.in_transaction ≡ false }
-    ensures looks { Looks ShowsTables (state S.Store conn.old) (state S.Store conn.new) result }
-    ensures mode { conn.new.in_transaction ≡ false }
+    ensures { LooksAt (HasSchema site_schema) ShowsTables (state S.Store conn.old) (state S.Store conn.new) result }
 {
     let prepared = prepared_rows(conn)?;
     let intents = intent_rows(conn)?;

@@ -1,14 +1,14 @@
 //! Intents are put into the changes of their tickets' rows.
 
-ghost use Rattle.std.specs.Prelude.{◌≡◌, ◌≢◌, ◌⊎◌, [], IfOk, OnOk, IsSome, Some, Err};
+ghost use Rattle.std.specs.Prelude.{◌≡◌, ◌⊎◌, [], IfOk, OnOk, IsSome, Some};
 ghost use Rattle.std.specs.BTreeMap as tree;
-ghost use Rattle.store.specs.declared.fault.StoreFault.TheVariants.{Refused, Damaged};
 ghost use Rattle.store.specs.declared.name.Ticket.{Ticket as Visit};
 ghost use Rattle.store.specs.Name.{ticket_cmp};
 ghost use Rattle.sqlstore.specs.Cells.{text_at, int_at};
 ghost use Rattle.sqlstore.specs.Content.{leaf_named, put_of, with_intent};
 ghost use Rattle.sqlstore.specs.Gathered.{HasRow, with_own};
 ghost use Rattle.sqlstore.specs.Sound.{IsIntent, SpellsAt};
+ghost use Rattle.sqlstore.specs.Frame.{FailsUnless, Tests};
 
 use crate::cells::{int_in, text_in, ticket_in};
 use crate::listing::named;
@@ -29,9 +29,7 @@ use terms::stored::decode_part;
 /// The part under a key that a body puts, or none where it is empty.
 fn part_put(alloc: Global, body: &[u8], key: i64) -> Result<Option<Part>, StoreFault>
     ensures part { IfOk result (λ part. part ≡ put_of body.now) }
-    ensures spells { OnOk result ((body.now ≡ []) ⊎ SpellsAt body.now key) }
-    ensures intact { (body.now ≡ []) ⊎ SpellsAt body.now key → result ≢ Err Damaged }
-    ensures kept { result ≢ Err Refused }
+    ensures tests { Tests ((body.now ≡ []) ⊎ SpellsAt body.now key) result }
 {
     if body.is_empty() {
         return Ok(None);
@@ -46,8 +44,7 @@ fn part_put(alloc: Global, body: &[u8], key: i64) -> Result<Option<Part>, StoreF
 /// The leaf that has this name.
 fn leaf_of(alloc: Global, leaves: &[Leaf], name: &[u8]) -> Result<Leaf, StoreFault>
     ensures leaf { IfOk result (λ leaf. leaf_named leaves.now name.now ≡ Some leaf) }
-    ensures intact { IsSome (leaf_named leaves.now name.now) → result ≢ Err Damaged }
-    ensures kept { result ≢ Err Refused }
+    ensures fails { FailsUnless (IsSome (leaf_named leaves.now name.now)) result }
 {
     match named(alloc, leaves, name) {
         Ok(Some(leaf)) => Ok(leaf.copy()?),
@@ -63,9 +60,8 @@ fn put_intent(
     leaves: &[Leaf],
     row: &Row,
 ) -> Result<(), StoreFault>
-    ensures ok { OnOk result ((changes.new ≡ with_intent (leaf_named leaves.now (text_at row.now 3)) (int_at row.now 4) (text_at row.now 5) changes.old) × IsIntent leaves.now row.now) }
-    ensures intact { IsIntent leaves.now row.now → result ≢ Err Damaged }
-    ensures kept { result ≢ Err Refused }
+    ensures ok { OnOk result (changes.new ≡ with_intent (leaf_named leaves.now (text_at row.now 3)) (int_at row.now 4) (text_at row.now 5) changes.old) }
+    ensures tests { Tests (IsIntent leaves.now row.now) result }
 {
     let leaf = leaf_of(alloc, leaves, text_in(row, 3))?;
     let key = int_in(row, 4);
@@ -84,9 +80,7 @@ pub fn put_own(
     row: &Row,
 ) -> Result<(), StoreFault>
     ensures ok { OnOk result ((ticket : Visit) → tree.get ticket_cmp map.new ticket ≡ with_own leaves.now row.now ticket (tree.get ticket_cmp map.old ticket)) }
-    ensures sound { OnOk result (IsIntent leaves.now row.now × HasRow (tree.get ticket_cmp map.old) row.now) }
-    ensures intact { IsIntent leaves.now row.now → HasRow (tree.get ticket_cmp map.old) row.now → result ≢ Err Damaged }
-    ensures kept { result ≢ Err Refused }
+    ensures tests { Tests (IsIntent leaves.now row.now × HasRow (tree.get ticket_cmp map.old) row.now) result }
 {
     let Some(ticket) = ticket_in(row) else {
         return Err(StoreFault::Damaged);

@@ -1,7 +1,6 @@
 //! Intents as rows of their table.
 
 ghost use Rattle.std.specs.Prelude.{◌≡◌, IfOk, IfSome, IsSome};
-ghost use Rattle.std.specs.List.{AllByRecursion};
 ghost use Rattle.terms.specs.Stored.{IsStorable};
 ghost use Rattle.sqlstore.specs.Intents.{AreIntents, SeenAs, HasBody, body_of, seen, wanted};
 

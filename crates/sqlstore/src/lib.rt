@@ -1,6 +1,7 @@
 //! Stores of sites and of the coordinator, kept in SQLite.
 //!
-//! Stands on `terms`, `store` and the kit's `sqlite`.
+//! Stands on `terms`, `store` and the kit's `sqlite`, whose connections keep what they have compiled of the last 64
+//! texts. No store has as many, so each of its statements is compiled once.
 #![tactic(auto)]
 
 pub mod blame;

@@ -1,11 +1,9 @@
 //! Parts from rows.
 
-ghost use Rattle.std.specs.Prelude.{◌≡◌, ◌≢◌, List, IfOk, OnOk, Ok, Err, string_bytes, MatchOption, None, Some};
+ghost use Rattle.std.specs.Prelude.{◌≡◌, ◌≢◌, IfOk, OnOk, Ok, Err, MatchOption, None, Some};
 ghost use Rattle.std.specs.FinMap as map;
 ghost use Rattle.std.specs.List.{AllByRecursion};
-ghost use Rattle.sqlite_value.specs.Order.{column};
 ghost use Rattle.store.specs.declared.fault.StoreFault.TheVariants.{Refused, Damaged};
-ghost use Rattle.sqlite.specs.declared.types.Value.TheVariants.{Int};
 ghost use Rattle.store.specs.Content.{made_by, parts};
 ghost use Rattle.terms.specs.Row.{key_of};
 ghost use Rattle.terms.specs.Stored.{part_from};
@@ -13,6 +11,7 @@ ghost use Rattle.sqlstore.specs.Cells.{text_at, int_at};
 ghost use Rattle.sqlstore.specs.Content.{leaf_named};
 ghost use Rattle.sqlstore.specs.Listed.{HasCells, with_row, with_rows};
 ghost use Rattle.sqlstore.specs.Sound.{IsPart};
+ghost use Rattle.sqlstore.specs.Frame.{FailsUnless};
 
 use crate::find::{name_of, part_at};
 use sqlite::Row;
@@ -51,8 +50,7 @@ pub fn part_row<'a>(
 ) -> Result<(&'a Leaf, Part), StoreFault>
     ensures leaf { IfOk result (λ found. leaf_named leaves.now (text_at row.now 1) ≡ Some found.0.now) }
     ensures part { IfOk result (λ found. (part_from (text_at row.now 3) ≡ Ok found.1) × (key_of found.1 ≡ int_at row.now 2)) }
-    ensures intact { HasCells row.now → IsPart leaves.now row.now → result ≢ Err Damaged }
-    ensures kept { result ≢ Err Refused }
+    ensures fails { FailsUnless (HasCells row.now × IsPart leaves.now row.now) result }
 {
     let Ok(ValueRef::Text(name)) = row.get_ref(1) else {
         return Err(StoreFault::Damaged);
@@ -84,8 +82,7 @@ pub fn put_row(
     row: &Row,
 ) -> Result<(), StoreFault>
     ensures ok { OnOk result ((changes.new ≡ with_row leaves.now row.now changes.old) × IsPart leaves.now row.now) }
-    ensures intact { HasCells row.now → IsPart leaves.now row.now → result ≢ Err Damaged }
-    ensures kept { result ≢ Err Refused }
+    ensures fails { FailsUnless (HasCells row.now × IsPart leaves.now row.now) result }
 {
     match part_row(alloc, leaves, row) {
         Ok((leaf, part)) => {
@@ -100,8 +97,7 @@ pub fn put_row(
 /// The changes that make the parts of rows of nothing.
 pub fn changes_of(alloc: Global, leaves: &[Leaf], rows: &[Row]) -> Result<Changes, StoreFault>
     ensures ok { IfOk result (λ changes. (changes ≡ with_rows leaves.now rows.now map.empty) × AllByRecursion (IsPart leaves.now) rows.now) }
-    ensures intact { AllByRecursion HasCells rows.now → AllByRecursion (IsPart leaves.now) rows.now → result ≢ Err Damaged }
-    ensures kept { result ≢ Err Refused }
+    ensures fails { FailsUnless (AllByRecursion HasCells rows.now × AllByRecursion (IsPart leaves.now) rows.now) result }
 {
     let mut changes = Changes::new(alloc);
     for row in rows {
@@ -119,8 +115,7 @@ pub fn parts_meeting(
     rows: &[Row],
 ) -> Result<Vec<Part>, StoreFault>
     ensures parts { IfOk result (λ found. found.items ≡ parts conds.now (made_by (with_rows leaves.now rows.now map.empty) leaf.now)) }
-    ensures intact { AllByRecursion HasCells rows.now → AllByRecursion (IsPart leaves.now) rows.now → result ≢ Err Damaged }
-    ensures kept { result ≢ Err Refused }
+    ensures fails { FailsUnless (AllByRecursion HasCells rows.now × AllByRecursion (IsPart leaves.now) rows.now) result }
 {
     let changes = match changes_of(alloc, leaves, rows) {
         Ok(changes) => changes,

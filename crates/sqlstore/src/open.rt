@@ -1,14 +1,14 @@
 //! Stores are opened.
 
-ghost use Rattle.std.specs.Prelude.{◌≡◌, ◌≢◌, ◌⊎◌, IfOk, IfErr, OnOk, OnErr, Err, IsTrue, false};
+ghost use Rattle.std.specs.Prelude.{◌≡◌, ◌≢◌, ◌⊎◌, IfOk, IfErr, Err, false};
 ghost use Rattle.std.specs.Bool.{Decides};
 ghost use Rattle.sqlite.specs.Held.{state};
-ghost use Rattle.sqlite.specs.State.{HasCleanDisk};
 ghost use Rattle.sqlite.specs.Steps.{over_memory};
 ghost use Rattle.store.specs.declared.fault.StoreFault.TheVariants.{Damaged};
 ghost use Rattle.sqlstore.specs.Fresh.{Founds, KeepsNothing};
 ghost use Rattle.sqlstore.specs.Site.{IsClean, IsSound, kept_by};
 ghost use Rattle.sqlstore.specs.Tables.{no_schema, site_schema};
+ghost use Rattle.sqlstore.specs.Frame.{FoundsTables};
 
 use crate::blame::{cause, opening_fault};
 use crate::schema::is_site_schema;
@@ -31,13 +31,7 @@ pub fn is_empty(schema: &Schema) -> bool
 /// Makes the tables of a site, where there is nothing. Tables that are a site's are left as they are.
 fn found<S: Alter>(alloc: Global, conn: &mut Connection<S>) -> Result<(), StoreFault>
     requires { conn.old.in_transaction ≡ false }
-    ensures founds { HasCleanDisk (state S.Store conn.new) → IsTrue (state S.Store conn.new).is_open → OnOk result (Founds (state S.Store conn.old).committed (state S.Store conn.new).committed) }
-    ensures unchanged { HasCleanDisk (state S.Store conn.new) → IsTrue (state S.Store conn.new).is_open → OnErr result ((state S.Store conn.new).committed ≡ (state S.Store conn.old).committed) }
-    ensures intact { HasCleanDisk (state S.Store conn.new) → IsTrue (state S.Store conn.new).is_open
-        → ((state S.Store conn.old).committed.schema ≡ site_schema) ⊎ ((state S.Store conn.old).committed.schema ≡ no_schema) → result ≢ Err Damaged }
-    ensures clean { HasCleanDisk (state S.Store conn.new) → HasCleanDisk (state S.Store conn.old) }
-    ensures was_open { HasCleanDisk (state S.Store conn.new) → IsTrue (state S.Store conn.new).is_open → IsTrue (state S.Store conn.old).is_open }
-    ensures mode { conn.new.in_transaction ≡ false }
+    ensures { FoundsTables site_schema Founds (state S.Store conn.old) (state S.Store conn.new) result }
 {
     let _settled = conn.is_autocommit();
     match is_site_schema(alloc, conn.schema()) {
@@ -76,6 +70,19 @@ impl<S: Alter> SqlSite<S> {
     }
 }
 
+impl<S: Alter + Drop> SqlSite<S> {
+    /// A store over such a connection, of which nothing is left where it is refused.
+    fn hold(conn: Connection<S>, leaves: Vec<Leaf>) -> Result<SqlSite<S>, StoreFault>
+        requires { conn.in_transaction ≡ false }
+        ensures { IfOk result (λ site. site.leaves ≡ leaves) }
+    {
+        match SqlSite::adopt(conn, leaves) {
+            Ok(site) => Ok(site),
+            Err((fault, _)) => Err(fault),
+        }
+    }
+}
+
 impl SqlSite<MemStore> {
     /// A new store in memory, which has these leaves.
     pub fn memory(leaves: Vec<Leaf>) -> Result<SqlSite<MemStore>, StoreFault>
@@ -108,9 +115,6 @@ impl SqlSite<FileStore<File>> {
             Ok(conn) => conn,
             Err(error) => return Err(opening_fault(error)),
         };
-        match SqlSite::adopt(conn, leaves) {
-            Ok(site) => Ok(site),
-            Err((fault, _)) => Err(fault),
-        }
+        SqlSite::hold(conn, leaves)
     }
 }

@@ -1,12 +1,11 @@
 //! Prepared rows and the incarnation, from the rows of the tables.
 
-ghost use Rattle.std.specs.Prelude.{◌≡◌, ◌≢◌, MatchOption, IfOk, OnOk, Some, true, if◌then◌else◌, [], Err, unsigned_abs};
+ghost use Rattle.std.specs.Prelude.{◌≡◌, MatchOption, IfOk, OnOk, Some, true, if◌then◌else◌, [], unsigned_abs};
 ghost use Rattle.std.specs.Bool.{Decides};
 ghost use Rattle.std.specs.BTreeMap as tree;
 ghost use Rattle.std.specs.BTreeMap.{IsOrdered};
 ghost use Rattle.std.specs.FinMap as fin;
 ghost use Rattle.std.specs.List.{AllByRecursion};
-ghost use Rattle.store.specs.declared.fault.StoreFault.TheVariants.{Refused, Damaged};
 ghost use Rattle.store.specs.declared.name.Ticket.{Ticket as Visit};
 ghost use Rattle.store.specs.Name.{ticket_cmp};
 ghost use Rattle.store.specs.RowList.{rows_of};
@@ -15,6 +14,7 @@ ghost use Rattle.sqlstore.specs.Cells.{int_at};
 ghost use Rattle.sqlstore.specs.Content.{changes_in, is_of, kept_of, life_in, prepared_in, row_as};
 ghost use Rattle.sqlstore.specs.Gathered.{gathered, AreAllNumbered, AreBegun, HasChanges, IsPromised};
 ghost use Rattle.sqlstore.specs.Sound.{IsIntent, IsNumbered, IsStored};
+ghost use Rattle.sqlstore.specs.Frame.{FailsUnless, Tests};
 
 use crate::cells::{int_in, natural_in, ticket_in};
 use crate::gathered::Gathered;
@@ -51,9 +51,7 @@ fn put_prepared(
     row: &Row,
 ) -> Result<(), StoreFault>
     ensures ok { OnOk result ((ticket : Visit) → tree.get ticket_cmp map.new ticket ≡ (if is_of ticket row.now then Some (row_as row.now fin.empty) else tree.get ticket_cmp map.old ticket)) }
-    ensures sound { OnOk result (IsNumbered row.now) }
-    ensures intact { IsNumbered row.now → result ≢ Err Damaged }
-    ensures kept { result ≢ Err Refused }
+    ensures tests { Tests (IsNumbered row.now) result }
 {
     let Some((ticket, txn)) = names_in(row) else {
         return Err(StoreFault::Damaged);
@@ -68,9 +66,7 @@ fn put_prepared(
 /// The rows by their tickets, with no changes yet.
 fn tickets_of(alloc: Global, rows: &[Row]) -> Result<BTreeMap<Ticket, Prepared>, StoreFault>
     ensures ok { IfOk result (λ map. (ticket : Visit) → tree.get ticket_cmp map ticket ≡ prepared_in rows.now fin.empty ticket) }
-    ensures sound { OnOk result (AllByRecursion IsNumbered rows.now) }
-    ensures intact { AllByRecursion IsNumbered rows.now → result ≢ Err Damaged }
-    ensures kept { result ≢ Err Refused }
+    ensures tests { Tests (AllByRecursion IsNumbered rows.now) result }
 {
     let mut map = BTreeMap::new(alloc);
     let mut at = rows.len();
@@ -89,9 +85,7 @@ fn prepared_of(
     intents: &[Row],
 ) -> Result<BTreeMap<Ticket, Prepared>, StoreFault>
     ensures ok { IfOk result (λ map. (ticket : Visit) → tree.get ticket_cmp map ticket ≡ prepared_in rows.now (changes_in leaves.now intents.now ticket) ticket) }
-    ensures sound { OnOk result (AllByRecursion IsNumbered rows.now × AllByRecursion (λ intent. IsIntent leaves.now intent × IsPromised rows.now intent) intents.now) }
-    ensures intact { AllByRecursion IsNumbered rows.now → AllByRecursion (λ intent. IsIntent leaves.now intent × IsPromised rows.now intent) intents.now → result ≢ Err Damaged }
-    ensures kept { result ≢ Err Refused }
+    ensures tests { Tests (AllByRecursion IsNumbered rows.now × AllByRecursion (λ intent. IsIntent leaves.now intent × IsPromised rows.now intent) intents.now) result }
 {
     let mut map = tickets_of(alloc, rows)?;
     let mut at = intents.len();
@@ -165,8 +159,7 @@ fn has_changes(row: &PreparedRow) -> bool
 pub fn site_rows(alloc: Global, leaves: &[Leaf], tables: &Gathered) -> Result<SiteRows, StoreFault>
     ensures all { IfOk result (ListsRows (kept_of leaves.now (gathered [] tables.now))) }
     ensures learnt { OnOk result (IsStored leaves.now (gathered [] tables.now)) }
-    ensures intact { IsStored leaves.now (gathered [] tables.now) → AreAllNumbered tables.now → result ≢ Err Damaged }
-    ensures kept { result ≢ Err Refused }
+    ensures fails { FailsUnless (IsStored leaves.now (gathered [] tables.now) × AreAllNumbered tables.now) result }
 {
     if !are_all_numbered(tables) {
         return Err(StoreFault::Damaged);

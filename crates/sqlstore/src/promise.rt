@@ -1,6 +1,6 @@
 //! What is put into the tables for a ticket that is prepared.
 
-ghost use Rattle.std.specs.Prelude.{◌≡◌, IfOk, IfSome};
+ghost use Rattle.std.specs.Prelude.{IfOk, IfSome};
 ghost use Rattle.sqlstore.specs.Intents.{IsPromiseOf};
 
 use crate::intent::{Intent, intents_of};

@@ -1,11 +1,11 @@
 //! Queries, outside of a transaction.
 
-ghost use Rattle.std.specs.Prelude.{◌≡◌, false, string_bytes, IsTrue, IfOk};
+ghost use Rattle.std.specs.Prelude.{◌≡◌, false, string_bytes};
 ghost use Rattle.sqlite.specs.Held.{state};
-ghost use Rattle.sqlite.specs.State.{HasCleanDisk, Survives};
 ghost use Rattle.sqlstore.specs.Listed.{AreRowsOf};
 ghost use Rattle.sqlstore.specs.Rows.{AreTables};
-ghost use Rattle.sqlstore.specs.Query.{Queries, AreSlots, AreLives, AreBodies, LeavesNothing};
+ghost use Rattle.sqlstore.specs.Query.{AreSlots, AreLives, AreBodies};
+ghost use Rattle.sqlstore.specs.Frame.{Asks, LooksAt};
 
 use crate::param::{number, text};
 use crate::visit::Visit;
@@ -13,10 +13,7 @@ use sqlite::{Alter, Connection, Error, Row};
 
 /// The slots of a ticket's intents: for each its leaf and its key.
 pub fn slots_of<S: Alter>(conn: &mut Connection<S>, visit: &Visit) -> Result<Vec<Row>, Error>
-    ensures does { HasCleanDisk (state S.Store conn.new) → Queries (λ db rows. AreSlots visit.now (db.trees 4) rows.items) (state S.Store conn.old) (state S.Store conn.new) result }
-    ensures clean { HasCleanDisk (state S.Store conn.new) → HasCleanDisk (state S.Store conn.old) }
-    ensures mode { conn.old.in_transaction ≡ false → conn.new.in_transaction ≡ false }
-    ensures survives { Survives (state S.Store conn.old) (state S.Store conn.new) (LeavesNothing (state S.Store conn.old)) }
+    ensures { Asks AreTables (λ db rows. AreSlots visit.now (db.trees 4) rows.items) (state S.Store conn.old) (state S.Store conn.new) result }
 {
     conn.query_all(
         "SELECT leaf, id FROM intent WHERE life = ?1 AND visit = ?2",
@@ -26,10 +23,7 @@ pub fn slots_of<S: Alter>(conn: &mut Connection<S>, visit: &Visit) -> Result<Vec
 
 /// What the table of incarnations says.
 pub fn lives<S: Alter>(conn: &mut Connection<S>) -> Result<Vec<Row>, Error>
-    ensures does { HasCleanDisk (state S.Store conn.new) → Queries (λ db rows. AreLives (db.trees 6) rows.items) (state S.Store conn.old) (state S.Store conn.new) result }
-    ensures clean { HasCleanDisk (state S.Store conn.new) → HasCleanDisk (state S.Store conn.old) }
-    ensures mode { conn.old.in_transaction ≡ false → conn.new.in_transaction ≡ false }
-    ensures survives { Survives (state S.Store conn.old) (state S.Store conn.new) (LeavesNothing (state S.Store conn.old)) }
+    ensures { Asks AreTables (λ db rows. AreLives (db.trees 6) rows.items) (state S.Store conn.old) (state S.Store conn.new) result }
 {
     conn.query_all("SELECT life FROM state", &[])
 }
@@ -40,9 +34,7 @@ pub fn bodies_at<S: Alter>(
     name: &String,
     key: &i64,
 ) -> Result<Vec<Row>, Error>
-    ensures does { HasCleanDisk (state S.Store conn.new) → Queries (λ db rows. AreBodies (string_bytes name.now) key.now (db.trees 0) rows.items) (state S.Store conn.old) (state S.Store conn.new) result }
-    ensures clean { HasCleanDisk (state S.Store conn.new) → HasCleanDisk (state S.Store conn.old) }
-    ensures mode { conn.old.in_transaction ≡ false → conn.new.in_transaction ≡ false }
+    ensures { Asks AreTables (λ db rows. AreBodies (string_bytes name.now) key.now (db.trees 0) rows.items) (state S.Store conn.old) (state S.Store conn.new) result }
 {
     conn.query_all(
         "SELECT body FROM part WHERE leaf = ?1 AND id = ?2",
@@ -57,11 +49,7 @@ pub fn committed_at<S: Alter>(
     key: &i64,
 ) -> Result<Vec<Row>, Error>
     requires { conn.old.in_transaction ≡ false }
-    ensures found { HasCleanDisk (state S.Store conn.new) → IsTrue (state S.Store conn.new).is_open → AreTables (state S.Store conn.old).committed → IfOk result (λ rows. AreBodies (string_bytes name.now) key.now ((state S.Store conn.old).committed.trees 0) rows.items) }
-    ensures same { HasCleanDisk (state S.Store conn.new) → IsTrue (state S.Store conn.new).is_open → AreTables (state S.Store conn.old).committed → (state S.Store conn.new).committed ≡ (state S.Store conn.old).committed }
-    ensures clean { HasCleanDisk (state S.Store conn.new) → HasCleanDisk (state S.Store conn.old) }
-    ensures was_open { HasCleanDisk (state S.Store conn.new) → IsTrue (state S.Store conn.new).is_open → IsTrue (state S.Store conn.old).is_open }
-    ensures mode { conn.new.in_transaction ≡ false }
+    ensures { LooksAt AreTables (λ db rows. AreBodies (string_bytes name.now) key.now (db.trees 0) rows.items) (state S.Store conn.old) (state S.Store conn.new) result }
 {
     let _settled = conn.is_autocommit();
     bodies_at(conn, name, key)
@@ -69,9 +57,7 @@ pub fn committed_at<S: Alter>(
 
 /// The rows of a leaf's parts.
 pub fn rows_of<S: Alter>(conn: &mut Connection<S>, name: &String) -> Result<Vec<Row>, Error>
-    ensures does { HasCleanDisk (state S.Store conn.new) → Queries (λ db rows. AreRowsOf (string_bytes name.now) (db.trees 0) rows.items) (state S.Store conn.old) (state S.Store conn.new) result }
-    ensures clean { HasCleanDisk (state S.Store conn.new) → HasCleanDisk (state S.Store conn.old) }
-    ensures mode { conn.old.in_transaction ≡ false → conn.new.in_transaction ≡ false }
+    ensures { Asks AreTables (λ db rows. AreRowsOf (string_bytes name.now) (db.trees 0) rows.items) (state S.Store conn.old) (state S.Store conn.new) result }
 {
     conn.query_all(
         "SELECT rowid, leaf, id, body FROM part WHERE leaf = ?1",
@@ -82,11 +68,7 @@ pub fn rows_of<S: Alter>(conn: &mut Connection<S>, name: &String) -> Result<Vec<
 /// So, of what is committed.
 pub fn committed_of<S: Alter>(conn: &mut Connection<S>, name: &String) -> Result<Vec<Row>, Error>
     requires { conn.old.in_transaction ≡ false }
-    ensures found { HasCleanDisk (state S.Store conn.new) → IsTrue (state S.Store conn.new).is_open → AreTables (state S.Store conn.old).committed → IfOk result (λ rows. AreRowsOf (string_bytes name.now) ((state S.Store conn.old).committed.trees 0) rows.items) }
-    ensures same { HasCleanDisk (state S.Store conn.new) → IsTrue (state S.Store conn.new).is_open → AreTables (state S.Store conn.old).committed → (state S.Store conn.new).committed ≡ (state S.Store conn.old).committed }
-    ensures clean { HasCleanDisk (state S.Store conn.new) → HasCleanDisk (state S.Store conn.old) }
-    ensures was_open { HasCleanDisk (state S.Store conn.new) → IsTrue (state S.Store conn.new).is_open → IsTrue (state S.Store conn.old).is_open }
-    ensures mode { conn.new.in_transaction ≡ false }
+    ensures { LooksAt AreTables (λ db rows. AreRowsOf (string_bytes name.now) (db.trees 0) rows.items) (state S.Store conn.old) (state S.Store conn.new) result }
 {
     let _settled = conn.is_autocommit();
     rows_of(conn, name)

@@ -1,12 +1,12 @@
 //! Whether a schema is a site's.
 
-ghost use Rattle.std.specs.Prelude.{◌≡◌, ◌≢◌, ◌∷◌, [], Err, IfOk, OnOk, IsTrue, false};
+ghost use Rattle.std.specs.Prelude.{◌≡◌, ◌∷◌, [], IfOk, OnOk, IsTrue, false};
 ghost use Rattle.std.specs.Bool.{Decides};
 ghost use Rattle.sqlite.specs.Held.{state};
 ghost use Rattle.sqlite_sql.specs.Syntax.{term_of};
-ghost use Rattle.store.specs.declared.fault.StoreFault.TheVariants.{Refused, Damaged};
 ghost use Rattle.sqlstore.specs.Schemas.{is_one, IsBare, IsKeyedBy, IsKeyedByNumber, keyed_table, index_of, site_indexes};
 ghost use Rattle.sqlstore.specs.Tables.{column_of, no_stamps, part_table, prepared_table, intent_table, state_table, site_schema};
+ghost use Rattle.sqlstore.specs.Frame.{FailsUnless};
 
 use sqlite::{Alter, Connection};
 use sqlite_items::Items;
@@ -245,8 +245,7 @@ pub fn is_site_schema(alloc: Global, schema: &Schema) -> Result<bool, Memory>
 pub fn test_schema<S: Alter>(alloc: Global, conn: &Connection<S>) -> Result<(), StoreFault>
     requires { conn.now.in_transaction ≡ false }
     ensures ours { OnOk result (IsTrue (state S.Store conn.now).is_open → (state S.Store conn.now).committed.schema ≡ site_schema) }
-    ensures intact { IsTrue (state S.Store conn.now).is_open → (state S.Store conn.now).committed.schema ≡ site_schema → result ≢ Err Damaged }
-    ensures kept { result ≢ Err Refused }
+    ensures fails { FailsUnless (IsTrue (state S.Store conn.now).is_open × ((state S.Store conn.now).committed.schema ≡ site_schema)) result }
 {
     let _settled = conn.is_autocommit();
     match is_site_schema(alloc, conn.schema()) {

@@ -1,9 +1,9 @@
 //! Statements within a transaction, each by itself.
 
-ghost use Rattle.std.specs.Prelude.{◌≡◌, IsTrue, string_bytes};
-ghost use Rattle.sqlite.specs.Held.{state};
-ghost use Rattle.sqlite.specs.State.{HasCleanDisk, Survives};
-ghost use Rattle.sqlstore.specs.Step.{Steps, Takes, Gives, Clears, Forgets, Promises, Intends, EndsLife, StartsLife};
+ghost use Rattle.std.specs.Prelude.{string_bytes};
+ghost use Rattle.sqlstore.specs.Step.{Takes, Gives, Clears, Forgets, Promises, Intends, EndsLife, StartsLife};
+ghost use Rattle.sqlstore.specs.Frame.{RunsWithin};
+ghost use Rattle.sqlstore.specs.Rows.{AreTables};
 
 use crate::param::{blob, number, text};
 use crate::visit::Visit;
@@ -11,9 +11,7 @@ use sqlite::{Alter, Error, Row, Transaction};
 
 /// Takes out the part at a slot, whose leaf and key a query showed.
 pub fn take<S: Alter>(tx: &mut Transaction<'_, S>, slot: &Row) -> Result<usize, Error>
-    ensures same_reference { tx.new.conn.ghost_name ≡ tx.old.conn.ghost_name }
-    ensures does { HasCleanDisk (state S.Store tx.new.conn.now) → IsTrue (state S.Store tx.old.conn.now).in_transaction → Steps (Takes slot.now) (state S.Store tx.old.conn.now) (state S.Store tx.new.conn.now) result }
-    ensures survives { Survives (state S.Store tx.old.conn.now) (state S.Store tx.new.conn.now) (λ _. ⊥) }
+    ensures { RunsWithin S.Store AreTables (Takes slot.now) tx.old.conn tx.new.conn result }
 {
     let leaf = slot.get_ref(0)?;
     let key = slot.get_ref(1)?;
@@ -22,9 +20,7 @@ pub fn take<S: Alter>(tx: &mut Transaction<'_, S>, slot: &Row) -> Result<usize, 
 
 /// Puts in the parts that a ticket's intents put.
 pub fn give<S: Alter>(tx: &mut Transaction<'_, S>, visit: &Visit) -> Result<usize, Error>
-    ensures same_reference { tx.new.conn.ghost_name ≡ tx.old.conn.ghost_name }
-    ensures does { HasCleanDisk (state S.Store tx.new.conn.now) → IsTrue (state S.Store tx.old.conn.now).in_transaction → Steps (Gives visit.now) (state S.Store tx.old.conn.now) (state S.Store tx.new.conn.now) result }
-    ensures survives { Survives (state S.Store tx.old.conn.now) (state S.Store tx.new.conn.now) (λ _. ⊥) }
+    ensures { RunsWithin S.Store AreTables (Gives visit.now) tx.old.conn tx.new.conn result }
 {
     tx.execute(
         "INSERT INTO part (leaf, id, body) SELECT leaf, id, body FROM intent WHERE life = ?1 AND visit = ?2 AND body <> x''",
@@ -34,9 +30,7 @@ pub fn give<S: Alter>(tx: &mut Transaction<'_, S>, visit: &Visit) -> Result<usiz
 
 /// Takes out a ticket's intents.
 pub fn clear<S: Alter>(tx: &mut Transaction<'_, S>, visit: &Visit) -> Result<usize, Error>
-    ensures same_reference { tx.new.conn.ghost_name ≡ tx.old.conn.ghost_name }
-    ensures does { HasCleanDisk (state S.Store tx.new.conn.now) → IsTrue (state S.Store tx.old.conn.now).in_transaction → Steps (Clears visit.now) (state S.Store tx.old.conn.now) (state S.Store tx.new.conn.now) result }
-    ensures survives { Survives (state S.Store tx.old.conn.now) (state S.Store tx.new.conn.now) (λ _. ⊥) }
+    ensures { RunsWithin S.Store AreTables (Clears visit.now) tx.old.conn tx.new.conn result }
 {
     tx.execute(
         "DELETE FROM intent WHERE life = ?1 AND visit = ?2",
@@ -46,9 +40,7 @@ pub fn clear<S: Alter>(tx: &mut Transaction<'_, S>, visit: &Visit) -> Result<usi
 
 /// Takes out a ticket's prepared row.
 pub fn forget<S: Alter>(tx: &mut Transaction<'_, S>, visit: &Visit) -> Result<usize, Error>
-    ensures same_reference { tx.new.conn.ghost_name ≡ tx.old.conn.ghost_name }
-    ensures does { HasCleanDisk (state S.Store tx.new.conn.now) → IsTrue (state S.Store tx.old.conn.now).in_transaction → Steps (Forgets visit.now) (state S.Store tx.old.conn.now) (state S.Store tx.new.conn.now) result }
-    ensures survives { Survives (state S.Store tx.old.conn.now) (state S.Store tx.new.conn.now) (λ _. ⊥) }
+    ensures { RunsWithin S.Store AreTables (Forgets visit.now) tx.old.conn tx.new.conn result }
 {
     tx.execute(
         "DELETE FROM prepared WHERE life = ?1 AND visit = ?2",
@@ -62,9 +54,7 @@ pub fn promise<S: Alter>(
     visit: &Visit,
     txn: &Visit,
 ) -> Result<usize, Error>
-    ensures same_reference { tx.new.conn.ghost_name ≡ tx.old.conn.ghost_name }
-    ensures does { HasCleanDisk (state S.Store tx.new.conn.now) → IsTrue (state S.Store tx.old.conn.now).in_transaction → Steps (Promises visit.now txn.now) (state S.Store tx.old.conn.now) (state S.Store tx.new.conn.now) result }
-    ensures survives { Survives (state S.Store tx.old.conn.now) (state S.Store tx.new.conn.now) (λ _. ⊥) }
+    ensures { RunsWithin S.Store AreTables (Promises visit.now txn.now) tx.old.conn tx.new.conn result }
 {
     tx.execute(
         "INSERT INTO prepared (life, visit, tlife, tnumber) VALUES (?1, ?2, ?3, ?4)",
@@ -85,9 +75,7 @@ pub fn intend<S: Alter>(
     key: &i64,
     body: &Vec<u8>,
 ) -> Result<usize, Error>
-    ensures same_reference { tx.new.conn.ghost_name ≡ tx.old.conn.ghost_name }
-    ensures does { HasCleanDisk (state S.Store tx.new.conn.now) → IsTrue (state S.Store tx.old.conn.now).in_transaction → Steps (Intends visit.now (string_bytes leaf.now) key.now body.now.items) (state S.Store tx.old.conn.now) (state S.Store tx.new.conn.now) result }
-    ensures survives { Survives (state S.Store tx.old.conn.now) (state S.Store tx.new.conn.now) (λ _. ⊥) }
+    ensures { RunsWithin S.Store AreTables (Intends visit.now (string_bytes leaf.now) key.now body.now.items) tx.old.conn tx.new.conn result }
 {
     tx.execute(
         "INSERT INTO intent (life, visit, leaf, id, body) VALUES (?1, ?2, ?3, ?4, ?5)",
@@ -103,18 +91,14 @@ pub fn intend<S: Alter>(
 
 /// Takes out the incarnation.
 pub fn end_life<S: Alter>(tx: &mut Transaction<'_, S>) -> Result<usize, Error>
-    ensures same_reference { tx.new.conn.ghost_name ≡ tx.old.conn.ghost_name }
-    ensures does { HasCleanDisk (state S.Store tx.new.conn.now) → IsTrue (state S.Store tx.old.conn.now).in_transaction → Steps (EndsLife) (state S.Store tx.old.conn.now) (state S.Store tx.new.conn.now) result }
-    ensures survives { Survives (state S.Store tx.old.conn.now) (state S.Store tx.new.conn.now) (λ _. ⊥) }
+    ensures { RunsWithin S.Store AreTables EndsLife tx.old.conn tx.new.conn result }
 {
     tx.execute("DELETE FROM state", &[])
 }
 
 /// Puts in an incarnation.
 pub fn begin_life<S: Alter>(tx: &mut Transaction<'_, S>, life: &i64) -> Result<usize, Error>
-    ensures same_reference { tx.new.conn.ghost_name ≡ tx.old.conn.ghost_name }
-    ensures does { HasCleanDisk (state S.Store tx.new.conn.now) → IsTrue (state S.Store tx.old.conn.now).in_transaction → Steps (StartsLife life.now) (state S.Store tx.old.conn.now) (state S.Store tx.new.conn.now) result }
-    ensures survives { Survives (state S.Store tx.old.conn.now) (state S.Store tx.new.conn.now) (λ _. ⊥) }
+    ensures { RunsWithin S.Store AreTables (StartsLife life.now) tx.old.conn tx.new.conn result }
 {
     tx.execute(
         "INSERT INTO state (one, life) VALUES (1, ?1)",

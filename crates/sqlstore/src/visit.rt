@@ -1,6 +1,6 @@
 //! Tickets and transactions as numbers in tables.
 
-ghost use Rattle.std.specs.Prelude.{◌≡◌, ◌<◌, ◌≤◌, ◌⊎◌, ◌^◌, pos, MatchOption};
+ghost use Rattle.std.specs.Prelude.{◌≡◌, ◌≤◌, ◌⊎◌, ◌^◌, pos, MatchOption};
 
 use store::name::{Ticket, Txn};
 

@@ -1,6 +1,6 @@
 //! Voters as rows of their table.
 
-ghost use Rattle.std.specs.Prelude.{◌≡◌, ◌≤◌, ◌⊎◌, ◌^◌, pos, IfOk, IfSome, MatchOption};
+ghost use Rattle.std.specs.Prelude.{◌≡◌, ◌≤◌, ◌^◌, pos, IfOk, IfSome, MatchOption};
 ghost use Rattle.sqlstore.specs.Votes.{AreVotes, IsNamed, vote_cells, voter_cells};
 
 use crate::visit::{GREATEST, Visit, visit_of};

@@ -1,18 +1,14 @@
 //! A walk through all parts. No more than two rows are held at a time.
 
-ghost use Rattle.std.specs.Prelude.{◌≡◌, ◌≢◌, ◌≤◌, true, false, if◌then◌else◌, IfOk, OnOk, Err, IsTrue};
+ghost use Rattle.std.specs.Prelude.{◌≡◌, ◌≢◌, true, false, if◌then◌else◌, OnOk, Err};
 ghost use Rattle.std.specs.Bool.{Decides};
 ghost use Rattle.std.specs.FinMap as map;
-ghost use Rattle.sqlite.specs.Given.{Advances};
 ghost use Rattle.sqlite.specs.Held.{state};
-ghost use Rattle.sqlite.specs.State.{HasCleanDisk, IsUnchanged, KeepsCommit};
-ghost use Rattle.store.specs.Fault.{HasRefused};
-ghost use Rattle.store.specs.declared.fault.StoreFault.TheVariants.{Refused, Damaged};
-ghost use Rattle.sqlstore.specs.Gathered.{Looks};
+ghost use Rattle.store.specs.declared.fault.StoreFault.TheVariants.{Damaged};
 ghost use Rattle.sqlstore.specs.Listed.{HasCells, with_row};
 ghost use Rattle.sqlstore.specs.Sound.{IsPart};
-ghost use Rattle.sqlstore.specs.Tables.{site_schema};
 ghost use Rattle.sqlstore.specs.Walk.{AreParts, FollowsLast, HasWalked};
+ghost use Rattle.sqlstore.specs.Frame.{CountsRefusals, FailsUnless, ReadsOn, WalksParts};
 
 use crate::blame::blame;
 use crate::listing::{part_row, put_row};
@@ -25,14 +21,8 @@ use terms::leaf::Leaf;
 
 /// The next row of a query, if there is one.
 fn next_row<S: Alter>(rows: &mut Rows<'_, S>, refusals: &mut u64) -> Result<Option<Row>, StoreFault>
-    ensures same_reference { rows.new.conn.ghost_name ≡ rows.old.conn.ghost_name }
-    ensures mode { rows.old.conn.now.in_transaction ≡ false → rows.new.conn.now.in_transaction ≡ false }
-    ensures clean { HasCleanDisk (state S.Store rows.new.conn.now) → HasCleanDisk (state S.Store rows.old.conn.now) }
-    ensures kept { HasCleanDisk (state S.Store rows.new.conn.now) → KeepsCommit (state S.Store rows.old.conn.now) (state S.Store rows.new.conn.now) }
-    ensures same { HasCleanDisk (state S.Store rows.new.conn.now) → OnOk result (IsUnchanged (state S.Store rows.old.conn.now) (state S.Store rows.new.conn.now)) }
-    ensures gives { HasCleanDisk (state S.Store rows.new.conn.now) → IfOk result (Advances S.Store rows.old.conn.now rows.new.conn.now) }
-    ensures counts { refusals.old ≤ refusals.new }
-    ensures refusal { result ≡ Err Refused → HasRefused refusals.old refusals.new }
+    ensures reads { ReadsOn S.Store rows.old.conn rows.new.conn result }
+    ensures counted { CountsRefusals refusals.old refusals.new result }
     ensures intact { result ≢ Err Damaged }
 {
     if let Err(error) = rows.advance() {
@@ -60,8 +50,7 @@ fn follows_last(before: &Option<Row>, row: &Row) -> bool
 /// A row is a part, of a leaf of the site and under its own key.
 fn check_part(alloc: Global, leaves: &[Leaf], row: &Row) -> Result<(), StoreFault>
     ensures ok { OnOk result (IsPart leaves.now row.now) }
-    ensures intact { HasCells row.now → IsPart leaves.now row.now → result ≢ Err Damaged }
-    ensures kept { result ≢ Err Refused }
+    ensures fails { FailsUnless (HasCells row.now × IsPart leaves.now row.now) result }
 {
     match part_row(alloc, leaves, row) {
         Ok(_) => Ok(()),
@@ -79,8 +68,7 @@ fn meet_row(
     row: &Row,
 ) -> Result<(), StoreFault>
     ensures ok { OnOk result (FollowsLast before.now row.now × IsPart leaves.now row.now × (changes.new ≡ (if keeps then with_row leaves.now row.now changes.old else changes.old))) }
-    ensures intact { FollowsLast before.now row.now → HasCells row.now → IsPart leaves.now row.now → result ≢ Err Damaged }
-    ensures kept { result ≢ Err Refused }
+    ensures fails { FailsUnless (FollowsLast before.now row.now × HasCells row.now × IsPart leaves.now row.now) result }
 {
     if !follows_last(before, row) {
         return Err(StoreFault::Damaged);
@@ -102,12 +90,8 @@ fn walk<S: Alter>(
     keeps: bool,
 ) -> Result<(), StoreFault>
     requires { conn.old.in_transaction ≡ false }
-    ensures looks { Looks (λ db _. HasWalked leaves.now (db.trees 0) keeps changes.old changes.new) (state S.Store conn.old) (state S.Store conn.new) result }
-    ensures intact { HasCleanDisk (state S.Store conn.new) → IsTrue (state S.Store conn.new).is_open → (state S.Store conn.old).committed.schema ≡ site_schema
-        → AreParts leaves.now ((state S.Store conn.old).committed.trees 0) → result ≢ Err Damaged }
-    ensures mode { conn.new.in_transaction ≡ false }
-    ensures counts { refusals.old ≤ refusals.new }
-    ensures refusal { result ≡ Err Refused → HasRefused refusals.old refusals.new }
+    ensures walks { WalksParts leaves.now (λ db _. HasWalked leaves.now (db.trees 0) keeps changes.old changes.new) (state S.Store conn.old) (state S.Store conn.new) result }
+    ensures counted { CountsRefusals refusals.old refusals.new result }
 {
     let _live = conn.schema();
     let _settled = conn.is_autocommit();
@@ -134,12 +118,8 @@ pub fn check_parts<S: Alter>(
     leaves: &[Leaf],
 ) -> Result<(), StoreFault>
     requires { conn.old.in_transaction ≡ false }
-    ensures looks { Looks (λ db _. AreParts leaves.now (db.trees 0)) (state S.Store conn.old) (state S.Store conn.new) result }
-    ensures intact { HasCleanDisk (state S.Store conn.new) → IsTrue (state S.Store conn.new).is_open → (state S.Store conn.old).committed.schema ≡ site_schema
-        → AreParts leaves.now ((state S.Store conn.old).committed.trees 0) → result ≢ Err Damaged }
-    ensures mode { conn.new.in_transaction ≡ false }
-    ensures counts { refusals.old ≤ refusals.new }
-    ensures refusal { result ≡ Err Refused → HasRefused refusals.old refusals.new }
+    ensures walks { WalksParts leaves.now (λ db _. AreParts leaves.now (db.trees 0)) (state S.Store conn.old) (state S.Store conn.new) result }
+    ensures counted { CountsRefusals refusals.old refusals.new result }
 {
     let mut none = Changes::new(alloc);
     walk(conn, refusals, alloc, leaves, &mut none, false)
@@ -153,12 +133,8 @@ pub fn load_parts<S: Alter>(
     leaves: &[Leaf],
 ) -> Result<Changes, StoreFault>
     requires { conn.old.in_transaction ≡ false }
-    ensures looks { Looks (λ db changes. HasWalked leaves.now (db.trees 0) true map.empty changes) (state S.Store conn.old) (state S.Store conn.new) result }
-    ensures intact { HasCleanDisk (state S.Store conn.new) → IsTrue (state S.Store conn.new).is_open → (state S.Store conn.old).committed.schema ≡ site_schema
-        → AreParts leaves.now ((state S.Store conn.old).committed.trees 0) → result ≢ Err Damaged }
-    ensures mode { conn.new.in_transaction ≡ false }
-    ensures counts { refusals.old ≤ refusals.new }
-    ensures refusal { result ≡ Err Refused → HasRefused refusals.old refusals.new }
+    ensures walks { WalksParts leaves.now (λ db changes. HasWalked leaves.now (db.trees 0) true map.empty changes) (state S.Store conn.old) (state S.Store conn.new) result }
+    ensures counted { CountsRefusals refusals.old refusals.new result }
 {
     let _live = conn.schema();
     let _settled = conn.is_autocommit();

@@ -1,14 +1,17 @@
-use Rattle.std.proofs.Common.{not, ap, ◌∙◌, refl, rules}
-use Rattle.sqlite.specs.Held.{state}
+use Rattle.std.proofs.Common.{not, ap, ◌∙◌, rules}
 use Rattle.sqlstore.specs.Step.{Drops}
-use Rattle.sqlstore.proofs.Crashing.{crash_leaves}
+use Rattle.sqlstore.specs.Tables.{site_schema}
+use Rattle.sqlstore.proofs.Framing.{commits, commits_nothing}
 use Rattle.sqlstore.proofs.calls.discard.Goals as goal
 
-pub returns-clause-crash : goal.returns-clause-crash
-returns-clause-crash g c =
-    let old = c.args.conn.now in
-    let started = c.transaction-tx.ensures.begun in
-    let leaves =
-    crash_leaves g.S.Store (Drops c.args.visit.now) old (state g.S.Store c.drop_visit.new.tx.conn.now) (state g.S.Store c.commit.new.self.0) c.in_ok-drop_visit.field-0
-    (c.is_autocommit-settled.ensures.settled (c.is_autocommit-settled.ensures.value ∙ ap not c.requires)) (rw started at c.drop_visit.ensures.survives) (λ clean. rw started at (c.in_ok-drop_visit.ensures.does clean (rw started refl))) c.commit.ensures.survives in
-    search (rules, leaves)
+pub returns : goal.returns
+returns g c =
+    let made = commits g.S.Store c.args.conn.now c.transaction-tx.result.conn c.drop_visit.new.tx.conn (c.is_autocommit-settled.ensures.settled (c.is_autocommit-settled.ensures.value ∙ ap not c.requires)) c.transaction-tx.ensures.begun
+    (Drops c.args.visit.now) c.in_ok-drop_visit.field-0 c.in_ok-drop_visit.ensures c.commit.new.self.0 c.commit.result c.commit.ensures.ended c.commit.ensures.ok c.commit.ensures.err c.commit.ensures.survives in
+    search (rules, made)
+
+pub returns-in_err-drop_visit : goal.returns-in_err-drop_visit
+returns-in_err-drop_visit g c =
+    let made = commits_nothing g.S.Store c.args.conn.now c.transaction-tx.result.conn c.drop_visit.new.tx.conn (c.is_autocommit-settled.ensures.settled (c.is_autocommit-settled.ensures.value ∙ ap not c.requires)) c.transaction-tx.ensures.begun
+    (Drops c.args.visit.now) c.in_err-drop_visit.field-0.0 c.in_err-drop_visit.ensures c.drop-tx.new.self.0 c.drop-tx.ensures.ended c.drop-tx.ensures.undone c.drop-tx.ensures.survives {own = site_schema} (Drops c.args.visit.now) c.from_residual.result c.from_residual.ensures.0 in
+    search (rules, made)

@@ -1,16 +1,9 @@
-use Rattle.std.proofs.Common.{arith}
-use Rattle.sqlite.specs.Held.{state}
-use Rattle.sqlite.specs.State.{HasCleanDisk}
-use Rattle.sqlstore.specs.Step.{Forgets, Clears}
-use Rattle.sqlstore.proofs.Composed.{follow_step}
+use Rattle.sqlstore.specs.Step.{Forgets, Clears, Drops}
+use Rattle.sqlstore.proofs.Framing.{runs_then, runs_err}
 use Rattle.sqlstore.proofs.calls.drop_visit.Goals as goal
 
-pub returns-clause-does : goal.returns-clause-does
-returns-clause-does g c clean inside =
-    let old = state g.S.Store c.args.tx.now.conn.now in
-    let mid = state g.S.Store c.forget.new.tx.conn.now in
-    let new = state g.S.Store c.clear.new.tx.conn.now in
-    let was_clean : HasCleanDisk mid = omega (arith, c.clear.ensures.survives.clean) in
-    let first = c.in_ok-forget.ensures.does was_clean inside in
-    let second = c.clear.ensures.does clean first.shows.mode in
-    follow_step (Forgets c.args.visit.now) (Clears c.args.visit.now) old mid new c.in_ok-forget.field-0 c.clear.result (λ p. p.tables) first second
+pub returns : goal.returns
+returns g c = runs_then g.S.Store (Forgets c.args.visit.now) (Clears c.args.visit.now) c.args.tx.now.conn c.forget.new.tx.conn c.clear.new.tx.conn c.in_ok-forget.field-0 c.clear.result (λ p. p.tables) c.in_ok-forget.ensures c.clear.ensures
+
+pub returns-in_err-forget : goal.returns-in_err-forget
+returns-in_err-forget g c = runs_err g.S.Store (Forgets c.args.visit.now) (Drops c.args.visit.now) c.args.tx.now.conn c.forget.new.tx.conn _ c.from_residual.result c.from_residual.ensures.0 c.in_err-forget.ensures

@@ -1,16 +1,9 @@
-use Rattle.std.proofs.Common.{arith}
-use Rattle.sqlite.specs.Held.{state}
-use Rattle.sqlite.specs.State.{HasCleanDisk}
-use Rattle.sqlstore.specs.Step.{Empties, Fills}
-use Rattle.sqlstore.proofs.Composed.{follow_step}
+use Rattle.sqlstore.specs.Step.{Empties, Fills, Follows}
+use Rattle.sqlstore.proofs.Framing.{runs_then, runs_err}
 use Rattle.sqlstore.proofs.calls.make.Goals as goal
 
-pub returns-clause-does : goal.returns-clause-does
-returns-clause-does g c clean inside =
-    let old = state g.S.Store c.args.tx.now.conn.now in
-    let mid = state g.S.Store c.empty.new.tx.conn.now in
-    let new = state g.S.Store c.fill.new.tx.conn.now in
-    let was_clean : HasCleanDisk mid = omega (arith, c.fill.ensures.survives.clean) in
-    let first = c.in_ok-empty.ensures.does was_clean inside in
-    let second = c.fill.ensures.does clean first.shows.mode in
-    follow_step (Empties c.args.visit.now c.args.slots.now) (Fills c.args.visit.now) old mid new c.in_ok-empty.field-0 c.fill.result (λ p. p.2.tables) first second
+pub returns : goal.returns
+returns g c = runs_then g.S.Store (Empties c.args.visit.now c.args.slots.now) (Fills c.args.visit.now) c.args.tx.now.conn c.empty.new.tx.conn c.fill.new.tx.conn c.in_ok-empty.field-0 c.fill.result (λ p. p.2.tables) c.in_ok-empty.ensures c.fill.ensures
+
+pub returns-in_err-empty : goal.returns-in_err-empty
+returns-in_err-empty g c = runs_err g.S.Store (Empties c.args.visit.now c.args.slots.now) (Follows (Empties c.args.visit.now c.args.slots.now) (Fills c.args.visit.now)) c.args.tx.now.conn c.empty.new.tx.conn _ c.from_residual.result c.from_residual.ensures.0 c.in_err-empty.ensures

@@ -1,14 +1,17 @@
-use Rattle.std.proofs.Common.{not, ap, ◌∙◌, refl, rules}
-use Rattle.sqlite.specs.Held.{state}
+use Rattle.std.proofs.Common.{not, ap, ◌∙◌, rules}
 use Rattle.sqlstore.specs.DeskStep.{Undecides}
-use Rattle.sqlstore.proofs.Crashing.{crash_leaves}
+use Rattle.sqlstore.specs.DeskTables.{desk_schema}
+use Rattle.sqlstore.proofs.Framing.{commits, commits_nothing}
 use Rattle.sqlstore.proofs.commit.undecide.Goals as goal
 
-pub returns-clause-crash : goal.returns-clause-crash
-returns-clause-crash g c =
-    let old = c.args.conn.now in
-    let started = c.transaction-tx.ensures.begun in
-    let leaves =
-    crash_leaves g.S.Store (Undecides c.args.txn.now) old (state g.S.Store c.take_out.new.tx.conn.now) (state g.S.Store c.commit.new.self.0) c.in_ok-take_out.field-0
-    (c.is_autocommit-settled.ensures.settled (c.is_autocommit-settled.ensures.value ∙ ap not c.requires)) (rw started at c.take_out.ensures.survives) (λ clean. rw started at (c.in_ok-take_out.ensures.does clean (rw started refl))) c.commit.ensures.survives in
-    search (rules, leaves)
+pub returns : goal.returns
+returns g c =
+    let made = commits g.S.Store c.args.conn.now c.transaction-tx.result.conn c.take_out.new.tx.conn (c.is_autocommit-settled.ensures.settled (c.is_autocommit-settled.ensures.value ∙ ap not c.requires)) c.transaction-tx.ensures.begun
+    (Undecides c.args.txn.now) c.in_ok-take_out.field-0 c.in_ok-take_out.ensures c.commit.new.self.0 c.commit.result c.commit.ensures.ended c.commit.ensures.ok c.commit.ensures.err c.commit.ensures.survives in
+    search (rules, made)
+
+pub returns-in_err-take_out : goal.returns-in_err-take_out
+returns-in_err-take_out g c =
+    let made = commits_nothing g.S.Store c.args.conn.now c.transaction-tx.result.conn c.take_out.new.tx.conn (c.is_autocommit-settled.ensures.settled (c.is_autocommit-settled.ensures.value ∙ ap not c.requires)) c.transaction-tx.ensures.begun
+    (Undecides c.args.txn.now) c.in_err-take_out.field-0.0 c.in_err-take_out.ensures c.drop-tx.new.self.0 c.drop-tx.ensures.ended c.drop-tx.ensures.undone c.drop-tx.ensures.survives {own = desk_schema} (Undecides c.args.txn.now) c.from_residual.result c.from_residual.ensures.0 in
+    search (rules, made)

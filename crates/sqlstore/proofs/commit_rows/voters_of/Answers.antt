@@ -11,5 +11,5 @@ loop-row-preserved c =
     let i = c.loop-row.row-index in
     let row = c.row-item.result in (
       voters_more rows i row (tree.get txn_cmp c.loop-row.commits) (tree.get txn_cmp c.put_vote.new.commits) c.loop-row-test.true c.row-item.is c.loop-row.invariant.0 c.in_ok-put_vote.ensures.ok,
-      all_more IsVote rows i row c.loop-row-test.true c.row-item.is c.loop-row.invariant.1 c.in_ok-put_vote.ensures.sound,
+      all_more IsVote rows i row c.loop-row-test.true c.row-item.is c.loop-row.invariant.1 c.in_ok-put_vote.ensures.tests.learnt,
     )

@@ -1,14 +1,17 @@
-use Rattle.std.proofs.Common.{not, ap, ◌∙◌, refl, rules}
-use Rattle.sqlite.specs.Held.{state}
+use Rattle.std.proofs.Common.{not, ap, ◌∙◌, rules}
 use Rattle.sqlstore.specs.DeskStep.{MovesTo}
-use Rattle.sqlstore.proofs.Crashing.{crash_leaves}
+use Rattle.sqlstore.specs.DeskTables.{desk_schema}
+use Rattle.sqlstore.proofs.Framing.{commits, commits_nothing}
 use Rattle.sqlstore.proofs.epoch.keep_epoch.Goals as goal
 
-pub returns-clause-crash : goal.returns-clause-crash
-returns-clause-crash g c =
-    let old = c.args.conn.now in
-    let started = c.transaction-tx.ensures.begun in
-    let leaves =
-    crash_leaves g.S.Store (MovesTo c.args.life.now c.args.version.now) old (state g.S.Store c.move_to.new.tx.conn.now) (state g.S.Store c.commit.new.self.0) c.in_ok-move_to.field-0
-    (c.is_autocommit-settled.ensures.settled (c.is_autocommit-settled.ensures.value ∙ ap not c.requires)) (rw started at c.move_to.ensures.survives) (λ clean. rw started at (c.in_ok-move_to.ensures.does clean (rw started refl))) c.commit.ensures.survives in
-    search (rules, leaves)
+pub returns : goal.returns
+returns g c =
+    let made = commits g.S.Store c.args.conn.now c.transaction-tx.result.conn c.move_to.new.tx.conn (c.is_autocommit-settled.ensures.settled (c.is_autocommit-settled.ensures.value ∙ ap not c.requires)) c.transaction-tx.ensures.begun
+    (MovesTo c.args.life.now c.args.version.now) c.in_ok-move_to.field-0 c.in_ok-move_to.ensures c.commit.new.self.0 c.commit.result c.commit.ensures.ended c.commit.ensures.ok c.commit.ensures.err c.commit.ensures.survives in
+    search (rules, made)
+
+pub returns-in_err-move_to : goal.returns-in_err-move_to
+returns-in_err-move_to g c =
+    let made = commits_nothing g.S.Store c.args.conn.now c.transaction-tx.result.conn c.move_to.new.tx.conn (c.is_autocommit-settled.ensures.settled (c.is_autocommit-settled.ensures.value ∙ ap not c.requires)) c.transaction-tx.ensures.begun
+    (MovesTo c.args.life.now c.args.version.now) c.in_err-move_to.field-0.0 c.in_err-move_to.ensures c.drop-tx.new.self.0 c.drop-tx.ensures.ended c.drop-tx.ensures.undone c.drop-tx.ensures.survives {own = desk_schema} (MovesTo c.args.life.now c.args.version.now) c.from_residual.result c.from_residual.ensures.0 in
+    search (rules, made)

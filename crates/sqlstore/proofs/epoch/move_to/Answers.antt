@@ -1,16 +1,9 @@
-use Rattle.std.proofs.Common.{arith}
-use Rattle.sqlite.specs.Held.{state}
-use Rattle.sqlite.specs.State.{HasCleanDisk}
-use Rattle.sqlstore.specs.DeskStep.{EndsEpoch, StartsEpoch}
-use Rattle.sqlstore.proofs.Composed.{follow_step}
+use Rattle.sqlstore.specs.DeskStep.{EndsEpoch, StartsEpoch, MovesTo}
+use Rattle.sqlstore.proofs.Framing.{runs_then, runs_err}
 use Rattle.sqlstore.proofs.epoch.move_to.Goals as goal
 
-pub returns-clause-does : goal.returns-clause-does
-returns-clause-does g c clean inside =
-    let old = state g.S.Store c.args.tx.now.conn.now in
-    let mid = state g.S.Store c.end_epoch.new.tx.conn.now in
-    let new = state g.S.Store c.start_epoch.new.tx.conn.now in
-    let was_clean : HasCleanDisk mid = omega (arith, c.start_epoch.ensures.survives.clean) in
-    let first = c.in_ok-end_epoch.ensures.does was_clean inside in
-    let second = c.start_epoch.ensures.does clean first.shows.mode in
-    follow_step EndsEpoch (StartsEpoch c.args.life.now c.args.version.now) old mid new c.in_ok-end_epoch.field-0 c.start_epoch.result (λ p. p.tables) first second
+pub returns : goal.returns
+returns g c = runs_then g.S.Store EndsEpoch (StartsEpoch c.args.life.now c.args.version.now) c.args.tx.now.conn c.end_epoch.new.tx.conn c.start_epoch.new.tx.conn c.in_ok-end_epoch.field-0 c.start_epoch.result (λ p. p.tables) c.in_ok-end_epoch.ensures c.start_epoch.ensures
+
+pub returns-in_err-end_epoch : goal.returns-in_err-end_epoch
+returns-in_err-end_epoch g c = runs_err g.S.Store EndsEpoch (MovesTo c.args.life.now c.args.version.now) c.args.tx.now.conn c.end_epoch.new.tx.conn _ c.from_residual.result c.from_residual.ensures.0 c.in_err-end_epoch.ensures

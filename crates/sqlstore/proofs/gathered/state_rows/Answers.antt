@@ -8,7 +8,7 @@ use Rattle.sqlstore.proofs.Texts.{state_text, state_names, state_is, state_plain
 use Rattle.sqlstore.proofs.Whole.{state_whole}
 use Rattle.sqlstore.proofs.gathered.state_rows.Goals as goal
 
-pub returns-clause-looks : goal.returns-clause-looks
-returns-clause-looks g c =
+pub returns : goal.returns
+returns g c =
     looks_by state_text 6 (lit Null ∷ col 1 2 ∷ []) state_names state_is state_plain state_unlisted (λ _. refl) state_whole (state g.S.Store c.args.conn.now) (state g.S.Store c.query_all.new.self) (λ rows. rows.items) c.query_all.result
-    (c.is_autocommit-settled.ensures.settled (c.is_autocommit-settled.ensures.value ∙ ap not c.requires)) c.schema-live.ensures.live (λ clean. omega (arith, clean, c.query_all.ensures.survives.clean)) c.query_all.ensures.ok c.query_all.ensures.err
+    (c.is_autocommit-settled.ensures.settled (c.is_autocommit-settled.ensures.value ∙ ap not c.requires)) c.schema-live.ensures.live (λ clean. omega (arith, clean, c.query_all.ensures.survives.clean)) (c.query_all.ensures.mode c.requires) c.query_all.ensures.ok c.query_all.ensures.err

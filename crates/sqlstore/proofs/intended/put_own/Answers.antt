@@ -3,7 +3,7 @@ use Rattle.std.specs.BTreeMap as tree
 use Rattle.store.specs.declared.prepared.Prepared.{Prepared}
 use Rattle.store.specs.Content.{Changes}
 use Rattle.store.specs.Name.{ticket_cmp}
-use Rattle.sqlstore.proofs.Consistent.{on_ok}
+use Rattle.sqlstore.proofs.Framing.{on_ok}
 use Rattle.sqlstore.proofs.Intending.{own_put}
 use Rattle.sqlstore.proofs.intended.put_own.Goals as goal
 
@@ -18,4 +18,4 @@ returns-in-Some-get_mut-clause-ok c =
     let now = with_changes c.put_intent.new.changes in
     let there = c.in-Some-get_mut.ensures.value in
     let written = (c.get_mut.follows.holds now).3 (subst IsSome there refl) in
-    on_ok c.put_intent.result (λ put other. written.0 other ∙ own_put leaves row ticket other was now (tree.get ticket_cmp map) c.in-Some.ensures (sym there) (ap with_changes put.0)) c.put_intent.ensures.ok
+    on_ok c.put_intent.result (λ put other. written.0 other ∙ own_put leaves row ticket other was now (tree.get ticket_cmp map) c.in-Some.ensures (sym there) (ap with_changes put)) c.put_intent.ensures.ok

@@ -1,12 +1,9 @@
-use Rattle.std.proofs.Common.{◌≡◌, ℕ, IsTrue, take}
-use Rattle.sqlite.specs.Held.{state}
-use Rattle.sqlite.specs.State.{HasCleanDisk, Survives}
-use Rattle.sqlstore.specs.Step.{Steps, Keeps}
+use Rattle.std.proofs.Common.{ℕ, take}
+use Rattle.sqlstore.specs.Frame.{RunsWithin}
+use Rattle.sqlstore.specs.Rows.{AreTables}
+use Rattle.sqlstore.specs.Step.{Keeps}
 use Rattle.sqlstore.proofs.Composed.{good}
 use Rattle.sqlstore.proofs.keep.keep_rows.Given as goal
 
 abbrev pub invariant-intents : goal.invariant-intents
-invariant-intents g l =
-    let old = state g.S.Store l.fn.tx.conn.now in
-    let now = state g.S.Store l.tx.conn.now in
-    (l.tx.conn.ghost_name ≡ l.fn.tx.conn.ghost_name) × Survives old now (λ _. ⊥) × (HasCleanDisk now → IsTrue old.in_transaction → Steps {A = ℕ} (Keeps l.visit l.txn (take l.intent-index l.intents)) old now (good 0))
+invariant-intents g l = RunsWithin {A = ℕ} g.S.Store AreTables (Keeps l.visit l.txn (take l.intent-index l.intents)) l.fn.tx.conn l.tx.conn (good 0)

@@ -11,4 +11,4 @@ loop-at-preserved c =
     let kept = c.loop-at.invariant in
     let is = one_before rows c.loop-at.at row (omega arith) kept.0 c.index-rows-at.is in
     let put = c.in_ok-put_prepared.ensures in
-    (omega arith, λ ticket. prepared_more fin.empty ticket _ _ row _ _ is (kept.1 ticket) (put.ok ticket), all_before IsNumbered rows c.loop-at.at row is put.sound kept.2)
+    (omega arith, λ ticket. prepared_more fin.empty ticket _ _ row _ _ is (kept.1 ticket) (put.ok ticket), all_before IsNumbered rows c.loop-at.at row is put.tests.learnt kept.2)

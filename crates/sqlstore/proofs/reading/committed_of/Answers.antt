@@ -1,15 +1,10 @@
 use Rattle.std.proofs.Common.{string_bytes, not, ap, ◌∙◌}
 use Rattle.sqlite.specs.Held.{state}
 use Rattle.sqlstore.specs.Listed.{AreRowsOf}
-use Rattle.sqlstore.proofs.Committing.{settled_query}
+use Rattle.sqlstore.proofs.Framing.{asks_outside}
 use Rattle.sqlstore.proofs.reading.committed_of.Goals as goal
 
-pub returns-clause-found : goal.returns-clause-found
-returns-clause-found g c clean is_open tables =
-    (settled_query (λ db rows. AreRowsOf (string_bytes c.args.name.now) (db.trees 0) rows.items) (state g.S.Store c.args.conn.now) (state g.S.Store c.rows_of.new.conn) c.rows_of.result
-    (c.is_autocommit-settled.ensures.settled (c.is_autocommit-settled.ensures.value ∙ ap not c.requires)) (c.rows_of.ensures.does clean) is_open tables).0
-
-pub returns-clause-same : goal.returns-clause-same
-returns-clause-same g c clean is_open tables =
-    (settled_query (λ db rows. AreRowsOf (string_bytes c.args.name.now) (db.trees 0) rows.items) (state g.S.Store c.args.conn.now) (state g.S.Store c.rows_of.new.conn) c.rows_of.result
-    (c.is_autocommit-settled.ensures.settled (c.is_autocommit-settled.ensures.value ∙ ap not c.requires)) (c.rows_of.ensures.does clean) is_open tables).1
+pub returns : goal.returns
+returns g c =
+    asks_outside (λ db rows. AreRowsOf (string_bytes c.args.name.now) (db.trees 0) rows.items) (state g.S.Store c.args.conn.now) (state g.S.Store c.rows_of.new.conn) c.rows_of.result
+    (c.is_autocommit-settled.ensures.settled (c.is_autocommit-settled.ensures.value ∙ ap not c.requires)) c.requires c.rows_of.ensures

@@ -2,5 +2,9 @@ use Rattle.sqlite.specs.Held.{state}
 use Rattle.sqlstore.proofs.Creating.{builds_part}
 use Rattle.sqlstore.proofs.tables.make_part.Goals as goal
 
-pub returns-clause-does : goal.returns-clause-does
-returns-clause-does g c clean inside = builds_part (state g.S.Store c.args.tx.now.conn.now) (state g.S.Store c.execute.new.self.conn.now) c.execute.result (c.execute.ensures.runs clean inside)
+pub returns : goal.returns
+returns g c = record {
+  same_reference = c.execute.ensures.same_reference;
+  does = λ clean inside. builds_part (state g.S.Store c.args.tx.now.conn.now) (state g.S.Store c.execute.new.self.conn.now) c.execute.result (c.execute.ensures.runs clean inside);
+  survives = c.execute.ensures.survives;
+}

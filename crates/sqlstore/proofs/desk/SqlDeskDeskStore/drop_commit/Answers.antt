@@ -10,9 +10,9 @@ returns-in-Ok-clause-leaves g c =
     let ensured = c.in-Ok.ensures in
     let stands : StandsFor c.in-Some.numbers c.args.txn = record { life = c.in-Some.ensures.0; number = c.in-Some.ensures.1 } in
     record {
-      clean = λ now. (ensured.clean now.0, ensured.was_open now.0 now.1);
+      clean = λ now. (ensured.outside.clean now.0, ensured.outside.was_open now.0 now.1);
       counts = omega arith;
-      sound = λ now stored. drops_stored c.args.txn c.in-Some.numbers stands old new (c.schema-live.ensures.live (ensured.was_open now.0 now.1)).1 stored.tables (ensured.done now.0 stored.tables) stored;
+      sound = λ now stored. drops_stored c.args.txn c.in-Some.numbers stands old new (c.schema-live.ensures.live (ensured.outside.was_open now.0 now.1)).1 stored.tables (ensured.done now.0 stored.tables) stored;
     }
 
 pub returns-in-Ok-clause-ok : goal.returns-in-Ok-clause-ok
@@ -21,4 +21,4 @@ returns-in-Ok-clause-ok g c now stored =
     let new = (state g.S.Store c.undecide.new.conn).committed in
     let ensured = c.in-Ok.ensures in
     let stands : StandsFor c.in-Some.numbers c.args.txn = record { life = c.in-Some.ensures.0; number = c.in-Some.ensures.1 } in
-    drops c.args.txn c.in-Some.numbers stands old new (c.schema-live.ensures.live (ensured.was_open now.0 now.1)).1 stored.tables (ensured.done now.0 stored.tables)
+    drops c.args.txn c.in-Some.numbers stands old new (c.schema-live.ensures.live (ensured.outside.was_open now.0 now.1)).1 stored.tables (ensured.done now.0 stored.tables)

@@ -10,9 +10,9 @@ returns-in-Ok-clause-leaves g c =
     let ensured = c.in-Ok.ensures in
     let is = rw c.in-Ok-Some.field-0-is at c.in-Ok-Some.ensures in
     record {
-      clean = λ now. (ensured.clean now.0, ensured.was_open now.0 now.1);
+      clean = λ now. (ensured.outside.clean now.0, ensured.outside.was_open now.0 now.1);
       counts = omega arith;
-      sound = λ now stored. decides_stored c.args.txn c.args.voters.now c.args.version c.in-Ok-Some.decision is old new (c.schema-live.ensures.live (ensured.was_open now.0 now.1)).1 stored (ensured.done now.0 now.1 stored.tables);
+      sound = λ now stored. decides_stored c.args.txn c.args.voters.now c.args.version c.in-Ok-Some.decision is old new (c.schema-live.ensures.live (ensured.outside.was_open now.0 now.1)).1 stored (ensured.done now.0 stored.tables);
     }
 
 pub returns-in-Ok-clause-ok : goal.returns-in-Ok-clause-ok
@@ -21,4 +21,4 @@ returns-in-Ok-clause-ok g c now stored none distinct =
     let new = (state g.S.Store c.decide.new.conn).committed in
     let ensured = c.in-Ok.ensures in
     let is = rw c.in-Ok-Some.field-0-is at c.in-Ok-Some.ensures in
-    decides c.args.txn c.args.voters.now c.args.version c.in-Ok-Some.decision is old new (c.schema-live.ensures.live (ensured.was_open now.0 now.1)).1 stored (ensured.done now.0 now.1 stored.tables) none
+    decides c.args.txn c.args.voters.now c.args.version c.in-Ok-Some.decision is old new (c.schema-live.ensures.live (ensured.outside.was_open now.0 now.1)).1 stored (ensured.done now.0 stored.tables) none

@@ -11,10 +11,10 @@ returns-in-Ok-clause-leaves g c =
     let new = (state g.S.Store c.discard.new.conn).committed in
     let stands : Stands c.in-Some.visit c.args.ticket = record { life = c.in-Some.ensures.0; visit = c.in-Some.ensures.1 } in
     record {
-      clean = λ now. (c.in-Ok.ensures.clean now.0, c.in-Ok.ensures.was_open now.0 now.1);
+      clean = λ now. (c.in-Ok.ensures.outside.clean now.0, c.in-Ok.ensures.outside.was_open now.0 now.1);
       counts = omega arith;
       sound = λ now stored.
-          stored_dropped leaves c.args.ticket c.in-Some.visit stands old new (c.schema-live.ensures.live (c.in-Ok.ensures.was_open now.0 now.1)).1 stored (c.in-Ok.ensures.done now.0 stored.tables);
+          stored_dropped leaves c.args.ticket c.in-Some.visit stands old new (c.schema-live.ensures.live (c.in-Ok.ensures.outside.was_open now.0 now.1)).1 stored (c.in-Ok.ensures.done now.0 stored.tables);
     }
 
 pub returns-in-Ok-clause-ok : goal.returns-in-Ok-clause-ok
@@ -23,4 +23,4 @@ returns-in-Ok-clause-ok g c now stored =
     let old = (state g.S.Store c.args.self.now.conn).committed in
     let new = (state g.S.Store c.discard.new.conn).committed in
     let stands : Stands c.in-Some.visit c.args.ticket = record { life = c.in-Some.ensures.0; visit = c.in-Some.ensures.1 } in
-    discards leaves c.args.ticket c.in-Some.visit stands old new (c.schema-live.ensures.live (c.in-Ok.ensures.was_open now.0 now.1)).1 stored.tables (c.in-Ok.ensures.done now.0 stored.tables)
+    discards leaves c.args.ticket c.in-Some.visit stands old new (c.schema-live.ensures.live (c.in-Ok.ensures.outside.was_open now.0 now.1)).1 stored.tables (c.in-Ok.ensures.done now.0 stored.tables)

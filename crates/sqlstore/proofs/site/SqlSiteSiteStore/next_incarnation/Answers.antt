@@ -10,9 +10,9 @@ returns-in-Ok-Some-clause-leaves g c =
     let new = (state g.S.Store c.live_next.new.conn).committed in
     let ensured = c.in-Ok-Some.ensures in
     record {
-      clean = λ now. (ensured.clean now.0, ensured.was_open now.0 now.1);
+      clean = λ now. (ensured.outside.clean now.0, ensured.outside.was_open now.0 now.1);
       counts = omega arith;
-      sound = λ now stored. next_stored leaves old new (c.schema-live.ensures.live (ensured.was_open now.0 now.1)).1 c.in-Ok-Some.life (rw c.in-Ok-Some.field-0-is at (ensured.done now.0 now.1 stored.tables)) stored;
+      sound = λ now stored. next_stored leaves old new (c.schema-live.ensures.live (ensured.outside.was_open now.0 now.1)).1 c.in-Ok-Some.life (rw c.in-Ok-Some.field-0-is at (ensured.done now.0 now.1 stored.tables)) stored;
     }
 
 pub returns-in-Ok-Some-clause-ok : goal.returns-in-Ok-Some-clause-ok
@@ -21,7 +21,7 @@ returns-in-Ok-Some-clause-ok g c now stored low =
     let old = (state g.S.Store c.args.self.now.conn).committed in
     let new = (state g.S.Store c.live_next.new.conn).committed in
     let ensured = c.in-Ok-Some.ensures in
-    next_begins leaves old new (c.schema-live.ensures.live (ensured.was_open now.0 now.1)).1 c.in-Ok-Some.life (rw c.in-Ok-Some.field-0-is at (ensured.done now.0 now.1 stored.tables)) stored
+    next_begins leaves old new (c.schema-live.ensures.live (ensured.outside.was_open now.0 now.1)).1 c.in-Ok-Some.life (rw c.in-Ok-Some.field-0-is at (ensured.done now.0 now.1 stored.tables)) stored
 
 pub returns-in-Ok-Some-clause-life : goal.returns-in-Ok-Some-clause-life
 returns-in-Ok-Some-clause-life g c now stored =
@@ -29,4 +29,4 @@ returns-in-Ok-Some-clause-life g c now stored =
     let old = (state g.S.Store c.args.self.now.conn).committed in
     let new = (state g.S.Store c.live_next.new.conn).committed in
     let ensured = c.in-Ok-Some.ensures in
-    next_life leaves old new (c.schema-live.ensures.live (ensured.was_open now.0 now.1)).1 c.in-Ok-Some.life (rw c.in-Ok-Some.field-0-is at (ensured.done now.0 now.1 stored.tables)) stored
+    next_life leaves old new (c.schema-live.ensures.live (ensured.outside.was_open now.0 now.1)).1 c.in-Ok-Some.life (rw c.in-Ok-Some.field-0-is at (ensured.done now.0 now.1 stored.tables)) stored
