@@ -12,6 +12,8 @@ mod desks;
 #[cfg(test)]
 mod letters;
 #[cfg(test)]
+mod meeting;
+#[cfg(test)]
 mod outcomes;
 #[cfg(test)]
 mod refusing;
@@ -25,6 +27,8 @@ mod sqldesks;
 mod sqlstores;
 #[cfg(test)]
 mod statements;
+#[cfg(test)]
+mod threads;
 #[cfg(test)]
 mod transactions;
 #[cfg(test)]

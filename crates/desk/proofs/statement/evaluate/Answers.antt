@@ -51,10 +51,10 @@ returns-clause-explained c = λ db n t of same planned.
     let rows : c.as_slice-fetched.result.now ≡ brought c.args.asks.now = c.as_slice-fetched.ensures.value ∙ c.in_ok-fetched.ensures in
     let is : c.in_ok-unsent.unsent.items ≡ map (unsent_from catalogue) list = search rules in
     let Made : (Relations → Type 0) → List Fetch → Shape → Type 0 =
-        λ Holds fetches shape. IsStatementOf (schemas_of catalogue) stated → AreFetchesOf catalogue stated fetches → FindsAll catalogue stated fetches shape → (whole : Relations) → FitsSchema (schemas_of catalogue) whole → AreBrought catalogue whole fetches (given c.as_slice-fetched.result.now) → Holds whole in
+    λ Holds fetches shape. IsStatementOf (schemas_of catalogue) stated → AreFetchesOf catalogue stated fetches → FindsAll catalogue stated fetches shape → (whole : Relations) → FitsSchema (schemas_of catalogue) whole → AreBrought catalogue whole fetches (given c.as_slice-fetched.result.now) → Holds whole in
     let answers : Relations → Type 0 = λ whole. c.in_ok-outcome.outcome.answer ≡ (meaning stated whole).0 in
     let writes : Relations → Type 0 = λ whole. list ≡ writes_between catalogue whole (meaning stated whole).1 in
     let so : (Holds : Relations → Type 0) → Made Holds c.fetches-fetches.result.now (shape c.in_ok-plan.plan) → Made Holds plan.fetches (plan_in plan) =
-        λ Holds made. subst (λ sh. Made Holds plan.fetches sh) c.in_ok-plan.ensures.same (subst (λ fs. Made Holds fs (shape c.in_ok-plan.plan)) c.fetches-fetches.ensures made) in
+    λ Holds made. subst (λ sh. Made Holds plan.fetches sh) c.in_ok-plan.ensures.same (subst (λ fs. Made Holds fs (shape c.in_ok-plan.plan)) c.fetches-fetches.ensures made) in
     explained_of db of n c.leaf_names_are_unique.ensures stated plan c.args.asks.now planned t c.in_ok-outcome.outcome.answer list catalogue same c.as_slice-fetched.result.now rows c.in_ok-unsent.unsent.items is
     (so answers c.in_ok-outcome.ensures.answer) (so writes c.in_ok-outcome.ensures.writes)

@@ -1,0 +1,83 @@
+//! The cells that a database begins with: its machines start over their stores.
+
+ghost use Rattle.std.specs.Prelude.{◌≡◌, [], IfOk, length};
+ghost use Rattle.catalog.specs.FragmentLeaf.{catalogue_leaves, names_at};
+ghost use Rattle.catalog.specs.Relation.{catalogue_of};
+ghost use Rattle.site.specs.State.{AreHad};
+ghost use Rattle.wire.specs.Opening.{AreFresh, HaveLeaves, IsFresh};
+
+use catalog::catalogue::Catalog;
+use desk::desk::Desk;
+use history::desk_cell::DeskCell;
+use history::site_cell::SiteCell;
+use site::fault::SiteFault;
+use site::site::Site;
+use std::alloc::Global;
+use store::desk_store::DeskStore;
+use store::site_store::SiteStore;
+use terms::copy::TryCopy;
+use terms::text::Text;
+use world::fault::Fault;
+
+/// The cells of sites that start over these stores, in the catalogue's order.
+#[tactic(auto, using(crate::proofs::SiteCells::next_fresh, crate::proofs::SiteCells::next_has))]
+pub(crate) fn site_cells<S: SiteStore + Drop>(
+    alloc: Global,
+    catalog: &Catalog,
+    stores: Vec<S>,
+) -> Result<Vec<SiteCell<S>>, SiteFault>
+    requires one_each { length stores.items ≡ length catalog.now.0 }
+    requires leaves { HaveLeaves S.is_clean S.kept (catalogue_of catalog.now) 0 stores.items }
+    ensures { IfOk result (λ cells. AreFresh (catalogue_of catalog.now) 0 catalog.now.0 cells.items) }
+{
+    let names = catalog.sites();
+    let mut cells = Vec::new(alloc);
+    for store in stores {
+        let place = cells.len();
+        let cell = site_cell(alloc, catalog, store, &names[place], place)?;
+        cells.push(cell)?;
+    }
+    Ok(cells)
+}
+
+/// The cell of the site of this name and number, which starts over its store.
+fn site_cell<S: SiteStore + Drop>(
+    alloc: Global,
+    catalog: &Catalog,
+    store: S,
+    name: &Text,
+    place: usize,
+) -> Result<SiteCell<S>, SiteFault>
+    requires { S.is_clean store → AreHad (names_at place (catalogue_leaves (catalogue_of catalog.now))) (S.kept store) }
+    ensures { IfOk result (IsFresh (catalogue_of catalog.now) place name.now) }
+{
+    let leaves = catalog.leaves_at(place)?;
+    let own = name.copy()?;
+    let site = match Site::start(alloc, own, store, leaves.as_slice()) {
+        Ok(site) => site,
+        Err(unstarted) => return Err(unstarted.fault),
+    };
+    match SiteCell::new(alloc, site, leaves) {
+        Ok(cell) => Ok(cell),
+        Err(unrecorded) => Err(unrecorded.fault),
+    }
+}
+
+/// The cell of the coordinator, which starts over its store.
+pub(crate) fn desk_cell<D: DeskStore + Drop>(
+    alloc: Global,
+    catalog: Catalog,
+    store: D,
+) -> Result<DeskCell<D>, Fault>
+    ensures entries { IfOk result (λ cell. cell.entries ≡ []) }
+    ensures catalog { IfOk result (λ cell. cell.desk.catalog ≡ catalog) }
+{
+    let desk = match Desk::start(alloc, catalog, store) {
+        Ok(desk) => desk,
+        Err(unstarted) => return Err(Fault::Desk(unstarted.refusal)),
+    };
+    match DeskCell::new(alloc, desk) {
+        Ok(cell) => Ok(cell),
+        Err(unrecorded) => Err(Fault::Desk(unrecorded.refusal)),
+    }
+}

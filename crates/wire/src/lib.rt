@@ -1,0 +1,20 @@
+//! A database whose sites work in threads, and the sessions of its clients.
+//!
+//! It stands on all crates below it. Each site's thread owns the site's cell and takes letters, one after another, from
+//! a channel of its own (`worker`). The coordinator's cell lies under a lock, beside the ways to the sites (`front`):
+//! whoever calls it puts its letters into the channels before the lock is free, and hands its replies to the sessions
+//! after that (`shared`, `seat`). Public are the `database`, its `session`s, the `records` of one that was closed, the
+//! `fault` of a session's call, and the `gate` that letters pass.
+#![tactic(auto)]
+
+mod cells;
+pub mod database;
+pub mod fault;
+mod front;
+pub mod gate;
+pub mod records;
+mod seat;
+pub mod session;
+mod shared;
+mod talk;
+mod worker;

@@ -1,0 +1,80 @@
+//! What the threads of a database share.
+
+use crate::fault::CallFault;
+use crate::front::{Done, Errand, Front};
+use crate::seat::{Given, Seats};
+use meaning::schema::Schema;
+use std::alloc::Global;
+use std::sync::atomic::AtomicU64;
+use std::sync::{Mutex, Wait};
+use store::desk_store::DeskStore;
+use store::letter::Letter;
+use store::name::Txn;
+use terms::memory::Memory;
+
+/// How often a site's thread calls the coordinator for one letter, where memory runs out.
+const TRIES: usize = 3;
+
+/// The coordinator under its lock, who waits for replies, the counter of calls, and the gate.
+#[derive(Drop)]
+pub(crate) struct Shared<D: DeskStore, G> {
+    pub alloc: Global,
+    pub schema: Schema,
+    pub front: Mutex<Front<D>>,
+    pub seats: Mutex<Seats>,
+    /// Numbers the calls of all machines.
+    pub counter: AtomicU64,
+    /// How many letters were taken though the gate was not open.
+    pub forced: AtomicU64,
+    pub gate: G,
+}
+
+impl<D: DeskStore, G> Shared<D, G> {
+    /// Calls the coordinator, under its lock.
+    pub fn call<R: Wait>(&self, rt: &R, errand: Errand<'_>) -> Result<Done, Memory> {
+        let mut front = self.front.lock(rt);
+        front.call(rt, self.alloc, errand, &self.counter)
+    }
+
+    /// Calls the coordinator, and hands its replies out. A call that was refused is its refusal.
+    pub fn ask<R: Wait>(&self, rt: &R, errand: Errand<'_>) -> Result<(), CallFault> {
+        let Done {
+            given,
+            given_up,
+            fault,
+        } = self.call(rt, errand)?;
+        self.hand_out(rt, given);
+        self.hand_out(rt, given_up);
+        match fault {
+            Some(fault) => Err(CallFault::from(fault)),
+            None => Ok(()),
+        }
+    }
+
+    /// Hands replies out to the sessions that wait for them.
+    pub fn hand_out<R: Wait>(&self, rt: &R, given: Vec<Given>) {
+        for one in given {
+            self.seats.lock(rt).tell(rt, one);
+        }
+    }
+
+    /// Calls the coordinator, again where memory runs out, three times in all.
+    fn insist<R: Wait>(&self, rt: &R, errand: Errand<'_>) {
+        for _ in 0..TRIES {
+            match self.ask(rt, errand) {
+                Err(CallFault::Memory) => {}
+                _ => break,
+            }
+        }
+    }
+
+    /// Brings a site's letter to the coordinator. Where memory runs out three times, the letter is lost.
+    pub fn bring<R: Wait>(&self, rt: &R, letter: &Letter) {
+        self.insist(rt, Errand::Take(letter));
+    }
+
+    /// Gives a transaction up, unless it is decided. Where memory runs out three times, it stays undecided.
+    pub fn give_up<R: Wait>(&self, rt: &R, txn: Txn) {
+        self.insist(rt, Errand::GiveUp(txn));
+    }
+}

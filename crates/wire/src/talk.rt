@@ -1,0 +1,296 @@
+//! What a session and the coordinator say to each other.
+
+ghost use Rattle.std.specs.Prelude.{◌≡◌, ◌⊎◌, ◌↔◌, true, false, None, Some, Err, IfErr, IfOk, IfSome, OnErr, is_some, OnOk};
+ghost use Rattle.reader.specs.declared.command.Command.{Command as CommandNow};
+ghost use Rattle.reader.specs.declared.command.Command.TheVariants as commands;
+ghost use Rattle.reader.specs.Command.{IsTextOf};
+ghost use Rattle.desk.specs.declared.reply.Reply.TheVariants as replies;
+ghost use Rattle.desk.specs.declared.reply.Why.{Why as WhyNow};
+ghost use Rattle.wire.specs.declared.fault.CallFault.TheVariants as faults;
+ghost use Rattle.wire.specs.Fault.{IsUnread, is_abort};
+ghost use Rattle.wire.specs.Talk.{is_answered, open_after, tells_end};
+
+use crate::fault::CallFault;
+use crate::front::{Done, Errand};
+use crate::seat::Given;
+use crate::shared::Shared;
+use crossbeam_channel::{Receiver, Sender};
+use desk::reply::{Reply, Why};
+use meaning::schema::Schema;
+use reader::command::Command;
+use reader::read::{one_command, read};
+use std::alloc::Global;
+use std::sync::Wait;
+use store::desk_store::DeskStore;
+use store::name::Txn;
+
+/// A reply that a session has heard, with the number of the coordinator's entry that put it out.
+#[derive(Drop)]
+pub(crate) struct Heard {
+    pub number: u64,
+    pub reply: Reply,
+}
+
+/// A transaction that has begun, with the number of the coordinator's entry that says so.
+#[derive(Clone, Copy)]
+struct Begun {
+    txn: Txn,
+    number: u64,
+}
+
+/// A session's side of the talk: the way of its replies, and the transaction that it has begun by BEGIN.
+#[derive(Drop)]
+pub(crate) struct Talk<'a, D: DeskStore, G> {
+    pub shared: &'a Shared<D, G>,
+    pub to: Sender<Given>,
+    pub given: Receiver<Given>,
+    pub current: Option<Txn>,
+}
+
+impl<'a, D: DeskStore, G> Talk<'a, D, G> {
+    /// Obeys a text: BEGIN, COMMIT, ROLLBACK or a statement, which outside BEGIN is a transaction of its own. Any other text is
+    /// refused at once.
+    pub fn obey<R: Wait>(&mut self, rt: &R, text: &str) -> Result<Heard, CallFault>
+        ensures shared { self.new.shared ≡ self.old.shared }
+        ensures open { IfOk result (λ heard. is_some self.new.current ≡ open_after (is_some self.old.current) heard.reply) }
+        ensures aborted { (why : WhyNow) → result ≡ Err (faults.Aborted why) → self.new.current ≡ None }
+        ensures still { IfErr result (λ fault. (self.new.current ≡ self.old.current) ⊎ (is_abort fault ≡ true)) }
+        ensures inside { is_some self.old.current ≡ true → IsTextOf self.old.shared.now.schema.relations text.now commands.Begin → OnOk result ⊥ }
+        ensures outside { is_some self.old.current ≡ false → IsTextOf self.old.shared.now.schema.relations text.now commands.Commit ⊎ IsTextOf self.old.shared.now.schema.relations text.now commands.Rollback → OnOk result ⊥ × IfErr result (λ told. (told ≡ faults.NoTransaction) ⊎ (told ≡ faults.Memory)) }
+        ensures unread { ((command : CommandNow) → IsTextOf self.old.shared.now.schema.relations text.now command → ⊥) → OnOk result ⊥ × IfErr result (IsUnread self.old.shared.now.schema.relations text.now) }
+    {
+        one_command();
+        let command = match command_of(self.shared.alloc, &self.shared.schema, text) {
+            Ok(command) => command,
+            Err(fault) => return Err(fault),
+        };
+        match self.current {
+            Some(txn) => self.obey_inside(rt, txn, &command, text),
+            None => self.obey_outside(rt, &command, text),
+        }
+    }
+
+    /// Obeys a command while no transaction is open.
+    fn obey_outside<R: Wait>(
+        &mut self,
+        rt: &R,
+        command: &Command,
+        text: &str,
+    ) -> Result<Heard, CallFault>
+        requires { self.old.current ≡ None }
+        ensures shared { self.new.shared ≡ self.old.shared }
+        ensures outside { (command.now ≡ commands.Commit) ⊎ (command.now ≡ commands.Rollback) → result ≡ Err faults.NoTransaction }
+        ensures open { IfOk result (λ heard. is_some self.new.current ≡ open_after false heard.reply) }
+        ensures still { OnErr result (self.new.current ≡ None) }
+    {
+        match command {
+            Command::Begin => self.open_by(rt),
+            Command::Commit | Command::Rollback => Err(CallFault::NoTransaction),
+            Command::Run(_) => self.run(rt, text),
+        }
+    }
+
+    /// BEGIN: a transaction begins, which is open from now on.
+    fn open_by<R: Wait>(&mut self, rt: &R) -> Result<Heard, CallFault>
+        ensures shared { self.new.shared ≡ self.old.shared }
+        ensures begun { IfOk result (λ heard. (heard.reply ≡ replies.Begun) × (is_some self.new.current ≡ true)) }
+        ensures still { OnErr result (self.new.current ≡ self.old.current) }
+    {
+        let Begun { txn, number } = self.begin(rt)?;
+        self.current = Some(txn);
+        Ok(Heard {
+            number,
+            reply: Reply::Begun,
+        })
+    }
+
+    /// Obeys a command while a transaction is open. Where it has aborted meanwhile, that is the answer.
+    fn obey_inside<R: Wait>(
+        &mut self,
+        rt: &R,
+        txn: Txn,
+        command: &Command,
+        text: &str,
+    ) -> Result<Heard, CallFault>
+        ensures shared { self.new.shared ≡ self.old.shared }
+        ensures inside { command.now ≡ commands.Begin → OnOk result ⊥ }
+        ensures open { is_some self.old.current ≡ true → IfOk result (λ heard. is_some self.new.current ≡ open_after true heard.reply) }
+        ensures aborted { (why : WhyNow) → result ≡ Err (faults.Aborted why) → self.new.current ≡ None }
+        ensures still { IfErr result (λ fault. (self.new.current ≡ self.old.current) ⊎ (is_abort fault ≡ true)) }
+    {
+        let heard = self.answer(rt, txn, command, text);
+        if tells_end(&heard) {
+            self.current = None;
+            self.leave(rt, txn);
+        }
+        heard
+    }
+
+    /// What a command is answered while a transaction is open.
+    fn answer<R: Wait>(
+        &self,
+        rt: &R,
+        txn: Txn,
+        command: &Command,
+        text: &str,
+    ) -> Result<Heard, CallFault>
+        ensures answered { IfOk result (λ heard. is_answered heard.reply ≡ true) }
+        ensures inside { command.now ≡ commands.Begin → OnOk result ⊥ }
+    {
+        if let Some(why) = self.aborted(rt, txn) {
+            return Err(CallFault::Aborted(why));
+        }
+        match command {
+            Command::Begin => Err(CallFault::Busy),
+            Command::Commit => self.ask(rt, txn, Errand::Commit(txn)),
+            Command::Rollback => self.ask(rt, txn, Errand::Rollback(txn)),
+            Command::Run(_) => self.ask(rt, txn, Errand::State(txn, text)),
+        }
+    }
+
+    /// Runs a statement as a transaction of its own. Its answer is heard only where that was committed; unless it has aborted, it
+    /// is given up otherwise.
+    fn run<R: Wait>(&self, rt: &R, text: &str) -> Result<Heard, CallFault>
+        ensures { IfOk result (λ heard. is_answered heard.reply ≡ true) }
+    {
+        let Begun { txn, .. } = self.begin(rt)?;
+        let heard = self.run_begun(rt, txn, text);
+        self.leave(rt, txn);
+        match &heard {
+            Ok(_) | Err(CallFault::Aborted(_)) => {}
+            Err(_) => self.shared.give_up(rt, txn),
+        }
+        heard
+    }
+
+    /// States the text of a transaction that has begun, and asks for its commit.
+    fn run_begun<R: Wait>(&self, rt: &R, txn: Txn, text: &str) -> Result<Heard, CallFault>
+        ensures { IfOk result (λ heard. is_answered heard.reply ≡ true) }
+    {
+        let heard = self.ask(rt, txn, Errand::State(txn, text))?;
+        let _committed = self.ask(rt, txn, Errand::Commit(txn))?;
+        Ok(heard)
+    }
+
+    /// Begins a transaction, whose replies come to this session.
+    fn begin<R: Wait>(&self, rt: &R) -> Result<Begun, CallFault> {
+        let to = self.to.clone()?;
+        let Done { given, fault, .. } = self.shared.call(rt, Errand::Begin)?;
+        if let Some(fault) = fault {
+            return Err(CallFault::from(fault));
+        }
+        let begun = begun_in(given.as_slice())?;
+        let entered = self.shared.seats.lock(rt).enter(begun.txn, to);
+        if entered.is_err() {
+            self.shared.give_up(rt, begun.txn);
+            return Err(CallFault::Memory);
+        }
+        Ok(begun)
+    }
+
+    /// Calls the coordinator for a transaction, and waits for the reply. A transaction that isn't undecided any more has
+    /// aborted: the reply that tells so is on its way.
+    fn ask<R: Wait>(&self, rt: &R, txn: Txn, errand: Errand<'_>) -> Result<Heard, CallFault>
+        ensures { IfOk result (λ heard. is_answered heard.reply ≡ true) }
+    {
+        match self.shared.ask(rt, errand) {
+            Ok(()) | Err(CallFault::NoTransaction) => self.hear(rt, txn),
+            Err(fault) => Err(fault),
+        }
+    }
+
+    /// Waits for the next reply to a transaction.
+    fn hear<R: Wait>(&self, rt: &R, txn: Txn) -> Result<Heard, CallFault>
+        ensures { IfOk result (λ heard. is_answered heard.reply ≡ true) }
+    {
+        for _ in rt.forever() {
+            let Ok(given) = self.given.recv(rt) else {
+                break;
+            };
+            if given.txn == txn {
+                return as_heard(given);
+            }
+        }
+        Err(CallFault::Closed)
+    }
+
+    /// Why a transaction has aborted meanwhile, if it has: the reply that tells so has come.
+    fn aborted<R: Wait>(&self, rt: &R, txn: Txn) -> Option<Why> {
+        for _ in rt.forever() {
+            let Ok(given) = self.given.try_recv(rt) else {
+                break;
+            };
+            if given.txn == txn {
+                return why_of(&given);
+            }
+        }
+        None
+    }
+
+    /// Nobody waits for the replies of a transaction any more.
+    fn leave<R: Wait>(&self, rt: &R, txn: Txn) {
+        self.shared.seats.lock(rt).leave(txn);
+    }
+}
+
+/// The command of a text.
+fn command_of(alloc: Global, schema: &Schema, text: &str) -> Result<Command, CallFault>
+    ensures read { IfOk result (λ command. IsTextOf schema.now.relations text.now command) }
+    ensures unread { IfErr result (IsUnread schema.now.relations text.now) }
+{
+    match read(alloc, text, schema) {
+        Ok(command) => Ok(command),
+        Err(fault) => Err(CallFault::from(fault)),
+    }
+}
+
+/// The transaction that has begun by the first of these replies. Where there is none, the coordinator is at a limit.
+fn begun_in(given: &[Given]) -> Result<Begun, CallFault>
+    ensures { IfErr result (λ fault. (fault ≡ faults.Full) ⊎ (fault ≡ faults.Closed)) }
+{
+    let Some(first) = given.first() else {
+        return Err(CallFault::Full);
+    };
+    match &first.reply {
+        Some(Reply::Begun) => Ok(Begun {
+            txn: first.txn,
+            number: first.number,
+        }),
+        _ => Err(CallFault::Closed),
+    }
+}
+
+/// What a session hears of a reply. An abort is a fault.
+fn as_heard(given: Given) -> Result<Heard, CallFault>
+    ensures answered { IfOk result (λ heard. is_answered heard.reply ≡ true) }
+    ensures same { IfOk result (λ heard. (heard.number ≡ given.number) × (given.reply ≡ Some heard.reply)) }
+    ensures aborted { (why : WhyNow) → (result ≡ Err (faults.Aborted why)) ↔ (given.reply ≡ Some (replies.Aborted why)) }
+{
+    let Given { number, reply, .. } = given;
+    match reply {
+        Some(Reply::Aborted(why)) => Err(CallFault::Aborted(why)),
+        Some(Reply::Begun) => Err(CallFault::Closed),
+        Some(reply) => Ok(Heard { number, reply }),
+        None => Err(CallFault::Memory),
+    }
+}
+
+/// Why a transaction aborted, where a reply tells that.
+fn why_of(given: &Given) -> Option<Why>
+    ensures { IfSome result (λ why. given.now.reply ≡ Some (replies.Aborted why)) }
+{
+    match &given.reply {
+        Some(Reply::Aborted(why)) => Some(*why),
+        _ => None,
+    }
+}
+
+/// Whether a transaction has ended by what its session heard.
+fn tells_end(heard: &Result<Heard, CallFault>) -> bool
+    ensures { result ≡ tells_end heard.now }
+{
+    match heard {
+        Ok(heard) => matches!(&heard.reply, Reply::Committed | Reply::RolledBack),
+        Err(fault) => matches!(fault, CallFault::Aborted(_)),
+    }
+}
