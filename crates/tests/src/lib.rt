@@ -12,8 +12,6 @@ mod desks;
 #[cfg(test)]
 mod letters;
 #[cfg(test)]
-mod meeting;
-#[cfg(test)]
 mod outcomes;
 #[cfg(test)]
 mod refusing;
@@ -27,8 +25,6 @@ mod sqldesks;
 mod sqlstores;
 #[cfg(test)]
 mod statements;
-#[cfg(test)]
-mod threads;
 #[cfg(test)]
 mod transactions;
 #[cfg(test)]
