@@ -59,7 +59,8 @@ where
     G: Gate + Send + Sync + Drop + 'static,
 {
     /// Opens a database over these stores: those of its sites, in the catalogue's order, and the coordinator's. On a fault they
-    /// are let go; it is a machine's that doesn't start, or want of memory, also where no thread can be made.
+    /// are let go; it is a machine's that doesn't start, or want of memory, also where no thread can be made. No clause says
+    /// what is opened: the cells lie under a lock and in threads from then on, and `close` says what comes back.
     pub fn open<R: Threads + Wait + Copy + Send + 'static>(
         rt: &R,
         alloc: Global,
@@ -144,7 +145,7 @@ where
     }
 
     /// Tells a site of the catalogue to restart, and to ask about its prepared rows then. It returns once that is told; a name of no
-    /// site is passed over.
+    /// site is passed over. No clause says so, since none follows a channel.
     pub fn restart_site<R: Wait>(&self, rt: &R, site: &Text) -> Result<(), Memory> {
         let front = self.shared.front.lock(rt);
         match front.way_to(site) {

@@ -150,7 +150,7 @@ impl<D: DeskStore> Front<D> {
         })
     }
 
-    /// The way to the site of this name.
+    /// The way to the site of this name. No clause says whose it is, since none says where a channel leads.
     pub fn way_to(&self, site: &Text) -> Option<&Sender<Word>> {
         way_among(self.ways.as_slice(), site)
     }

@@ -46,13 +46,15 @@ struct Seat {
     to: Sender<Given>,
 }
 
-/// The sessions that wait, by their transactions.
+/// The sessions that wait, by their transactions. They lie under a lock, which forgets what was known of them, so no
+/// call of theirs has a clause.
 #[derive(Drop)]
 pub(crate) struct Seats {
     seats: Vec<Seat>,
 }
 
 impl Seats {
+    /// Nobody waits.
     pub fn new(alloc: Global) -> Seats {
         Seats {
             seats: Vec::new(alloc),

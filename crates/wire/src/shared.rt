@@ -30,13 +30,14 @@ pub(crate) struct Shared<D: DeskStore, G> {
 }
 
 impl<D: DeskStore, G> Shared<D, G> {
-    /// Calls the coordinator, under its lock.
+    /// Calls the coordinator, under its lock. No clause says what it answers, since none follows what lies under a lock.
     pub fn call<R: Wait>(&self, rt: &R, errand: Errand<'_>) -> Result<Done, Memory> {
         let mut front = self.front.lock(rt);
         front.call(rt, self.alloc, errand, &self.counter)
     }
 
-    /// Calls the coordinator, and hands its replies out. A call that was refused is its refusal.
+    /// Calls the coordinator, and hands its replies out. A call that was refused is its refusal. No clause says so, since
+    /// none follows what lies under a lock.
     pub fn ask<R: Wait>(&self, rt: &R, errand: Errand<'_>) -> Result<(), CallFault> {
         let Done {
             given,
@@ -51,7 +52,7 @@ impl<D: DeskStore, G> Shared<D, G> {
         }
     }
 
-    /// Hands replies out to the sessions that wait for them.
+    /// Hands replies out to the sessions that wait for them. No clause says so, since none follows a channel.
     pub fn hand_out<R: Wait>(&self, rt: &R, given: Vec<Given>) {
         for one in given {
             self.seats.lock(rt).tell(rt, one);
