@@ -4,7 +4,6 @@ use Rattle.std.specs.Option.{option_map}
 use Rattle.meaning.specs.declared.answer.Answer.{Answer}
 use Rattle.meaning.specs.declared.answer.Answer.TheVariants as answer
 use Rattle.meaning.specs.declared.statement.Statement.{Statement}
-use Rattle.desk.specs.ReducedPlan.{ReducedPlan, plan_in}
 use Rattle.store.specs.declared.name.Ticket.{Ticket}
 use Rattle.store.specs.declared.name.Txn.{Txn}
 use Rattle.store.specs.declared.reply.Reply.TheVariants as replies
@@ -38,6 +37,7 @@ use Rattle.desk.specs.Database.{Database, language, replied, sent}
 use Rattle.desk.specs.Does.{ArePlaced, Does, DoesIn, GoesOn, IsShort, Takes}
 use Rattle.desk.specs.OfCatalogue.{IsOfCatalogue}
 use Rattle.desk.specs.Planned.{IsOfPlan, IsPlanned, ask_from, asked}
+use Rattle.desk.specs.ReducedPlan.{ReducedPlan, plan_in}
 use Rattle.desk.specs.Send.{AreShort, AsksAtHome, UnsentAtHome}
 use Rattle.desk.specs.Participants.{sites_of, participant_in}
 use Rattle.desk.specs.Transaction.{ask_of, stage_of, txn_of, undecided_of, write_of}
@@ -61,7 +61,6 @@ use Rattle.catalog.specs.Laws.{LeafNamesAreUnique}
 use Rattle.meaning.specs.declared.schema.RelationSchema.{RelationSchema}
 use Rattle.meaning.specs.Statement.{IsStatementOf}
 use Rattle.plan.specs.Reduced.{FindsAll}
-use Rattle.plan.specs.Shape.{shape}
 use Rattle.plan.specs.Stated.{AreFetchesOf}
 use Rattle.reader.specs.Printable.{AreDistinct}
 use Rattle.std.specs.List.{list_all}

@@ -14,14 +14,12 @@ use Rattle.catalog.specs.declared.fragment_leaf.FragmentLeaf.{FragmentLeaf}
 use Rattle.catalog.specs.FragmentLeaf.{catalogue_leaves, is_name_of, leaf_named, schemas_of}
 use Rattle.catalog.specs.Laws.{LeafNamesAreUnique}
 use Rattle.plan.specs.declared.fetch.Fetch.{Fetch}
-use Rattle.desk.specs.ReducedPlan.{ReducedPlan, plan_in}
 use Rattle.plan.specs.Given.{AreBrought}
 use Rattle.plan.specs.Given as plan
 use Rattle.catalog.specs.Catalogue.{Catalogue}
 use Rattle.plan.specs.Stated.{AreFetchesOf}
 use Rattle.plan.specs.Reduced.{FindsAll, is_fetched, same_leaf}
 use Rattle.plan.specs.Rows.{met}
-use Rattle.plan.specs.Shape.{shape}
 use Rattle.plan.proofs.Fetched.{one_name}
 use Rattle.answers.specs.declared.table.FetchRows.{FetchRows}
 use Rattle.answers.specs.Table.{given}
@@ -38,6 +36,7 @@ use Rattle.desk.specs.Database.{Database, language}
 use Rattle.desk.specs.OfCatalogue.{HasContent, IsOfCatalogue}
 use Rattle.desk.specs.Place.{Place, fetch_in, home_in, placed_in, write_in}
 use Rattle.desk.specs.Planned.{IsOfPlan, asked, unsent_from}
+use Rattle.desk.specs.ReducedPlan.{ReducedPlan, plan_in}
 use Rattle.desk.specs.Transaction.{ask_of, write_of}
 use Rattle.desk.proofs.AtHomes.{found_so, site_is, writes_are}
 use Rattle.desk.proofs.Located.{AreOf, IsEither, are_of, located, same_fetch}

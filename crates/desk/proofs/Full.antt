@@ -5,7 +5,6 @@ use Rattle.std.specs.Option.{option_map}
 use Rattle.meaning.specs.declared.answer.Answer.{Answer}
 use Rattle.meaning.specs.declared.answer.Answer.TheVariants as answer
 use Rattle.meaning.specs.declared.statement.Statement.{Statement}
-use Rattle.desk.specs.ReducedPlan.{ReducedPlan, plan_in}
 use Rattle.catalog.specs.Laws.{LeafNamesAreUnique}
 use Rattle.store.specs.DeskContent.{DeskContent}
 use Rattle.store.specs.declared.name.Ticket.{Ticket}
@@ -29,6 +28,7 @@ use Rattle.desk.specs.Database.{Database, language, replied}
 use Rattle.desk.specs.Does.{IsLong, IsPastLimits}
 use Rattle.desk.specs.OfCatalogue.{IsOfCatalogue}
 use Rattle.desk.specs.Planned.{IsOfPlan, ask_from}
+use Rattle.desk.specs.ReducedPlan.{ReducedPlan}
 use Rattle.desk.specs.Send.{IsPast}
 use Rattle.desk.specs.Participants.{changed_at, is_at, participant_in, with_ticket}
 use Rattle.desk.specs.Transaction.{ask_of, stage_of, txn_of, undecided_of, write_of}

@@ -5,7 +5,6 @@ use Rattle.meaning.specs.declared.answer.Answer.{Answer}
 use Rattle.desk.specs.declared.reply.Reply.{Reply}
 use Rattle.desk.specs.declared.reply.Reply.TheVariants as reply
 use Rattle.meaning.specs.declared.statement.Statement.{Statement}
-use Rattle.desk.specs.ReducedPlan.{ReducedPlan, plan_in}
 use Rattle.store.specs.declared.name.Ticket.{Ticket}
 use Rattle.store.specs.declared.name.Txn.{Txn}
 use Rattle.protocol.specs.Letters.{name_of}
@@ -21,6 +20,7 @@ use Rattle.desk.specs.declared.transaction.Writing.{Writing}
 use Rattle.desk.specs.Database.{Database}
 use Rattle.desk.specs.Opening.{visited, visits}
 use Rattle.desk.specs.Planned.{IsOfPlan, IsPlanned, asked}
+use Rattle.desk.specs.ReducedPlan.{ReducedPlan}
 use Rattle.desk.specs.Send.{AsksAtHome, UnsentAtHome, asks_go, writes_go}
 use Rattle.desk.specs.Participants.{changed_at, sites_of, participant_in, with_ticket}
 use Rattle.desk.specs.State.{IsIn}
