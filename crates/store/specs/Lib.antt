@@ -2,6 +2,7 @@
 pub mod Name
 pub mod Slot
 pub mod Content
+pub mod Change
 pub mod Reply
 pub mod LetterText
 pub mod Fault

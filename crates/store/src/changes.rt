@@ -2,14 +2,17 @@
 
 ghost use Rattle.std.specs.Prelude.{◌≡◌, ◌==◌, IfOk, IfSome, OnOk, OnErr, IsTrue, ◌↔◌, Some, None, unwrap_or};
 ghost use Rattle.std.specs.FinMap as map;
+ghost use Rattle.std.specs.Prelude.{map as list_map};
 ghost use Rattle.std.specs.Option.{option_copied};
 ghost use Rattle.terms.specs.Row.{key_of};
 ghost use Rattle.store.specs.declared.slot.Slot.{Slot as Place};
 ghost use Rattle.store.specs.Slot.{slot_of};
+ghost use Rattle.store.specs.Change.{change_of, changes_of};
 ghost use Rattle.store.specs.Content.{AreKeyed, HasRoomFor, made_by, put_at, touches, are_within};
 
+use crate::change::Change;
 use crate::slot::{Slot, Slots};
-use crate::slots::{copy_slots, fill, list_parts, make_rooms, stay_within, touch};
+use crate::slots::{copy_slots, fill, list_changes, list_parts, make_rooms, stay_within, touch};
 use std::alloc::Global;
 use std::collections::BTreeMap;
 use std::marker::Model;
@@ -130,6 +133,13 @@ impl Changes {
         ensures { result ≡ are_within leaves.now self.now }
     {
         stay_within(&self.slots, leaves)
+    }
+
+    /// The changes of a leaf, in the order of its keys.
+    pub fn of_leaf(&self, leaf: &Leaf) -> Result<Vec<Change<'_>>, Memory>
+        ensures { IfOk result (λ changes. list_map change_of changes.items ≡ changes_of leaf.now self.now) }
+    {
+        list_changes(self.alloc, &self.slots, leaf)
     }
 
     /// The parts that the changes make of nothing in a leaf, in the order of their keys.

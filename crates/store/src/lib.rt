@@ -10,6 +10,7 @@
 //! ```
 #![tactic(auto)]
 
+pub mod change;
 pub mod changes;
 pub mod commit;
 pub mod desk_store;

@@ -1,16 +1,19 @@
 //! The map that holds changes, slot by slot.
 
-ghost use Rattle.std.specs.Prelude.{◌≡◌, ◌<◌, ◌+◌, ◌^◌, ◌++◌, [], IfOk, OnOk, IsSome, false, if◌then◌else◌, unwrap_or, option_to_list};
+ghost use Rattle.std.specs.Prelude.{◌≡◌, ◌++◌, [], ◌∷◌, IfOk, OnOk, IfSome, IsSome, false, if◌then◌else◌, unwrap_or, option_to_list, map};
 ghost use Rattle.store.specs.declared.slot.Slot.{Slot as Place};
 ghost use Rattle.std.specs.BTreeMap.{is_at, keys, IsOrdered};
 ghost use Rattle.std.specs.List.{list_all, list_any};
 ghost use Rattle.store.specs.Slot.{slot_cmp};
-ghost use Rattle.store.specs.Entries.{entry_at, part_at, parts_of, HasRooms};
+ghost use Rattle.store.specs.Change.{by_key, change_of};
+ghost use Rattle.store.specs.Entries.{entry_at, part_at, parts_of, entries_of, HasRooms, Encloses};
 ghost use Rattle.store.specs.Content.{is_of};
 
+use crate::change::Change;
 use crate::slot::{Slot, Slots};
 use std::alloc::Global;
 use std::collections::BTreeMap;
+use std::collections::btree_map::Range;
 use terms::copy::TryCopy;
 use terms::leaf::Leaf;
 use terms::memory::Memory;
@@ -97,47 +100,33 @@ pub(crate) fn copy_part(part: &Option<Part>) -> Result<Option<Part>, Memory>
     }
 }
 
-/// The parts of a leaf, in order.
-pub(crate) fn list_parts(alloc: Global, slots: &Slots, leaf: &Leaf) -> Result<Vec<Part>, Memory>
-    ensures parts { IfOk result (λ parts. parts.items ≡ parts_of leaf.now slots.now.entries) }
-    ensures ordered { IsOrdered slot_cmp slots.now }
-{
-    if leaf.number == 0 || leaf.number == usize::MAX {
-        return list_all(alloc, slots, leaf);
-    }
-    list_near(alloc, slots, leaf)
-}
-
-/// The parts of a leaf, among all slots.
-fn list_all(alloc: Global, slots: &Slots, leaf: &Leaf) -> Result<Vec<Part>, Memory>
-    ensures parts { IfOk result (λ parts. parts.items ≡ parts_of leaf.now slots.now.entries) }
-    ensures ordered { IsOrdered slot_cmp slots.now }
-{
-    let mut parts = Vec::new(alloc);
-    let _count = slots.len();
-    for (slot, part) in slots {
-        push_part(&mut parts, leaf, slot, part)?;
-    }
-    Ok(parts)
-}
-
-/// The parts of a leaf, among the slots from the end of the leaf before it to the beginning of the leaf
-/// after it: so a scan goes over no other leaf.
-fn list_near(alloc: Global, slots: &Slots, leaf: &Leaf) -> Result<Vec<Part>, Memory>
-    requires low { 0 < leaf.now.number }
-    requires high { leaf.now.number + 1 < 2 ^ 64 }
-
-    ensures parts { IfOk result (λ parts. parts.items ≡ parts_of leaf.now slots.now.entries) }
+/// Of the slots all that are of a leaf, and hardly another: those from the end of the leaf before it to the
+/// beginning of the leaf after it.
+fn near<'a>(slots: &'a Slots, leaf: &Leaf) -> Range<'a, Slot, Option<Part>>
+    ensures near { entries_of leaf.now result ≡ entries_of leaf.now slots.now.entries }
     ensures ordered { IsOrdered slot_cmp slots.now }
 {
     let _count = slots.len();
-    let from = slot_near(leaf, leaf.number - 1, i64::MAX)?;
-    let to = slot_near(leaf, leaf.number + 1, i64::MIN)?;
-    let mut parts = Vec::new(alloc);
-    for (slot, part) in slots.range(from..to) {
-        push_part(&mut parts, leaf, slot, part)?;
+    match ends(leaf) {
+        Some((from, to)) => slots.range(from..to),
+        None => slots.range(..),
     }
-    Ok(parts)
+}
+
+/// A slot before all of a leaf's, and one behind them. Without memory there is none, nor for a number that no
+/// leaf of a catalogue has.
+fn ends(leaf: &Leaf) -> Option<(Slot, Slot)>
+    ensures { IfSome result (λ ends. Encloses ends.0.leaf leaf.now ends.1.leaf) }
+{
+    let before = leaf.number.checked_sub(1)?;
+    let after = leaf.number.checked_add(1)?;
+    let Ok(from) = slot_near(leaf, before, i64::MAX) else {
+        return None;
+    };
+    let Ok(to) = slot_near(leaf, after, i64::MIN) else {
+        return None;
+    };
+    Some((from, to))
 }
 
 /// A slot of another leaf of the same relation.
@@ -149,6 +138,18 @@ fn slot_near(leaf: &Leaf, number: usize, key: i64) -> Result<Slot, Memory>
         leaf: Leaf { relation, number },
         key,
     })
+}
+
+/// The parts of a leaf, in order.
+pub(crate) fn list_parts(alloc: Global, slots: &Slots, leaf: &Leaf) -> Result<Vec<Part>, Memory>
+    ensures parts { IfOk result (λ parts. parts.items ≡ parts_of leaf.now slots.now.entries) }
+    ensures ordered { IsOrdered slot_cmp slots.now }
+{
+    let mut parts = Vec::new(alloc);
+    for (slot, part) in near(slots, leaf) {
+        push_part(&mut parts, leaf, slot, part)?;
+    }
+    Ok(parts)
 }
 
 /// The part, if there is one and its slot is of the leaf.
@@ -168,13 +169,51 @@ fn push_part(
     Ok(())
 }
 
+/// The changes of a leaf, in order.
+pub(crate) fn list_changes<'a>(
+    alloc: Global,
+    slots: &'a Slots,
+    leaf: &Leaf,
+) -> Result<Vec<Change<'a>>, Memory>
+    ensures changes { IfOk result (λ changes. map change_of changes.items ≡ by_key leaf.now slots.now.entries) }
+    ensures ordered { IsOrdered slot_cmp slots.now }
+{
+    let mut changes = Vec::new(alloc);
+    for (slot, part) in near(slots, leaf) {
+        push_change(&mut changes, leaf, slot, part)?;
+    }
+    Ok(changes)
+}
+
+/// The change, if its slot is of the leaf.
+fn push_change<'a>(
+    changes: &mut Vec<Change<'a>>,
+    leaf: &Leaf,
+    slot: &'a Slot,
+    part: &'a Option<Part>,
+) -> Result<(), Memory>
+    ensures { OnOk result (map change_of changes.new.items ≡ map change_of changes.old.items ++ (if is_of leaf.now slot.now then (slot.now.key, part.now) ∷ [] else [])) }
+{
+    if leaf.cmp(&slot.leaf).is_eq() {
+        changes.push(Change {
+            key: slot.key,
+            part: part.as_ref(),
+        })?;
+    }
+    Ok(())
+}
+
 /// Whether a slot is of the leaf.
 pub(crate) fn touch(slots: &Slots, leaf: &Leaf) -> bool
     ensures answer { result ≡ list_any (is_of leaf.now) (keys slots.now) }
     ensures ordered { IsOrdered slot_cmp slots.now }
 {
-    let _count = slots.len();
-    slots.keys().any(|slot| leaf.cmp(&slot.leaf).is_eq())
+    for (slot, _part) in near(slots, leaf) {
+        if leaf.cmp(&slot.leaf).is_eq() {
+            return true;
+        }
+    }
+    false
 }
 
 /// Whether a slot is of one of these leaves.

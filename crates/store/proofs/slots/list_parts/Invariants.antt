@@ -1,8 +1,8 @@
--- What each round of `slots::list_near` keeps.
+-- What each round of `slots::list_parts` keeps.
 use Rattle.std.proofs.Common.{◌≡◌, ◌++◌}
 use Rattle.store.specs.Entries.{parts_of}
-use Rattle.store.proofs.slots.list_near.Given as goal
+use Rattle.store.proofs.slots.list_parts.Given as goal
 
--- what is listed, and what is left to list, are all of the range
+-- what is listed, and what is left to list, are all that are near
 abbrev pub invariant-loop-slot : goal.invariant-loop-slot
 invariant-loop-slot l = l.parts.items ++ parts_of l.leaf l.slot-iterator ≡ parts_of l.leaf l.initial.slot-iterator

@@ -1,8 +1,0 @@
--- What each round of `slots::list_all` keeps.
-use Rattle.std.proofs.Common.{◌≡◌, ◌++◌}
-use Rattle.store.specs.Entries.{parts_of}
-use Rattle.store.proofs.slots.list_all.Given as goal
-
--- what is listed, and what is left to list, are all
-abbrev pub invariant-loop-slot : goal.invariant-loop-slot
-invariant-loop-slot l = l.parts.items ++ parts_of l.leaf l.slot-iterator ≡ parts_of l.leaf l.slots.entries
