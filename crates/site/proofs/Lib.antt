@@ -13,6 +13,7 @@ pub mod Verdicts
 pub mod Finals
 pub mod Had
 pub mod Fetched
+pub mod Merging
 pub mod Overlaid
 pub mod LeavesKept
 pub mod LockPlaces

@@ -1,5 +1,5 @@
 -- What letting go of locks at a ticket's places does to all locks, and why every lock of a ticket stays at one of its places.
-use Rattle.std.proofs.Common.{◌≡◌, refl, sym, ap, ◌∙◌, subst, ℕ, zero, suc, ◌+◌, add-one, Bool, true, false, ◌||◌, List, [], ◌∷◌, ◌++◌, map, length, Option, Some, None, cond, if◌then◌else◌, slice_get, slice_set, inl, inr, ⊎_elim, ◌⊎◌, ◌<◌, ◌≤◌, take, drop, is_some, not, filter, get_or, Result, Ok, Err, OnOk, OnErr, arith}
+use Rattle.std.proofs.Common.{◌≡◌, refl, sym, ap, ◌∙◌, subst, ℕ, zero, suc, ◌+◌, Bool, true, false, ◌||◌, List, [], ◌∷◌, ◌++◌, map, length, Option, Some, None, cond, if◌then◌else◌, slice_get, slice_set, inl, inr, ⊎_elim, ◌⊎◌, ◌<◌, ◌≤◌, take, drop, is_some, not, filter, get_or, Result, Ok, Err, OnOk, OnErr, arith}
 use Rattle.std.specs.BTreeMap.{is_at}
 use Rattle.std.specs.Bool.{⊤}
 use Rattle.std.specs.Global.{Vec}
@@ -14,7 +14,7 @@ use Rattle.store.specs.SiteContent.{is_ticket}
 use Rattle.protocol.specs.Parts.{In}
 use Rattle.protocol.proofs.Basics.{clash, either_if, if_false, some_is, or_left, or_right, or_cases, by_test}
 use Rattle.site.specs.declared.locks.Locks.{Locks}
-use Rattle.site.specs.Locks.{free, reads, writes, is_writer, leaves_in, place_in, with_reader, with_writer, stops, stops_reading, stops_writing}
+use Rattle.site.specs.Locks.{free, reads, writes, leaves_in, with_reader, with_writer, stops, stops_reading, stops_writing}
 use Rattle.site.specs.LockTable.{IsHeld, IsIndexed, KeepsPlaces, change_at, change_each, has_lock, items_in, or_place, places_of}
 use Rattle.site.proofs.LeavesKept.{leaves_set, leaves_stop, leaves_stop_reading}
 use Rattle.site.proofs.LockLaws.{any_insert, reads-stops_reading}

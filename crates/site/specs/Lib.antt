@@ -4,7 +4,7 @@ pub mod Locks
 pub mod LockTable
 pub mod Tickets
 pub mod Verdict
-pub mod ReadLeaf
+pub mod Overlay
 pub mod PointRead
 pub mod State
 pub mod Moves

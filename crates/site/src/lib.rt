@@ -19,6 +19,7 @@ pub mod laws;
 mod lock_table;
 mod locks;
 mod operations;
+mod overlay;
 mod phases;
 mod read_leaf;
 mod recovery;

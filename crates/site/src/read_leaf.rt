@@ -1,18 +1,18 @@
 //! The rows that a fetch answers: of a whole leaf, or of the one key that it asks for.
 
-ghost use Rattle.std.specs.Prelude.{◌≡◌, [], IfOk, IfSome, option_to_list, unwrap_or};
+ghost use Rattle.std.specs.Prelude.{◌≡◌, IfOk, IfSome, option_to_list, unwrap_or};
 ghost use Rattle.std.specs.FinMap as map;
 ghost use Rattle.std.specs.List.{filter};
 ghost use Rattle.terms.specs.Cond.{conds_hold};
-ghost use Rattle.store.specs.Content.{Content, IsKeyed, changed, parts, AreKeyed};
+ghost use Rattle.store.specs.Content.{changed, parts, AreKeyed};
 ghost use Rattle.store.specs.Slot.{slot_of};
-ghost use Rattle.site.specs.ReadLeaf.{stored};
 ghost use Rattle.site.specs.Frame.{Reads};
 ghost use Rattle.site.specs.State.{volatile_of, changes_at};
 ghost use Rattle.store.specs.Laws.{AskKey};
 ghost use Rattle.site.specs.PointRead.{key_equality_of, key_equality};
 
 use crate::fault::{SiteFault, site_fault};
+use crate::overlay::overlaid;
 use crate::volatile::Volatile;
 use std::alloc::Global;
 use store::changes::Changes;
@@ -50,47 +50,6 @@ pub(crate) fn rows<S: SiteStore>(
         Some(changes) => Ok(overlaid(volatile.alloc, kept, changes, leaf, conds)?),
         None => Ok(kept),
     }
-}
-
-/// The parts of a leaf that meet conditions, after changes, where these are the parts that met them before.
-/// Each part stands under its own key.
-fn overlaid(
-    alloc: Global,
-    kept: Vec<Part>,
-    changes: &Changes,
-    leaf: &Leaf,
-    conds: &Conds,
-) -> Result<Vec<Part>, Memory>
-    ensures { (content : Content) → IsKeyed content → kept.items ≡ parts conds.now content → IfOk result (λ rows. rows.items ≡ parts conds.now (changed leaf.now changes.now content)) }
-{
-    if !changes.touches(leaf) {
-        return Ok(kept);
-    }
-    let mut all = stored(alloc, kept.as_slice(), leaf)?;
-    all.make_rooms(changes)?;
-    all.make(changes.copy()?);
-    let parts = all.list(leaf)?;
-    Ok(meeting(parts, conds))
-}
-
-/// The parts as changes that put them into the leaf.
-fn stored(alloc: Global, parts: &[Part], leaf: &Leaf) -> Result<Changes, Memory>
-    ensures { IfOk result (λ all. all ≡ stored leaf.now parts.now map.empty) }
-{
-    let mut all = Changes::new(alloc);
-    for part in parts {
-        all.put(leaf.copy()?, part.copy()?)?;
-    }
-    Ok(all)
-}
-
-/// The parts that meet conditions.
-fn meeting(parts: Vec<Part>, conds: &Conds) -> Vec<Part>
-    ensures { result.items ≡ filter (conds_hold conds.now) parts.items }
-{
-    let mut parts = parts;
-    parts.retain(|part| part.meets(conds.as_slice()));
-    parts
 }
 
 /// The key that a condition asks for: that the first value equals an integer.

@@ -1,5 +1,5 @@
 -- Why `hold_place` meets its contract.
-use Rattle.std.proofs.Common.{rules, ◌≡◌, IsSome, Some, [], ◌∷◌, ◌++◌, sym, ap, ◌∙◌, subst, inl, refl, cond}
+use Rattle.std.proofs.Common.{rules, ◌≡◌, IsSome, Some, [], ◌∷◌, sym, ap, ◌∙◌, subst, inl, refl, cond}
 use Rattle.std.specs.BTreeMap.{is_at}
 use Rattle.std.specs.Map.{lookup}
 use Rattle.store.specs.Name.{ticket_cmp}

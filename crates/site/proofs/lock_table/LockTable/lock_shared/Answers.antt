@@ -1,5 +1,5 @@
 -- Why `LockTable::lock_shared` meets its contract.
-use Rattle.std.proofs.Common.{◌≡◌, ◌<◌, length, get_or, sym, ap, ◌∙◌, subst, slice_set}
+use Rattle.std.proofs.Common.{◌<◌, length, get_or, sym, ap, ◌∙◌, subst, slice_set}
 use Rattle.std.proofs.lemmas.Result.{on_ok_weaker}
 use Rattle.protocol.specs.Parts.{In}
 use Rattle.site.specs.Locks.{leaves_in, with_reader}
