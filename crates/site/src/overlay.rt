@@ -47,7 +47,7 @@ fn merged(
 ) -> Result<Vec<Part>, Memory>
     ensures { IsStrictlySortedBy int_cmp (map key_of kept.items) → IfOk result (λ found. found.items ≡ overlaid conds.now kept.items (map change_of changes.entry.items)) }
 {
-    let mut found = Vec::new(alloc);
+    let mut found = Vec::with_capacity(alloc, kept.len())?;
     let mut kept = VecDeque::from_vec(kept);
     let mut changes = VecDeque::from_vec(changes);
     while let (Some(part), Some(change)) = (kept.front(), changes.front()) {

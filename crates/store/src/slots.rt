@@ -100,6 +100,13 @@ pub(crate) fn copy_part(part: &Option<Part>) -> Result<Option<Part>, Memory>
     }
 }
 
+/// Whether a slot is of a leaf.
+fn is_of(slot: &Slot, leaf: &Leaf) -> bool
+    ensures { result ≡ is_of leaf.now slot.now }
+{
+    leaf.cmp(&slot.leaf).is_eq()
+}
+
 /// Of the slots all that are of a leaf, and hardly another: those from the end of the leaf before it to the
 /// beginning of the leaf after it.
 fn near<'a>(slots: &'a Slots, leaf: &Leaf) -> Range<'a, Slot, Option<Part>>
@@ -161,8 +168,8 @@ fn push_part(
 ) -> Result<(), Memory>
     ensures { OnOk result (parts.new.items ≡ parts.old.items ++ (if is_of leaf.now slot.now then option_to_list part.now else [])) }
 {
-    if leaf.cmp(&slot.leaf).is_eq()
-        && let Some(part) = part
+    if let Some(part) = part
+        && is_of(slot, leaf)
     {
         parts.push(part.copy()?)?;
     }
@@ -194,12 +201,13 @@ fn push_change<'a>(
 ) -> Result<(), Memory>
     ensures { OnOk result (map change_of changes.new.items ≡ map change_of changes.old.items ++ (if is_of leaf.now slot.now then (slot.now.key, part.now) ∷ [] else [])) }
 {
-    if leaf.cmp(&slot.leaf).is_eq() {
-        changes.push(Change {
-            key: slot.key,
-            part: part.as_ref(),
-        })?;
+    if !is_of(slot, leaf) {
+        return Ok(());
     }
+    changes.push(Change {
+        key: slot.key,
+        part: part.as_ref(),
+    })?;
     Ok(())
 }
 
@@ -209,7 +217,7 @@ pub(crate) fn touch(slots: &Slots, leaf: &Leaf) -> bool
     ensures ordered { IsOrdered slot_cmp slots.now }
 {
     for (slot, _part) in near(slots, leaf) {
-        if leaf.cmp(&slot.leaf).is_eq() {
+        if is_of(slot, leaf) {
             return true;
         }
     }
@@ -220,7 +228,7 @@ pub(crate) fn touch(slots: &Slots, leaf: &Leaf) -> bool
 fn is_of_one(slot: &Slot, leaves: &[Leaf]) -> bool
     ensures { result ≡ list_any (λ leaf. is_of leaf slot.now) leaves.now }
 {
-    leaves.iter().any(|leaf| leaf.cmp(&slot.leaf).is_eq())
+    leaves.iter().any(|leaf| is_of(slot, leaf))
 }
 
 /// Whether each slot is of one of these leaves.

@@ -9,8 +9,8 @@ use Rattle.store.specs.Entries.{Entries}
 use Rattle.store.proofs.Near.{same_touched, touched_first}
 use Rattle.store.proofs.slots.touch.Goals as goal
 
-pub returns-then-is_eq-clause-answer : goal.returns-then-is_eq-clause-answer
-returns-then-is_eq-clause-answer c =
+pub returns-then-is_of-clause-answer : goal.returns-then-is_of-clause-answer
+returns-then-is_of-clause-answer c =
     let leaf = c.args.leaf.now in
     let step = rest_more deref_pair c.loop-slot.slot-iterator c.next.new.self c.next.result (c.in-Some.slot, c.in-Some._part) c.in-Some.is c.next.ensures.steps in
     let hit : is_of leaf c.in-Some.slot.now ≡ true = search rules in
