@@ -103,9 +103,6 @@ same_touched leaf one other same = touched_of_leaf leaf one ∙ ap (λ (es : Ent
 pub touched_first : (leaf : Leaf) (entry : Slot × Option (List Value)) (entries : Entries) → is_of leaf entry.0 ≡ true → list_any (is_of leaf) (keys_of (entry ∷ entries)) ≡ true
 touched_first leaf entry entries is = ap (λ b. b || list_any (is_of leaf) (keys_of entries)) is
 
-pub touched_later : (leaf : Leaf) (entry : Slot × Option (List Value)) (entries : Entries) → is_of leaf entry.0 ≡ false → list_any (is_of leaf) (keys_of (entry ∷ entries)) ≡ list_any (is_of leaf) (keys_of entries)
-touched_later leaf entry entries is = ap (λ b. b || list_any (is_of leaf) (keys_of entries)) is
-
 -- what is listed, and what is left to list
 pub listed_more : (leaf : Leaf) (all : List (List Value)) (rest new : Entries) (slot : Slot) (part : Option (List Value)) (parts after : List (List Value)) → parts ++ parts_of leaf rest ≡ all → rest ≡ (slot, part) ∷ new → after ≡ parts ++ (if is_of leaf slot then option_to_list part else []) → after ++ parts_of leaf new ≡ all
 listed_more leaf all rest new slot part parts after so_far step pushed =
@@ -127,11 +124,3 @@ changes_more leaf all rest new slot part changes after so_far step pushed =
     joined : (b : Bool) → (changes ++ cond b ((slot.key, part) ∷ []) []) ++ by_key leaf new ≡ changes ++ map (λ (entry : Slot × Option (List Value)). (entry.0.key, entry.1)) (cond b ((slot, part) ∷ entries_of leaf new) (entries_of leaf new))
     joined true = append_assoc changes ((slot.key, part) ∷ []) (by_key leaf new)
     joined false = ap (λ cs. cs ++ by_key leaf new) (append-nil changes)
-
--- one change more behind others
-pub mapped_more : {A B : Type 0} (f : A → B) (before after : List A) (last : A) → after ≡ before ++ last ∷ [] → map f after ≡ map f before ++ f last ∷ []
-mapped_more f before after last is = ap (map f) is ∙ go before
-  where
-    go : (items : List _) → map f (items ++ last ∷ []) ≡ map f items ++ f last ∷ []
-    go [] = refl
-    go (item ∷ items) = ap (λ rest. f item ∷ rest) (go items)
