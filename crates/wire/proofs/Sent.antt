@@ -1,4 +1,5 @@
 -- What threads may share or hand over, where the stores and the gate may.
+use denote.Ref.{NamedLft}
 use denote.RattleType.{RattleType}
 use mathlib.Core.List.{List, [], ◌∷◌}
 use Prim.Native.Nat.{ℕ}
@@ -32,7 +33,14 @@ use Rattle.store.specs.contracts.prepared.SiteKept as site_kept_row
 use Rattle.store.specs.declared.site_store.SiteStore
 use Rattle.history.specs.contracts.site_cell.SiteCell as site_cell
 use Rattle.history.specs.contracts.site_cell.SiteCell.TheInside as site_inside
+use Rattle.history.proofs.told.Told.TheSendSync as told
+use Rattle.crossbeam_channel.proofs.channel.Receiver.TheSendSync as receiver
+use Rattle.crossbeam_channel.proofs.channel.Sender.TheSendSync as sender
 use Rattle.wire.proofs.front.Way.TheSendSync as way
+use Rattle.wire.proofs.seat.Given.TheSendSync as given
+use Rattle.wire.specs.contracts.session.Session as session
+use Rattle.wire.specs.contracts.session.Session.TheInside as session_inside
+use Rattle.wire.specs.contracts.talk.Talk as talk
 use Rattle.wire.proofs.seat.Seats.TheSendSync as seats
 use Rattle.wire.specs.contracts.front.Front as front
 use Rattle.wire.specs.contracts.shared.Shared as shared
@@ -78,6 +86,23 @@ pub shared_sync : (D G : RattleType) (store : DeskStore.Ghosts D.Denot) → IsSe
 shared_sync D G store d g =
     let lock = front_send D store d in
     declared_sync (shared.the_type D G store) (search (Crossing.sync, sendable) depth 20, (search (schema.the_field_sync, sendable), (search (mutex.the_sync, lock, sendable) depth 20, (search (mutex.the_sync, seats.the_send, sendable) depth 20, (search (Crossing.crosses, sendable) depth 20, (search (Crossing.crosses, sendable) depth 20, (search (g, sendable), tt)))))))
+
+-- a session
+pub session_send : (a : NamedLft) (D G : RattleType) (store : DeskStore.Ghosts D.Denot) → IsSend D → IsSend G → IsSync G → IsSend (session.the_row a D G store)
+session_send a D G store d g asked =
+    let common = shared_sync D G store d asked in
+    let own : IsSend (talk.the_row a D G store) = declared_send (talk.the_type a D G store) (
+      search (common, sendable) depth 20,
+      (
+        search (Crossing.crosses, sender.the_send, given.the_send, sendable) depth 60 fits 20000,
+        (search (Crossing.crosses, receiver.the_send, given.the_send, sendable) depth 60 fits 20000, (search sendable depth 20, tt)),
+      ),
+    ) in
+    let fields : IsSend (session_inside.the_row a D G store) = declared_send (session_inside.the_type a D G store) (
+      search (own, sendable) depth 20,
+      (search (Crossing.crosses, told.the_send, sendable) depth 60 fits 20000, tt),
+    ) in
+    view_send _ _ _ _ _ fields
 
 -- a site
 site_send : (S : RattleType) → IsSend S → IsSend (site.the_field S).row

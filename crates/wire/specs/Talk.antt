@@ -1,5 +1,5 @@
 -- What a session hears of its transaction.
-use Rattle.std.specs.Prelude.{Bool, true, false, Result, Ok, Err}
+use Rattle.std.specs.Prelude.{◌≡◌, Bool, true, false, IfOk, Result, Ok, Err}
 use Rattle.desk.specs.declared.reply.Reply as replies
 use Rattle.desk.specs.declared.reply.Reply.TheVariants as reply
 use Rattle.wire.specs.declared.fault.CallFault.{CallFault}
@@ -13,6 +13,10 @@ is_answered (reply.Answer answer) = true
 is_answered reply.Committed = true
 is_answered reply.RolledBack = true
 is_answered (reply.Aborted why) = false
+
+-- what was heard, if anything was, is such a reply
+abbrev pub IsAnswered : Result Heard CallFault → Type 0
+IsAnswered result = IfOk result (λ heard. is_answered heard.reply ≡ true)
 
 -- whether such a reply tells that the transaction has ended
 abbrev pub is_last : replies.Reply → Bool

@@ -5,6 +5,15 @@
 //! whoever calls it puts its letters into the channels before the lock is free, and hands its replies to the sessions
 //! after that (`shared`, `seat`). Public are the `database`, its `session`s, the `records` of one that was closed, the
 //! `fault` of a session's call, and the `gate` that letters pass.
+//!
+//! ```text
+//! let database = Database::open(rt, alloc, catalog, sites, desk, Ungated)?;
+//! let mut session = database.session(rt)?;
+//! let answer = session.execute(rt, "SELECT label FROM item WHERE id = 1");
+//! let told = session.end();
+//! let records = database.close(rt)?;
+//! let woven = weave(alloc, &records.records, &[told.as_slice()]);
+//! ```
 #![tactic(auto)]
 
 mod cells;

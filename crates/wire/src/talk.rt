@@ -8,7 +8,7 @@ ghost use Rattle.desk.specs.declared.reply.Reply.TheVariants as replies;
 ghost use Rattle.desk.specs.declared.reply.Why.{Why as WhyNow};
 ghost use Rattle.wire.specs.declared.fault.CallFault.TheVariants as faults;
 ghost use Rattle.wire.specs.Fault.{IsUnread, is_abort};
-ghost use Rattle.wire.specs.Talk.{is_answered, open_after, tells_end};
+ghost use Rattle.wire.specs.Talk.{IsAnswered, open_after, tells_end};
 
 use crate::fault::CallFault;
 use crate::front::{Done, Errand};
@@ -134,7 +134,7 @@ impl<'a, D: DeskStore, G> Talk<'a, D, G> {
         command: &Command,
         text: &str,
     ) -> Result<Heard, CallFault>
-        ensures answered { IfOk result (λ heard. is_answered heard.reply ≡ true) }
+        ensures answered { IsAnswered result }
         ensures inside { command.now ≡ commands.Begin → OnOk result ⊥ }
     {
         if let Some(why) = self.aborted(rt, txn) {
@@ -151,7 +151,7 @@ impl<'a, D: DeskStore, G> Talk<'a, D, G> {
     /// Runs a statement as a transaction of its own. Its answer is heard only where that was committed; unless it has aborted, it
     /// is given up otherwise.
     fn run<R: Wait>(&self, rt: &R, text: &str) -> Result<Heard, CallFault>
-        ensures { IfOk result (λ heard. is_answered heard.reply ≡ true) }
+        ensures { IsAnswered result }
     {
         let Begun { txn, .. } = self.begin(rt)?;
         let heard = self.run_begun(rt, txn, text);
@@ -165,7 +165,7 @@ impl<'a, D: DeskStore, G> Talk<'a, D, G> {
 
     /// States the text of a transaction that has begun, and asks for its commit.
     fn run_begun<R: Wait>(&self, rt: &R, txn: Txn, text: &str) -> Result<Heard, CallFault>
-        ensures { IfOk result (λ heard. is_answered heard.reply ≡ true) }
+        ensures { IsAnswered result }
     {
         let heard = self.ask(rt, txn, Errand::State(txn, text))?;
         let _committed = self.ask(rt, txn, Errand::Commit(txn))?;
@@ -191,7 +191,7 @@ impl<'a, D: DeskStore, G> Talk<'a, D, G> {
     /// Calls the coordinator for a transaction, and waits for the reply. A transaction that isn't undecided any more has
     /// aborted: the reply that tells so is on its way.
     fn ask<R: Wait>(&self, rt: &R, txn: Txn, errand: Errand<'_>) -> Result<Heard, CallFault>
-        ensures { IfOk result (λ heard. is_answered heard.reply ≡ true) }
+        ensures { IsAnswered result }
     {
         match self.shared.ask(rt, errand) {
             Ok(()) | Err(CallFault::NoTransaction) => self.hear(rt, txn),
@@ -201,7 +201,7 @@ impl<'a, D: DeskStore, G> Talk<'a, D, G> {
 
     /// Waits for the next reply to a transaction.
     fn hear<R: Wait>(&self, rt: &R, txn: Txn) -> Result<Heard, CallFault>
-        ensures { IfOk result (λ heard. is_answered heard.reply ≡ true) }
+        ensures { IsAnswered result }
     {
         for _ in rt.forever() {
             let Ok(given) = self.given.recv(rt) else {
@@ -262,7 +262,7 @@ fn begun_in(given: &[Given]) -> Result<Begun, CallFault>
 
 /// What a session hears of a reply. An abort is a fault.
 fn as_heard(given: Given) -> Result<Heard, CallFault>
-    ensures answered { IfOk result (λ heard. is_answered heard.reply ≡ true) }
+    ensures answered { IsAnswered result }
     ensures same { IfOk result (λ heard. (heard.number ≡ given.number) × (given.reply ≡ Some heard.reply)) }
     ensures aborted { (why : WhyNow) → (result ≡ Err (faults.Aborted why)) ↔ (given.reply ≡ Some (replies.Aborted why)) }
 {
