@@ -7,6 +7,7 @@ pub mod CatalogFileLemmas
 pub mod CheckLemmas
 pub mod PlanLemmas
 pub mod PlayScriptLemmas
+pub mod RunScriptLemmas
 pub mod PlayItemsLemmas
 pub mod PlayTextLemmas
 pub mod PlayLoadLemmas
@@ -19,3 +20,7 @@ pub mod PlayLemmas
 pub mod PerformLemmas
 pub mod SessionLemmas
 pub mod SqlStoresLemmas
+pub mod ConversationLemmas
+pub mod RunLemmas
+pub mod RunRecordsLemmas
+pub mod RunTextLemmas

@@ -4,7 +4,7 @@ use Rattle.std.specs.List.{enumerate_from, list_any}
 use Rattle.std.specs.Str.{IsUtf8, is_utf8}
 use Rattle.std.specs.Str.Pattern.{FindsTextPrefix, StripsPrefix}
 use Rattle.std.proofs.lemmas.Grind.{common_steps}
-use Rattle.std.proofs.lemmas.List.{map-append, length-map}
+use Rattle.std.proofs.lemmas.List.{map-append, length-map, take-map}
 use Rattle.std.proofs.lemmas.List.FromFn.{length-enumerate_from}
 use Rattle.std.proofs.lemmas.Str.{IsUtf8-from_is_utf8, is_utf8-from_IsUtf8}
 use Rattle.std.proofs.lemmas.Str.Pattern.{starts_text}
@@ -114,6 +114,10 @@ texts-enumerate_from n (line ∷ lines) = ap (λ rest. line ∷ rest) (texts-enu
 -- at the end
 pub texts-all : (lines : List (List ℕ)) (yielded : List (ℕ × Bor (List ℕ))) → numbered yielded ≡ enumerate_from 0 lines → texts yielded ≡ lines
 texts-all lines yielded h = sym (texts-numbered yielded) ∙ ap (map (λ p. p.1)) h ∙ texts-enumerate_from 0 lines
+
+-- before the end
+pub texts-so_far : (lines : List (List ℕ)) (yielded : List (ℕ × Bor (List ℕ))) (n : ℕ) → numbered yielded ≡ take n (enumerate_from 0 lines) → texts yielded ≡ take n lines
+texts-so_far lines yielded n h = sym (texts-numbered yielded) ∙ ap (map (λ p. p.1)) h ∙ sym (take-map (λ p. p.1) n (enumerate_from 0 lines)) ∙ ap (take n) (texts-enumerate_from 0 lines)
 
 -- at a line that can't be read
 pub first_unreadable-at : (lines : List (List ℕ)) (yielded : List (ℕ × Bor (List ℕ))) (index : ℕ) (line : List ℕ) → numbered yielded ≡ take (length yielded) (enumerate_from 0 lines) → length yielded < length (enumerate_from 0 lines) → (index, line) ≡ get_or (enumerate_from 0 lines) (length yielded) (index, line) → first_unreadable (texts yielded) ≡ None → is_unreadable (reading_of line) ≡ true → first_unreadable lines ≡ Some (index + 1)

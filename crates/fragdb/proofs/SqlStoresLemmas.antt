@@ -2,6 +2,7 @@
 use Rattle.std.proofs.Common.{◌≡◌, ◌<◌, ◌+◌, ◌^◌, ◌||◌, ℕ, suc, List, [], ◌∷◌, ◌++◌, length, map, true, false, Bool, inl, inr, ap, sym, refl, subst, ◌∙◌, arith}
 use Rattle.std.specs.List.{AllByRecursion}
 use Rattle.sqlite.specs.Steps.{over_memory}
+use Rattle.sqlite.specs.Store.{Ghosts}
 use Rattle.sqlite_trees.specs.declared.memory.MemStore.{MemStore}
 use Rattle.std.specs.Ordering.{is_eq}
 use Rattle.terms.specs.declared.leaf.Leaf.{Leaf}
@@ -20,7 +21,8 @@ use Rattle.sqlstore.specs.Fresh as new_site
 use Rattle.sqlstore.specs.Site.{IsSound, kept_by}
 use Rattle.world.specs.Recovery.{HaveLeaves}
 use Rattle.world.specs.Start.{AreNew, KeepNothing, KeepsNothing}
-use Rattle.fragdb.specs.SqlStores.{AreNewSites, IsNewDesk, IsNewSite}
+use Rattle.wire.specs.Opening as opening
+use Rattle.fragdb.specs.SqlStores.{AreNewSites, AreOfLeaves, IsNewDesk, IsNewSite}
 
 or_true : (b : Bool) → (b || true) ≡ true
 or_true true = refl
@@ -70,3 +72,18 @@ are_new catalogue desk sites new news = record {
 pub and_one : (catalogue : Catalogue) (place : ℕ) (sites : List (SqlSite MemStore over_memory)) (site : SqlSite MemStore over_memory) → AreNewSites catalogue place sites → IsNewSite catalogue (place + length sites) site → AreNewSites catalogue place (sites ++ site ∷ [])
 and_one catalogue place [] site news new = (subst (λ (n : ℕ). IsNewSite catalogue n site) (omega arith) new, tt)
 and_one catalogue place (first ∷ sites) site news new = (news.0, and_one catalogue (suc place) sites site news.1 (subst (λ (n : ℕ). IsNewSite catalogue n site) (omega arith) new))
+
+-- one store more that has its site's leaves, behind others
+pub of_leaves_one : {M : Type 0} {g : Ghosts M} (catalogue : Catalogue) (place : ℕ) (sites : List (SqlSite M g)) (site : SqlSite M g) → AreOfLeaves catalogue place sites → site.leaves.items ≡ names_at (place + length sites) (catalogue_leaves catalogue) → AreOfLeaves catalogue place (sites ++ site ∷ [])
+of_leaves_one catalogue place [] site have its = (subst (λ (n : ℕ). site.leaves.items ≡ names_at n (catalogue_leaves catalogue)) (omega arith) its, tt)
+of_leaves_one catalogue place (first ∷ sites) site have its = (have.0, of_leaves_one catalogue (suc place) sites site have.1 (subst (λ (n : ℕ). site.leaves.items ≡ names_at n (catalogue_leaves catalogue)) (omega arith) its))
+
+-- new stores have the leaves of their sites
+pub new_of_leaves : (catalogue : Catalogue) (place : ℕ) (sites : List (SqlSite MemStore over_memory)) → AreNewSites catalogue place sites → AreOfLeaves catalogue place sites
+new_of_leaves catalogue place [] new = tt
+new_of_leaves catalogue place (site ∷ sites) new = (new.0.leaves, new_of_leaves catalogue (suc place) sites new.1)
+
+-- stores that have the leaves of their sites, as those ask that open a database over them
+pub sql_have : {M : Type 0} {g : Ghosts M} (is_clean : SqlSite M g → Type 0) (catalogue : Catalogue) (place : ℕ) (sites : List (SqlSite M g)) → AreOfLeaves catalogue place sites → opening.HaveLeaves is_clean (λ (site : SqlSite M g). kept_by g site.leaves.items site.conn) catalogue place sites
+sql_have is_clean catalogue place [] have = tt
+sql_have is_clean catalogue place (site ∷ sites) have = (λ clean leaf inside. has_in site.leaves.items leaf (subst (In leaf) (sym have.0) inside), sql_have is_clean catalogue (suc place) sites have.1)

@@ -1,5 +1,5 @@
 -- Lemmas on the words of the command line.
-use Rattle.std.proofs.Common.{◌≡◌, Bool, Box, Global, List, [], ◌∷◌, inl, inr, Option, Some, None, codes, refl, sym, ◌∙◌, option_map, ap, ap₂, subst, Result, Ok, Err, IfOk, IfErr, IsErrAnd}
+use Rattle.std.proofs.Common.{◌≡◌, ℕ, Bool, Box, Global, List, [], ◌∷◌, inl, inr, Option, Some, None, codes, refl, sym, ◌∙◌, option_map, ap, ap₂, subst, Result, Ok, Err, IfOk, IfErr, IsErrAnd}
 use Rattle.clap.specs.Words.{Row, Text, first_of, rows_of, subcommand_name_of, subcommand_of, subcommand_rows, subcommand_rows_of}
 use Rattle.clap.specs.Matches.{first_value}
 use Rattle.clap.specs.declared.parser.matches.Found.{Found}
@@ -9,12 +9,14 @@ use Rattle.std.specs.List.{AllByRecursion}
 use Rattle.clap.specs.declared.parser.matches.SubCommand.{SubCommand, out-SubCommand}
 use Rattle.clap.specs.declared.parser.matches.ArgMatches.{ArgMatches, out-ArgMatches}
 use Rattle.fragdb.specs.declared.usage.Request.{Request}
+use Rattle.fragdb.specs.declared.usage.Sessions.{Sessions}
 use Rattle.clap.specs.declared.error.kind.ErrorKind.{ErrorKind}
-use Rattle.clap.specs.declared.error.kind.ErrorKind.TheVariants.{ArgumentConflict, MissingRequiredArgument, OutOfMemory}
+use Rattle.clap.specs.declared.error.kind.ErrorKind.TheVariants.{ArgumentConflict, InvalidValue, MissingRequiredArgument, OutOfMemory}
 use Rattle.clap.specs.declared.error.Error.{Error}
 use Rattle.clap.specs.Words.{kind_of}
 use Rattle.shell.specs.declared.mode.Mode.{Mode}
-use Rattle.fragdb.specs.Usage.{Asks, IsGiven, IsMisuse, mode_of_flags, no_memory, no_script, two_modes, asked, flags_of, is_interactive, is_set, script_of, usage}
+use Rattle.fragdb.specs.Usage.{Asks, AsksSessions, IsGiven, IsMisuse, IsNoNumber, mode_of_flags, no_memory, no_memory_left, no_number, no_script, two_modes, asked, asked_sessions, retry_of, flags_of, is_interactive, is_set, script_of}
+use Rattle.fragdb.specs.Grammar.{usage}
 
 pub subcommand_name_of-rows : (m : ArgMatches) → subcommand_name_of m ≡ option_map (λ p. p.0) (subcommand_rows_of m)
 subcommand_name_of-rows m = go (out-ArgMatches m).subcommand
@@ -85,3 +87,26 @@ two_ways found at_terminal mode kind k m n = subst (IsMisuse found at_terminal) 
 pub memory_ran_out : {T : Type 0} (found : Found) (at_terminal : Bool) (answered : Result T Error) → IsErrAnd answered (λ error. kind_of error ≡ OutOfMemory) → IfErr answered (λ error. IsMisuse found at_terminal (kind_of error))
 memory_ran_out found at_terminal (Ok request) k = tt
 memory_ran_out found at_terminal (Err error) k = subst (IsMisuse found at_terminal) (sym k) no_memory
+
+-- what `run` asks for, where its arguments were found so
+pub sessions_asked : (words : List Text) (entered : Option (Text × List Row)) (found : Found) (script : Text) → entered ≡ subcommand_of usage words → Some (codes "run") ≡ option_map (λ p. p.0) entered → Some (rows_of found) ≡ option_map (λ p. p.1) entered → Some script ≡ first_value found (codes "SCRIPT") → (sessions : Sessions) →
+    asked_sessions sessions ≡ (codes "run", (codes "CATALOG", first_value found (codes "CATALOG")) ∷ (codes "SCRIPT", Some script) ∷ (codes "DIR", first_value found (codes "DIR")) ∷ []) →
+    is_set (first_value found (codes "SQLITE")) ≡ sessions.sqlite → retry_of (first_value found (codes "N")) ≡ Some sessions.retry → AsksSessions words sessions
+sessions_asked words entered found script e n r s sessions a sqlite retry =
+    let rows : List Row = rows_of found in
+    let row_of : (name : Text) → first_of name rows ≡ first_value found name = λ name. sym (first_value-rows found name) in
+    let arguments : AllByRecursion (λ argument. first_of argument.0 rows ≡ argument.1) (asked_sessions sessions).1 =
+    subst (λ request. AllByRecursion (λ argument. first_of argument.0 rows ≡ argument.1) request.1) (sym a) (row_of (codes "CATALOG"), (row_of (codes "SCRIPT") ∙ sym s, (row_of (codes "DIR"), tt))) in
+    record {
+      retry = first_value found (codes "N");
+      given = record { rows = rows; command = command_is words entered (codes "run") rows e n r; arguments = (row_of (codes "N"), arguments); set = (ap is_set (row_of (codes "SQLITE")) ∙ sqlite, tt) };
+      retries = retry;
+    }
+
+-- what is wrong with the words after `run`
+pub no_retries : (found : Found) (word : Option Text) (retry : Option ℕ) (kind : ErrorKind) → kind ≡ InvalidValue → word ≡ first_value found (codes "N") → retry ≡ retry_of word → retry ≡ None → IsNoNumber found kind
+no_retries found word retry kind k w r n = subst (IsNoNumber found) (sym k) (no_number (ap retry_of (sym w) ∙ sym r ∙ n))
+
+pub memory_ran_out_of_run : {T : Type 0} (found : Found) (answered : Result T Error) → IsErrAnd answered (λ error. kind_of error ≡ OutOfMemory) → IfErr answered (λ error. IsNoNumber found (kind_of error))
+memory_ran_out_of_run found (Ok request) k = tt
+memory_ran_out_of_run found (Err error) k = subst (IsNoNumber found) (sym k) no_memory_left

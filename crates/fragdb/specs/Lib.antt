@@ -3,6 +3,7 @@ pub mod Reply
 pub mod Script
 pub mod Cut
 pub mod PlayScript
+pub mod RunScript
 pub mod PlayItems
 pub mod PlayLoad
 pub mod Cast
@@ -29,6 +30,11 @@ pub mod Plan
 pub mod Dot
 pub mod Listing
 pub mod Session
+pub mod RunText
+pub mod Conversation
+pub mod Conversations
+pub mod Run
+pub mod Grammar
 pub mod Usage
 pub mod Explaining
 pub mod Outcome

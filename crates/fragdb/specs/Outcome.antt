@@ -5,7 +5,7 @@ use Rattle.reader.specs.Refusal as reading
 use Rattle.fragdb.specs.declared.fault.ProgramFault.{ProgramFault}
 use Rattle.fragdb.specs.declared.fault.ProgramFault.TheVariants.{CannotRead, ScriptTooLong, Malformed, Memory, Store, CannotWrite}
 use Rattle.fragdb.specs.declared.outcome.Outcome.{Outcome}
-use Rattle.fragdb.specs.declared.outcome.Outcome.TheVariants.{Done, SomeRefused, Refused, RefusedStatement, Stopped}
+use Rattle.fragdb.specs.declared.outcome.Outcome.TheVariants.{Done, Lost, SomeRefused, Refused, RefusedStatement, Stopped}
 use Rattle.fragdb.specs.declared.outcome.Status.{Status}
 use Rattle.fragdb.specs.declared.outcome.Status.TheVariants as status
 use Rattle.fragdb.specs.Fault.{fault_text}
@@ -32,6 +32,7 @@ status_of SomeRefused = status.Refused
 status_of (Refused fault) = status.Refused
 status_of (RefusedStatement fault) = status.Refused
 status_of (Stopped fault) = status_of_fault fault
+status_of Lost = status.Refused
 
 -- a line of the program's own
 abbrev pub fault_line : ProgramFault → List ℕ
@@ -53,3 +54,4 @@ told_text SomeRefused = []
 told_text (Refused fault) = codes "refused " ++ refusal.fault_text fault ++ 10 ∷ []
 told_text (RefusedStatement fault) = codes "refused read " ++ reading.fault_text fault ++ 10 ∷ []
 told_text (Stopped fault) = stop_text fault
+told_text Lost = codes "fragdb: refused 9 Closed" ++ 10 ∷ []

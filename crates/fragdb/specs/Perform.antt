@@ -7,7 +7,7 @@ use Rattle.world.specs.declared.world.World.{World}
 use Rattle.shell.specs.declared.mode.Mode.{Mode}
 use Rattle.shell.specs.declared.mode.Mode.TheVariants.{Columns, Csv, Json, Tabs}
 use Rattle.fragdb.specs.declared.outcome.Outcome.{Outcome}
-use Rattle.fragdb.specs.declared.outcome.Outcome.TheVariants.{Done, SomeRefused, Refused, RefusedStatement, Stopped}
+use Rattle.fragdb.specs.declared.outcome.Outcome.TheVariants.{Done, Lost, SomeRefused, Refused, RefusedStatement, Stopped}
 use Rattle.fragdb.specs.declared.usage.Request.{Request}
 use Rattle.fragdb.specs.declared.usage.Request.TheVariants.{Solo, Check, Plan, Play}
 use Rattle.fragdb.specs.Check.{ChecksFile}
@@ -133,6 +133,7 @@ IsStopped Done = ⊥
 IsStopped SomeRefused = ⊥
 IsStopped (Refused fault) = Unit
 IsStopped (RefusedStatement fault) = ⊥
+IsStopped Lost = ⊥
 IsStopped (Stopped fault) = Unit
 
 -- the outcome of a script whose catalogue can't be opened: that is told, and nothing is written

@@ -1,102 +1,26 @@
 -- What the words of the command line ask for.
-use Rattle.std.specs.Prelude.{◌≡◌, ◌⊎◌, ℕ, Bool, true, false, List, [], ◌∷◌, Option, Some, None, bytes_eq, codes, option_map}
+use Rattle.std.specs.Prelude.{◌≡◌, ◌⊎◌, ℕ, Bool, true, false, List, [], ◌∷◌, Option, Some, None, bytes_eq, codes, if◌then◌else◌, nat_le, option_map}
+use Rattle.std.specs.Option.{option_and_then}
 use Rattle.std.specs.Borrow.{Bor}
 use Rattle.std.specs.List.{AllByRecursion}
-use Rattle.clap.specs.Words.{App, Row, Rule, Text, first_of, new_app, new_rule, subcommand_of, with_rule, with_subcommand}
+use Rattle.clap.specs.Words.{Row, Text, first_of, subcommand_of}
 use Rattle.clap.specs.Matches.{first_value}
-use Rattle.clap.specs.Simple.{app_of, new_shape}
-use Rattle.clap.specs.Walk.{rule_of}
-use Rattle.clap.specs.declared.builder.arg.Arg.{Arg}
-use Rattle.clap.specs.declared.builder.command.Command.{Command}
-use Rattle.clap.specs.declared.builder.command.Command.TheViews.{out-Command}
 use Rattle.clap.specs.declared.parser.matches.Found.{Found}
-use Rattle.clap.specs.declared.builder.action.ArgAction.TheVariants.{SetTrue}
 use Rattle.clap.specs.declared.error.kind.ErrorKind.{ErrorKind}
-use Rattle.clap.specs.declared.error.kind.ErrorKind.TheVariants.{ArgumentConflict, DisplayHelp, DisplayVersion, MissingRequiredArgument, OutOfMemory}
+use Rattle.clap.specs.declared.error.kind.ErrorKind.TheVariants.{ArgumentConflict, DisplayHelp, DisplayVersion, InvalidValue, MissingRequiredArgument, OutOfMemory}
 use Rattle.shell.specs.declared.mode.Mode.{Mode}
 use Rattle.shell.specs.declared.mode.Mode.TheVariants.{Columns, Csv, Json, Tabs}
 use Rattle.fragdb.specs.declared.outcome.Status.{Status}
 use Rattle.fragdb.specs.declared.outcome.Status.TheVariants as status
+use Rattle.fragdb.specs.Grammar.{usage}
+use Rattle.fragdb.specs.PlayScript.{number_of}
+use Rattle.fragdb.specs.declared.usage.Asked.{Asked}
+use Rattle.fragdb.specs.declared.usage.Asked.TheVariants.{Alone, Sessions as OfSessions}
+use Rattle.fragdb.specs.declared.usage.Sessions.{Sessions}
 use Rattle.fragdb.specs.declared.usage.Request.{Request}
 use Rattle.fragdb.specs.declared.usage.Request.TheVariants.{Solo, Check, Plan, Play}
 use Rattle.fragdb.specs.declared.usage.Stores.{Stores}
 use Rattle.fragdb.specs.declared.usage.Stores.TheVariants.{Folder, InMemory, Lists}
-
--- an argument that must be given
-abbrev pub argument : Text → Rule
-argument name = record (new_rule name) { required = true }
-
--- a command with one such argument
-abbrev pub command_with : Text → Text → App
-command_with name argument_name = with_rule (new_app name) (argument argument_name)
-
--- a command with two such arguments
-abbrev pub command_with_two : Text → Text → Text → App
-command_with_two name first second = with_rule (command_with name first) (argument second)
-
--- an argument that may be given behind this word
-abbrev pub option_argument : Text → Text → Rule
-option_argument name word = record (new_rule name) { long = Some word }
-
--- a command `NAME [--catalog FILE] SCRIPT`
-abbrev pub of_script : Text → App
-of_script name = with_rule (with_rule (new_app name) (option_argument (codes "CATALOG") (codes "catalog"))) (argument (codes "SCRIPT"))
-
--- a command `NAME [--catalog FILE] [SCRIPT]`
-abbrev pub of_any_script : Text → App
-of_any_script name = with_rule (with_rule (new_app name) (option_argument (codes "CATALOG") (codes "catalog"))) (new_rule (codes "SCRIPT"))
-
--- a flag, which is known by a word
-abbrev pub flag : Text → Text → Rule
-flag name word = record (option_argument name word) { action = Some SetTrue }
-
--- the command with a flag that asks for explanations
-abbrev pub explained : App → App
-explained app = with_rule app (flag (codes "EXPLAIN") (codes "explain"))
-
--- the command with a flag that asks for a tree
-abbrev pub treed : App → App
-treed app = with_rule app (flag (codes "TREE") (codes "tree"))
-
--- the command with flags that say how answers are shown: in columns, or in another way
-abbrev pub columned : App → App
-columned app = with_rule app (flag (codes "COLUMNS") (codes "columns"))
-
-abbrev pub shown : App → App
-shown app = with_rule (with_rule (columned app) (flag (codes "CSV") (codes "csv"))) (flag (codes "JSON") (codes "json"))
-
--- the command with a flag that asks for a session
-abbrev pub held : App → App
-held app = with_rule app (flag (codes "INTERACTIVE") (codes "interactive"))
-
--- the command with a flag that asks for stores in SQLite, and with a folder for them
-abbrev pub in_sqlite : App → App
-in_sqlite app = with_rule app (flag (codes "SQLITE") (codes "sqlite"))
-
-abbrev pub stored : App → App
-stored app = with_rule (in_sqlite app) (option_argument (codes "DIR") (codes "dir"))
-
--- the command line's grammar: `fragdb solo`, `fragdb check CATALOG`, both with flags, `fragdb plan CATALOG STATEMENT` and `fragdb play`
-abbrev pub program : App
-program = record {
-  top = record (new_shape (codes "fragdb")) { has_version = true; subcommand_required = true };
-  subs = [];
-}
-
-abbrev pub usage : App
-usage =
-    with_subcommand (with_subcommand (with_subcommand (with_subcommand program (stored (shown (held (explained (of_any_script (codes "solo")))))).top) (treed (explained (command_with (codes "check") (codes "CATALOG")))).top)
-    (treed (command_with_two (codes "plan") (codes "CATALOG") (codes "STATEMENT"))).top) (in_sqlite (of_script (codes "play"))).top
-
--- an argument of this rule, of its own command alone
-pub record IsRule (rule : Rule) (arg : Arg) : Type 0 where
-  pub is : rule_of arg ≡ rule
-  pub own : arg.global ≡ false
-
--- a command of this grammar, each argument of which is its own
-pub record IsCommand (app : App) (command : Command) : Type 0 where
-  pub is : app_of command ≡ app
-  pub own : (out-Command command).has_globals ≡ false
 
 -- whether a flag's value says that it is set
 abbrev pub is_set : Option Text → Bool
@@ -193,6 +117,38 @@ pub data IsMisuse (found : Found) (at_terminal : Bool) : ErrorKind → Type 0 wh
 -- the words ask for this: they give its arguments, all or all but the script of a session, and set its flags
 abbrev pub Asks : List Text → Bool → Request → Type 0
 Asks words at_terminal request = IsGiven words (asked request) (flags_of request) ⊎ LeavesOut words at_terminal request
+
+-- how often a statement is run again, by the word for it: a number up to a million; never, where there is no word
+abbrev pub retry_of : Option Text → Option ℕ
+retry_of None = Some 0
+retry_of (Some word) = option_and_then (λ n. if nat_le n 1000000 then Some n else None) (number_of word)
+
+-- sessions in words: the command, and its arguments, each with its name
+abbrev pub asked_sessions : Sessions → Text × List (Text × Option Text)
+asked_sessions sessions = (codes "run", (codes "CATALOG", option_map (λ file. file.now) sessions.catalog) ∷ (codes "SCRIPT", Some sessions.script.now) ∷ (codes "DIR", option_map (λ folder. folder.now) sessions.dir) ∷ [])
+
+-- the words ask for these sessions: they give their arguments, set their flag, and say how often a statement is run again
+pub record AsksSessions (words : List Text) (sessions : Sessions) : Type 0 where
+  pub retry : Option Text
+  pub given : IsGiven words (codes "run", (codes "N", retry) ∷ (asked_sessions sessions).1) ((codes "SQLITE", sessions.sqlite) ∷ [])
+  pub retries : retry_of retry ≡ Some sessions.retry
+
+-- what is wrong with the words after `run`, though each is known: the word for how often a statement is run again is no such number; or memory ran out
+pub data IsNoNumber (found : Found) : ErrorKind → Type 0 where
+  no_number : retry_of (first_value found (codes "N")) ≡ None → IsNoNumber found InvalidValue
+  no_memory_left : IsNoNumber found OutOfMemory
+
+-- the words ask for this
+abbrev pub AsksFor : List Text → Bool → Asked → Type 0
+AsksFor words at_terminal (Alone request) = Asks words at_terminal request
+AsksFor words at_terminal (OfSessions sessions) = AsksSessions words sessions
+
+-- what no word asks for: `solo -`, and none of its flags
+abbrev pub AsksForInput : Asked → Type 0
+AsksForInput (Alone request) =
+    (asked request ≡ (codes "solo", (codes "CATALOG", None) ∷ (codes "SCRIPT", Some (codes "-")) ∷ (codes "DIR", None) ∷ []))
+    × (flags_of request ≡ (codes "EXPLAIN", false) ∷ (codes "INTERACTIVE", false) ∷ (codes "COLUMNS", false) ∷ (codes "CSV", false) ∷ (codes "JSON", false) ∷ (codes "SQLITE", false) ∷ [])
+AsksForInput (OfSessions sessions) = ⊥
 
 -- the exit status where clap gives a text in place of a request
 abbrev pub usage_status : ErrorKind → Status

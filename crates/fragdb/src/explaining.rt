@@ -43,7 +43,8 @@ pub fn explain_outcome<C: Read + Drop, E: Write>(
                 Err(_) => Ok(()),
             }
         }
-        Outcome::Done | Outcome::RefusedStatement(_) | Outcome::Stopped(_) => Ok(()),
+        Outcome::Done | Outcome::Lost => Ok(()),
+        Outcome::RefusedStatement(_) | Outcome::Stopped(_) => Ok(()),
     }
 }
 

@@ -8,8 +8,9 @@ use crate::catalog_file::{CatalogFault, read_catalog};
 use crate::fault::ProgramFault;
 use crate::same_catalog::is_same;
 use catalog::catalogue::Catalog;
+use std::alloc::Global;
 use std::fs::File;
-use std::io::ErrorKind;
+use std::io::{ErrorKind, Write};
 use std::rt::HostRuntime;
 use std::{fs, io};
 use store::fault::StoreFault;
@@ -17,66 +18,133 @@ use store::fault::StoreFault;
 /// The file of a folder in which its catalogue stands.
 pub const CATALOGUE: &str = "catalogue.toml";
 
-/// Makes the folder, where it isn't there, and sees that its stores are of this catalogue: a folder without a catalogue gets
-/// the text of this one, which is that of the file `source`, or the built-in one. Another catalogue's folder is left as
-/// it is, and counts as damaged.
+/// The file in which it stands until it is whole.
+const UNFINISHED: &str = "catalogue.toml.new";
+
+/// What a folder was found to be.
+#[derive(Clone, Copy, PartialEq, Eq)]
+pub enum Standing {
+    /// No catalogue stands there, so no database was opened in it yet.
+    New,
+    /// It has the stores of a database of this catalogue.
+    Kept,
+}
+
+/// Makes the folder, where it isn't there, and sees whether its stores can be of this catalogue. Another catalogue's folder
+/// is left as it is, and counts as damaged; so does one in which the file of a store is missing.
 pub fn enter<'a>(
     rt: &HostRuntime,
     dir: &str,
-    source: Option<&str>,
     catalog: &Catalog,
-) -> Result<(), ProgramFault<'a>>
+) -> Result<Standing, ProgramFault<'a>>
     ensures err { IfErr result IsOfClient }
 {
-    let path = format!(in rt.alloc(); "{dir}/{CATALOGUE}")?;
     fs::create_dir_all(rt, dir).map_err(|error| refused(&error))?;
-    let kept = open_text(rt, path.as_str(), source).map_err(|error| refused(&error))?;
-    match read_catalog(rt.alloc(), CATALOGUE, kept) {
+    look_into(rt, dir, catalog)
+}
+
+/// What a folder is, for a database of this catalogue.
+pub fn look_into<'a>(
+    rt: &HostRuntime,
+    dir: &str,
+    catalog: &Catalog,
+) -> Result<Standing, ProgramFault<'a>>
+    ensures err { IfErr result IsOfClient }
+{
+    let path = path_in(rt.alloc(), dir, CATALOGUE)?;
+    match fs::open(rt, path.as_str()) {
         Ok(kept) => {
-            if is_same(&kept, catalog) {
-                Ok(())
+            if is_of(rt.alloc(), kept, catalog)? && has_stores(rt, dir, catalog)? {
+                Ok(Standing::Kept)
             } else {
                 Err(damaged())
             }
         }
+        Err(error) => match error.kind() {
+            ErrorKind::NotFound => Ok(Standing::New),
+            _ => Err(refused(&error)),
+        },
+    }
+}
+
+/// Writes the catalogue into a new folder, once the files of its stores are there: the text of the file `source`, or the built-in
+/// one. It stands there whole or not at all.
+pub fn keep_catalogue<'a>(
+    rt: &HostRuntime,
+    dir: &str,
+    source: Option<&str>,
+    standing: Standing,
+) -> Result<(), ProgramFault<'a>>
+    ensures err { IfErr result IsOfClient }
+{
+    if standing == Standing::Kept {
+        return Ok(());
+    }
+    let unfinished = path_in(rt.alloc(), dir, UNFINISHED)?;
+    let path = path_in(rt.alloc(), dir, CATALOGUE)?;
+    put_text(rt, unfinished.as_str(), path.as_str(), source).map_err(|error| refused(&error))
+}
+
+/// The path of a file in a folder.
+fn path_in<'a>(alloc: Global, dir: &str, name: &str) -> Result<String, ProgramFault<'a>>
+    ensures err { IfErr result IsOfClient }
+{
+    Ok(format!(in alloc; "{dir}/{name}")?)
+}
+
+/// Whether a file has the text of this catalogue. One that has the text of none counts as damaged.
+fn is_of<'a>(alloc: Global, file: File, catalog: &Catalog) -> Result<bool, ProgramFault<'a>>
+    ensures err { IfErr result IsOfClient }
+{
+    match read_catalog(alloc, CATALOGUE, file) {
+        Ok(kept) => Ok(is_same(&kept, catalog)),
         Err(CatalogFault::Program(ProgramFault::Memory)) => Err(ProgramFault::Memory),
         Err(_) => Err(damaged()),
     }
 }
 
-/// Opens the file of a catalogue, which is written first where it isn't there.
-fn open_text(rt: &HostRuntime, path: &str, source: Option<&str>) -> io::Result<File> {
-    match fs::open(rt, path) {
-        Ok(kept) => Ok(kept),
-        Err(error) => make_text(rt, path, source, error),
+/// Whether each store of this catalogue has its file in the folder.
+fn has_stores<'a>(rt: &HostRuntime, dir: &str, catalog: &Catalog) -> Result<bool, ProgramFault<'a>>
+    ensures err { IfErr result IsOfClient }
+{
+    for site in catalog.sites() {
+        if !has_store(rt, dir, site.as_str())? {
+            return Ok(false);
+        }
     }
+    has_store(rt, dir, "desk")
 }
 
-/// Writes the file of a catalogue, if the error says that it isn't there, and opens it.
-fn make_text(
+/// Whether the store of this name has its file in the folder.
+pub fn has_store<'a>(rt: &HostRuntime, dir: &str, name: &str) -> Result<bool, ProgramFault<'a>>
+    ensures err { IfErr result IsOfClient }
+{
+    let path = format!(in rt.alloc(); "{dir}/{name}.db")?;
+    fs::exists(rt, path.as_str()).map_err(|error| refused(&error))
+}
+
+/// Writes a catalogue's text into a file, and then gives that the name under which it is read.
+fn put_text(
     rt: &HostRuntime,
+    unfinished: &str,
     path: &str,
     source: Option<&str>,
-    error: io::Error,
-) -> io::Result<File> {
-    match error.kind() {
-        ErrorKind::NotFound => {
-            keep_text(rt, path, source)?;
-            fs::open(rt, path)
-        }
-        _ => Err(error),
-    }
+) -> io::Result<()> {
+    write_text(rt, unfinished, source)?;
+    fs::rename(rt, unfinished, path)
 }
 
-/// Writes a catalogue's text into the file of this path.
-fn keep_text(rt: &HostRuntime, path: &str, source: Option<&str>) -> io::Result<()> {
+/// Writes a catalogue's text into the file of this path, and waits until it is on the disk.
+fn write_text(rt: &HostRuntime, path: &str, source: Option<&str>) -> io::Result<()> {
+    let mut file = fs::create(rt, path)?;
     match source {
-        Some(file) => {
-            let text = fs::read(rt, file)?;
-            fs::write(rt, path, text.as_slice())
+        Some(source) => {
+            let text = fs::read(rt, source)?;
+            file.write_all(text.as_slice())?;
         }
-        None => fs::write(rt, path, BUILT_IN),
+        None => file.write_all(BUILT_IN.as_bytes())?,
     }
+    file.sync_all()
 }
 
 /// What stops the program where the folder can't be used.

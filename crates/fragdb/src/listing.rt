@@ -106,7 +106,8 @@ fn put_columns(out: &mut String, columns: &[Column]) -> Result<(), Memory>
     Ok(())
 }
 
-fn put_column(out: &mut String, column: &Column) -> Result<(), Memory>
+/// A column with its type.
+pub fn put_column(out: &mut String, column: &Column) -> Result<(), Memory>
     ensures { OnOk result (string_bytes out.new ≡ string_bytes out.old ++ column_text column.now) }
 {
     write!(out, "{} {}", column.name, kind_word(column.kind))?;

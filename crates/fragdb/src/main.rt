@@ -1,15 +1,19 @@
 //! fragdb: a relational database in fragments. `fragdb solo SCRIPT` runs a script over a catalogue, one
 //! command at a time; `fragdb check CATALOG` checks a catalogue and lists its fragments; `fragdb plan` shows
-//! which of them a statement reads; `fragdb play SCRIPT` plays a schedule, letter by letter.
+//! which of them a statement reads; `fragdb play SCRIPT` plays a schedule, letter by letter; `fragdb run SCRIPT`
+//! runs many sessions, each in a thread of its own.
 //!
 //! The contract that carries it is that of `perform::perform`: what is written and what comes of each request.
 #![tactic(auto)]
 
 mod built_in;
 mod cast;
+mod catalog_difference;
 mod catalog_file;
 mod check;
 mod client;
+mod conversation;
+mod conversations;
 mod cut;
 mod database;
 mod delivering;
@@ -18,7 +22,10 @@ mod explaining;
 mod fault;
 mod folder;
 mod folder_told;
+mod found;
 mod fragment_tree;
+mod grammar;
+mod help;
 mod input;
 mod level;
 mod listing;
@@ -33,15 +40,22 @@ mod play_items;
 mod play_load;
 mod play_script;
 mod play_text;
+mod progress;
 mod reply;
+mod run;
+mod run_records;
+mod run_script;
+mod run_text;
 mod same_catalog;
 mod schedule;
 mod script;
 mod session;
 mod session_word;
+mod sessions;
 mod shown;
 mod solo;
 mod sql_stores;
+mod store_opener;
 mod typed;
 mod usage;
 mod world_opener;
@@ -55,24 +69,32 @@ use crate::folder_told::tell_folder;
 use crate::opener::{Folder, InMemory, Lists, Opens};
 use crate::outcome::{Outcome, Status, exit};
 use crate::perform::{perform, perform_session};
+use crate::sessions::do_run;
 use crate::solo::SCRIPT_LIMIT;
 use crate::sql_stores::{Files, OpensFiles};
-use crate::usage::{Request, Stores, read_words, show_usage, unreadable_words};
+use crate::usage::{Asked, Request, Stores, read_words, show_usage, unreadable_words};
 use crate::world_opener::OpensWorld;
 use sqlite::Alter;
 use std::alloc::Global;
 use std::io::{BufWriter, IsTerminal, Read, Write};
 use std::process::ExitCode;
+use std::sync::Wait;
+use std::thread::Threads;
+use std::time::Clock;
 use std::{env, fs, io};
 use store::desk_store::DeskStore;
 use store::site_store::SiteStore;
 
 fn main(rt: HostRuntime) -> ExitCode {
-    ExitCode::from(run(&rt).code())
+    ExitCode::from(do_words(&rt, &rt).code())
 }
 
-/// Reads the command line, opens the file that it names, and does what it asks for.
-fn run(rt: &HostRuntime) -> Status {
+/// Reads the command line, opens the file that it names, and does what it asks for. Sessions have threads from the
+/// handle beside the runtime, which has none itself outside `main`.
+fn do_words<H: Threads + Wait + Clock + Copy + Send + Sync + 'static>(
+    rt: &HostRuntime,
+    threads: &H,
+) -> Status {
     let alloc = rt.alloc();
     let mut errors = rt.stderr();
     let Ok(mut output) = BufWriter::new(alloc, rt.stdout()) else {
@@ -86,7 +108,8 @@ fn run(rt: &HostRuntime) -> Status {
         }
     };
     match read_words(alloc, words.as_slice(), is_at_terminal(rt)) {
-        Ok(request) => do_request(rt, request, &mut output, &mut errors),
+        Ok(Asked::Alone(request)) => do_request(rt, request, &mut output, &mut errors),
+        Ok(Asked::Sessions(sessions)) => do_run(rt, threads, sessions, &mut output, &mut errors),
         Err(error) => show_usage(&error, &mut output, &mut errors),
     }
 }
@@ -423,8 +446,8 @@ fn explain_over<C: Read + Drop, E: Write>(
     errors: &mut E,
 ) -> io::Result<()> {
     match (request.stores(), outcome) {
-        (Stores::Folder(dir), Outcome::Stopped(ProgramFault::Store { .. })) => {
-            tell_folder(rt, &Files::new(rt), dir, file, catalog, errors)
+        (Stores::Folder(dir), Outcome::Stopped(ProgramFault::Store { fault })) => {
+            tell_folder(rt, &Files::new(rt), dir, file, catalog, *fault, errors)
         }
         _ => explain_outcome(rt.alloc(), outcome, file, catalog, bytes, errors),
     }

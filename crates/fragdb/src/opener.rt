@@ -1,16 +1,18 @@
 //! How the database of a catalogue is opened.
 
-ghost use Rattle.std.specs.Prelude.{IfErr, IfOk};
+ghost use Rattle.std.specs.Prelude.{◌≡◌, IfErr, IfOk, length};
 ghost use Rattle.catalog.specs.Relation.{catalogue_of};
 ghost use Rattle.fragdb.specs.Client.{IsOfClient};
 ghost use Rattle.fragdb.specs.Origin.{Begins, Origin as OriginNow};
+ghost use Rattle.fragdb.specs.SqlStores.{AreOfLeaves};
 
 use crate::client::stopped;
 use crate::database::Database;
 use crate::fault::ProgramFault;
-use crate::folder::enter;
+use crate::folder::{enter, keep_catalogue};
+use crate::found::found_text;
 use crate::play_load::empty_relations;
-use crate::sql_stores::{OpensFiles, file_desk, file_sites, memory_desk, memory_sites};
+use crate::sql_stores::{OpenStores, OpensFiles, file_desk, file_sites, memory_desk, memory_sites};
 use catalog::catalogue::Catalog;
 use desk::refusal::Refusal;
 use site::fault::SiteFault;
@@ -22,6 +24,7 @@ use std::rt::HostRuntime;
 use store::fault::StoreFault;
 use store::plain_desk::PlainDesk;
 use store::plain_site::PlainSite;
+use terms::memory::Memory;
 use world::fault::Fault;
 use world::solo::{Solo, open, open_on};
 
@@ -34,6 +37,12 @@ pub trait Opens<B: Database> {
     fn open<'a>(&self, alloc: Global, catalog: &Catalog) -> Result<B, ProgramFault<'a>>
         ensures ok { IfOk result (Begins B.seen origin (catalogue_of catalog.now)) }
         ensures err { IfErr result IsOfClient };
+
+    /// What a session is to tell of what such a database is going to begin with, in lines; nothing where it begins without rows.
+    /// Nothing is claimed of the words.
+    fn found(&self, alloc: Global, _catalog: &Catalog) -> Result<String, Memory> {
+        Ok(String::new(alloc))
+    }
 }
 
 /// Databases over lists, which begin with relations without rows, and are gone at the end.
@@ -112,6 +121,21 @@ impl<'f, F> Folder<'f, F> {
     }
 }
 
+/// Opens the files of a folder: those of the sites, in the catalogue's order, and the coordinator's.
+pub fn open_files<'a, M: Alter + Drop, F: OpensFiles<M>>(
+    alloc: Global,
+    folder: &Folder<'_, F>,
+    catalog: &Catalog,
+) -> Result<OpenStores<SqlDesk<M>, SqlSite<M>>, ProgramFault<'a>>
+    ensures all { IfOk result (λ stores. length stores.sites.items ≡ length catalog.now.0) }
+    ensures leaves { IfOk result (λ stores. AreOfLeaves (catalogue_of catalog.now) 0 stores.sites.items) }
+    ensures err { IfErr result IsOfClient }
+{
+    let sites = file_sites(alloc, folder.files, folder.dir, catalog)?;
+    let desk = file_desk(alloc, folder.files, folder.dir)?;
+    Ok(OpenStores { sites, desk })
+}
+
 impl<M: Alter + Drop, F: OpensFiles<M>> Opens<Solo<SqlDesk<M>, SqlSite<M>>> for Folder<'_, F> {
     ghost use Rattle.fragdb.specs.Origin.{IsKept};
 
@@ -122,13 +146,18 @@ impl<M: Alter + Drop, F: OpensFiles<M>> Opens<Solo<SqlDesk<M>, SqlSite<M>>> for 
         alloc: Global,
         catalog: &Catalog,
     ) -> Result<Solo<SqlDesk<M>, SqlSite<M>>, ProgramFault<'a>> {
-        enter(self.rt, self.dir, self.source, catalog)?;
-        let sites = file_sites(alloc, self.files, self.dir, catalog)?;
-        let desk = file_desk(alloc, self.files, self.dir)?;
+        let standing = enter(self.rt, self.dir, catalog)?;
+        let OpenStores { sites, desk } = open_files(alloc, self, catalog)?;
+        // No transaction begins in a folder before its catalogue stands there.
+        keep_catalogue(self.rt, self.dir, self.source, standing)?;
         match Solo::open_stores(alloc, catalog, sites, desk) {
             Ok(database) => Ok(database),
             Err(fault) => Err(unopened(fault)),
         }
+    }
+
+    fn found(&self, _alloc: Global, catalog: &Catalog) -> Result<String, Memory> {
+        found_text(self.rt, self.files, self.dir, catalog)
     }
 }
 

@@ -23,6 +23,8 @@ pub enum Outcome<'a> {
     RefusedStatement(ReadFault),
     /// The command stopped before its end.
     Stopped(ProgramFault<'a>),
+    /// A machine of a database that was closed can't be had back.
+    Lost,
 }
 
 /// The exit status of the program.
@@ -67,7 +69,8 @@ impl Outcome<'_> {
             Outcome::SomeRefused
             | Outcome::Refused(_)
             | Outcome::RefusedStatement(_)
-            | Outcome::Stopped(_) => Status::Refused,
+            | Outcome::Stopped(_)
+            | Outcome::Lost => Status::Refused,
         }
     }
 }
@@ -81,6 +84,7 @@ pub fn tell<E: Write>(errors: &mut E, outcome: &Outcome<'_>) -> io::Result<()>
         Outcome::Refused(fault) => writeln!(errors, "refused {fault}"),
         Outcome::RefusedStatement(fault) => writeln!(errors, "refused read {fault}"),
         Outcome::Stopped(fault) => tell_stop(errors, fault),
+        Outcome::Lost => writeln!(errors, "fragdb: refused 9 Closed"),
     }
 }
 

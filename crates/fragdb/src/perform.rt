@@ -315,7 +315,7 @@ fn perform_play<
 }
 
 /// A file can't be opened.
-fn unread<'a>(file: &'a str, error: &io::Error) -> Outcome<'a>
+pub fn unread<'a>(file: &'a str, error: &io::Error) -> Outcome<'a>
     ensures { IsUnread file.entry result }
 {
     Outcome::Stopped(ProgramFault::reading(file, error))

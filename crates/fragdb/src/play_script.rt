@@ -15,7 +15,7 @@ use terms::memory::Memory;
 use terms::seq::Seq;
 use terms::text::Text;
 
-/// How many bytes a transaction's name may have.
+/// How many bytes the name of a transaction or a session may have.
 const NAME_LIMIT: usize = 16;
 
 /// What the client of a transaction asks for.
@@ -315,8 +315,8 @@ fn shown(name: &str, item: Item) -> Result<Option<Item>, Memory>
     }
 }
 
-/// Whether a text may name a transaction.
-fn is_name(text: &str) -> bool
+/// Whether a text may name a transaction or a session.
+pub fn is_name(text: &str) -> bool
     ensures { result ≡ spec.is_name text.now }
 {
     let Some((first, rest)) = text.as_bytes().split_first() else {
@@ -342,7 +342,7 @@ fn ticket(text: &str) -> Option<Ticket>
 }
 
 /// The number that digits write.
-fn number(word: &str) -> Option<u64>
+pub fn number(word: &str) -> Option<u64>
     ensures { result ≡ number_of word.now }
 {
     if are_digits(word.as_bytes()) {

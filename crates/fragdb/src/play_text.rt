@@ -67,7 +67,7 @@ pub fn reply_text(alloc: Global, reply: &Reply) -> Result<String, Memory>
 }
 
 /// Why a transaction aborted, by its number and name.
-fn why_name(why: Why) -> &'static str
+pub fn why_name(why: Why) -> &'static str
     ensures { result.now ≡ why_text why }
 {
     match why {

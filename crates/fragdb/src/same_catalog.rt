@@ -58,7 +58,8 @@ fn same_columns(columns: &[Column], others: &[Column]) -> bool
     true
 }
 
-fn same_column(column: &Column, other: &Column) -> bool
+/// Whether two columns are one.
+pub fn same_column(column: &Column, other: &Column) -> bool
     ensures { IsTrue result ↔ (column.now ≡ other.now) }
 {
     column.name.same(&other.name) && column.kind == other.kind

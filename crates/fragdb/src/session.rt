@@ -110,11 +110,13 @@ pub fn session<'a, B: Database + Drop, O: Opens<B>, K: Clock, R: BufRead, W: Wri
     ensures err { IfErr result (IsOfSession file.entry) }
 {
     moves_follow(catalog);
+    let found = opener.found(alloc, catalog)?;
     let mut database = opener.open(alloc, catalog)?;
     talk(
         alloc,
         clock,
         mode,
+        found.as_str(),
         &mut database,
         file,
         input,
@@ -123,11 +125,12 @@ pub fn session<'a, B: Database + Drop, O: Opens<B>, K: Clock, R: BufRead, W: Wri
     )
 }
 
-/// Greets, and answers line by line.
+/// Greets, tells what was found, and answers line by line.
 fn talk<'a, B: Database, K: Clock, R: BufRead, W: Write, E: Write>(
     alloc: Global,
     clock: &K,
     mode: Mode,
+    found: &str,
     database: &mut B,
     file: &'a str,
     input: &mut R,
@@ -138,6 +141,7 @@ fn talk<'a, B: Database, K: Clock, R: BufRead, W: Write, E: Write>(
     ensures err { IfErr result (IsOfSession file.entry) }
 {
     write_text(output, GREETING)?;
+    tell(errors, found);
     let mut state = State::new(alloc, mode);
     for number in 0..u64::MAX {
         let _ = number;

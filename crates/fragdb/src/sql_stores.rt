@@ -3,17 +3,27 @@
 ghost use Rattle.std.specs.Prelude.{◌≡◌, ◌<◌, IfErr, IfOk, length};
 ghost use Rattle.catalog.specs.Relation.{catalogue_of};
 ghost use Rattle.fragdb.specs.Client.{IsOfClient};
-ghost use Rattle.fragdb.specs.SqlStores.{AreNewSites, IsNewDesk, IsNewSite};
+ghost use Rattle.catalog.specs.FragmentLeaf.{catalogue_leaves, names_at};
+ghost use Rattle.fragdb.specs.SqlStores.{AreNewSites, AreOfLeaves, IsNewDesk, IsNewSite};
 
 use crate::fault::ProgramFault;
+use crate::found::{SiteFound, decided, site_found};
 use catalog::catalogue::Catalog;
-use sqlite::{Alter, File, FileStore, MemStore};
+use sqlite::{Alter, Connection, Error, ErrorCode, File, FileStore, MemStore};
 use sqlstore::desk::SqlDesk;
 use sqlstore::site::SqlSite;
 use std::alloc::Global;
 use std::rt::HostRuntime;
 use store::fault::StoreFault;
+use store::name::Txn;
 use terms::leaf::Leaf;
+
+/// The stores of a database: those of its sites, in the catalogue's order, and the coordinator's.
+#[derive(Drop)]
+pub struct OpenStores<D, S> {
+    pub sites: Vec<S>,
+    pub desk: D,
+}
 
 /// New stores of the sites, in the catalogue's order.
 pub fn memory_sites<'a>(
@@ -60,10 +70,20 @@ pub fn memory_desk<'a>(alloc: Global) -> Result<SqlDesk<MemStore>, ProgramFault<
 /// Opens stores in files, on media of some kind. A file that isn't there is made.
 pub trait OpensFiles<M: Alter> {
     /// The store of a site in the file of this path, which has these leaves.
-    fn site(&self, path: &str, leaves: Vec<Leaf>) -> Result<SqlSite<M>, StoreFault>;
+    fn site(&self, path: &str, leaves: Vec<Leaf>) -> Result<SqlSite<M>, StoreFault>
+        ensures { IfOk result (λ site. site.leaves ≡ leaves) };
 
     /// The store of the coordinator in the file of this path.
     fn desk(&self, path: &str) -> Result<SqlDesk<M>, StoreFault>;
+
+    /// Why the file of this path can't be opened, if it can't, in words for a person.
+    fn trouble(&self, path: &str) -> Option<&'static str>;
+
+    /// What stands in the file of a site, if it can be read.
+    fn found_site(&self, path: &str) -> Option<SiteFound>;
+
+    /// The transactions whose commit rows stand in the coordinator's file, if it can be read.
+    fn found_desk(&self, path: &str) -> Option<Vec<Txn>>;
 }
 
 /// Files of the operating system.
@@ -87,6 +107,36 @@ impl OpensFiles<FileStore<File>> for Files<'_> {
     fn desk(&self, path: &str) -> Result<SqlDesk<FileStore<File>>, StoreFault> {
         SqlDesk::file(self.rt, path)
     }
+
+    fn trouble(&self, path: &str) -> Option<&'static str> {
+        match Connection::open(self.rt, path) {
+            Ok(_) => None,
+            Err(error) => Some(words_of(&error)),
+        }
+    }
+
+    fn found_site(&self, path: &str) -> Option<SiteFound> {
+        let conn = Connection::open(self.rt, path).ok()?;
+        site_found(self.rt.alloc(), conn).ok()
+    }
+
+    fn found_desk(&self, path: &str) -> Option<Vec<Txn>> {
+        let conn = Connection::open(self.rt, path).ok()?;
+        decided(self.rt.alloc(), conn).ok()
+    }
+}
+
+/// Why a file can't be opened, in words.
+fn words_of(error: &Error) -> &'static str {
+    match error {
+        Error::SqliteFailure(ErrorCode::DatabaseBusy) => "another program has it open",
+        Error::SqliteFailure(ErrorCode::CannotOpen) => "it can't be opened to be read and written",
+        Error::SqliteFailure(ErrorCode::NotADatabase) => "it is no database that a store has made",
+        Error::SqliteFailure(ErrorCode::DatabaseCorrupt) => "it is damaged",
+        Error::SqliteFailure(ErrorCode::DiskFull) => "the disk is full",
+        Error::SqliteFailure(ErrorCode::OutOfMemory) => "memory ran out",
+        _ => "it can't be read or written",
+    }
 }
 
 /// The stores of the sites in the files of a folder, in the catalogue's order.
@@ -97,6 +147,7 @@ pub fn file_sites<'a, M: Alter + Drop, F: OpensFiles<M>>(
     catalog: &Catalog,
 ) -> Result<Vec<SqlSite<M>>, ProgramFault<'a>>
     ensures all { IfOk result (λ sites. length sites.items ≡ length catalog.now.0) }
+    ensures leaves { IfOk result (λ sites. AreOfLeaves (catalogue_of catalog.now) 0 sites.items) }
     ensures err { IfErr result IsOfClient }
 {
     let mut sites = Vec::new(alloc);
@@ -118,6 +169,7 @@ pub fn file_site<'a, M: Alter + Drop, F: OpensFiles<M>>(
     place: usize,
 ) -> Result<SqlSite<M>, ProgramFault<'a>>
     requires { place < length catalog.now.0 }
+    ensures leaves { IfOk result (λ site. site.leaves.items ≡ names_at place (catalogue_leaves (catalogue_of catalog.now))) }
     ensures err { IfErr result IsOfClient }
 {
     let path = format!(in alloc; "{dir}/{}.db", catalog.sites()[place])?;

@@ -1,25 +1,75 @@
 //! The words of the command line.
 
-ghost use Rattle.std.specs.Prelude.{◌≡◌, ◌≢◌, ◌≤◌, ◌<◌, ◌⊎◌, ◌∷◌, [], IfErr, IfOk, IfSome, IsOkAnd, None, Some, codes, false, length, map, option_map};
+ghost use Rattle.std.specs.Prelude.{◌≡◌, ◌≢◌, ◌≤◌, ◌<◌, ◌⊎◌, ◌∷◌, [], IfErr, IfOk, IfSome, IsOkAnd, List, Some, bytes_eq, codes, length, map, option_map};
 ghost use Rattle.std.specs.Io.KnownBytes.{Keeps};
 ghost use Rattle.std.specs.List.{AllByRecursion};
 ghost use Rattle.std.specs.IoError.{error_kind};
 ghost use Rattle.clap.specs.Matches.{first_value};
-ghost use Rattle.clap.specs.Words.{App, Rule, app_of, found_of, kind_of, new_app, new_rule, with_rule};
-ghost use Rattle.fragdb.specs.Usage.{Asks, IsCommand, IsMisuse, IsRule, argument, asked, command_with, command_with_two, explained, flag, flags_of, held, in_sqlite, is_columns, is_csv, is_interactive, is_json, mode_of_flags, of_any_script, of_script, option_argument, script_of, shown, stored, treed, usage, usage_status};
+ghost use Rattle.clap.specs.Words.{Text, found_of, kind_of, subcommand_of, subcommand_rows_of};
+ghost use Rattle.fragdb.specs.Grammar.{usage};
+ghost use Rattle.fragdb.specs.Usage.{Asks, AsksFor, AsksForInput, IsMisuse, IsNoNumber, asked, asked_sessions, flags_of, is_columns, is_csv, is_interactive, is_json, mode_of_flags, retry_of, script_of, stores_in, usage_status};
 ghost use Rattle.fragdb.specs.Usage as spec;
 
 use crate::fault::ProgramFault;
+use crate::grammar::command;
+use crate::help::{NO_SCRIPT, TWO_MODES};
 use crate::outcome::{Outcome, Status, exit};
+use crate::play_script::number;
 use clap::error::ErrorKind;
-use clap::{Arg, ArgAction, ArgMatches, Command, Error};
+use clap::{ArgMatches, Command, Error};
 use shell::mode::Mode;
 use std::alloc::{AllocError, Global};
 use std::convert::AsStr;
 use std::io;
 use std::io::{ErrorKind as IoErrorKind, Write};
 
+/// How often a statement may be run again.
+const RETRY_LIMIT: u64 = 1_000_000;
+
 /// What the command line asks for.
+#[derive(Clone, Copy)]
+pub enum Asked<'a> {
+    /// What one client does, or none.
+    Alone(Request<'a>),
+    /// To run the sessions of a script.
+    Sessions(Sessions<'a>),
+}
+
+/// A script of sessions to run, a file's name, or `-` for standard input, over a database of this catalogue, a
+/// file's name, or over one of the built-in catalogue.
+#[derive(Clone, Copy)]
+pub struct Sessions<'a> {
+    pub catalog: Option<&'a str>,
+    pub script: &'a str,
+    /// Whether its stores are to be in SQLite, in memory.
+    pub sqlite: bool,
+    /// The folder of its stores, which are files of SQLite then.
+    pub dir: Option<&'a str>,
+    /// How often a statement outside BEGIN is run again after an abort, at most.
+    pub retry: u32,
+}
+
+impl<'a> Sessions<'a> {
+    /// Where the stores of its database are.
+    pub fn stores(&self) -> Stores<'a>
+        ensures { result ≡ stores_in self.now.sqlite self.now.dir }
+    {
+        match (self.sqlite, self.dir) {
+            (_, Some(dir)) => Stores::Folder(dir),
+            (true, None) => Stores::InMemory,
+            (false, None) => Stores::Lists,
+        }
+    }
+
+    /// Whether its script is read from standard input.
+    pub fn is_of_input(&self) -> bool
+        ensures { result ≡ bytes_eq self.now.script.now (codes "-") }
+    {
+        self.script == "-"
+    }
+}
+
+/// What one client is to do, or what is to be told.
 #[derive(Clone, Copy)]
 pub enum Request<'a> {
     /// To run this script, a file's name, or `-` for standard input, over a database of this catalogue, a
@@ -74,105 +124,18 @@ pub enum Stores<'a> {
     Folder(&'a str),
 }
 
-/// What stands after the program's help.
-const AFTER_HELP: &str =
-    "With no argument: solo -, a script from standard input; at a terminal, a session.
-
-Exit status: 0 done; 1 a catalogue, a script or a statement was refused, a file could not be read,
-or nobody reads the output; 2 a mistake on the command line; 3 a store failed; 4 out of memory.
-
-Examples:
-  echo \"INSERT INTO item VALUES (1, 3, 'a')\" | fragdb
-  fragdb solo script.txt
-  fragdb solo --catalog catalogue.toml script.txt
-  fragdb solo --dir data script.txt
-  fragdb solo --explain script.txt
-  fragdb solo --json script.txt
-  fragdb solo --catalog catalogue.toml
-  fragdb check catalogue.toml
-  fragdb check --tree catalogue.toml
-  fragdb plan catalogue.toml 'SELECT name FROM emp WHERE id = 7'
-  fragdb plan --tree catalogue.toml 'SELECT name FROM emp WHERE id = 7'
-  fragdb play --catalog catalogue.toml schedule.txt";
-
-/// What stands after the help of `solo`.
-const AFTER_SOLO: &str =
-    "A script has one item a line; empty lines and lines that begin with # are passed over:
-  INSERT INTO item VALUES (1, 3, 'a')    a statement; so are SELECT, UPDATE and DELETE
-  BEGIN                                  a transaction of several statements begins
-  COMMIT                                 it is committed
-  ROLLBACK                               it is rolled back
-  .show item                             the rows of a relation
-  .leaf item.1                           the rows that a fragment keeps
-
-Without --catalog the relation item(id int, zone int, label text) is built in: rows with zone < 10 are
-kept in item.1, the others in item.2.
-
-At a terminal, with no script or with -, each line is asked for and answered at once; so it is anywhere
-with --interactive. Rows then stand in columns, a statement may have several lines, a malformed line costs
-itself alone, and it is explained why a line is refused:
-
-  fragdb> INSERT INTO item
-     ...> VALUES (1, 3, 'a');
-  changed 1
-  fragdb> SELECT zon FROM item
-  refused read 5 NoColumn at 7
-  SELECT zon FROM item
-         ^
-  no column `zon`; item has id, zone, label; did you mean `zone`?
-  fragdb> .help
-
-rlwrap fragdb has a history, and lines that can be edited. bin/fragdb starts the program so that Ctrl-C
-drops a line; docs/SHELL.md tells more.";
-
-/// What stands after the help of `play`.
-const AFTER_PLAY: &str =
-    "A script has one item a line; empty lines and lines that begin with # are passed over:
-  load INSERT INTO item VALUES (1, 3, 'a')    a row of the opening; such lines stand above all others
-  begin T                                     a transaction begins, under a name of letters and digits
-  do T SELECT label FROM item                 a statement of the transaction
-  commit T                                    its commit is asked for
-  rollback T                                  it is rolled back
-  giveup T                                    it is given up
-  deliver 7                                   letter 7 comes, for the first time or again
-  deliver 7 refuse                            the same, and the store call that it leads to is refused
-  all                                         all letters that never came, and those that they lead to
-  all but 3 7                                 the same without these
-  giveup north 1.2                            a site gives a visit up, by its ticket
-  inquire north                               a site asks about its prepared rows
-  restart north                               a site restarts; restart desk: so does the coordinator
-  .show item                                  the rows of a relation
-  .leaf item.1                                the rows that a fragment keeps
-  .committed                                  which transactions are committed";
-
-/// What is told of the catalogue of a script.
-const CATALOG_HELP: &str = "A file with a catalogue, in TOML, in place of the built-in one";
-
-/// What is told of stores.
-const SQLITE_HELP: &str = "Keeps each site's fragments in a SQLite database, in memory";
-
-const DIR_HELP: &str =
-    "A folder of SQLite files in which data stay, one for each site and one for the coordinator";
-
-/// What is told where answers are to be shown in two ways.
-const TWO_MODES: &str =
-    "the arguments '--columns', '--csv' and '--json' cannot be used with one another";
-
-/// What is told where a script is left out, and no line is to be asked for.
-const NO_SCRIPT: &str = "the following required arguments were not provided:\n  <SCRIPT>";
-
 /// What the words ask for, of which the first names the program. With no other word that is `solo -`. At a terminal
 /// the script may be left out.
 pub fn read_words<'a, S: AsStr>(
     alloc: Global,
     words: &'a [S],
     is_at_terminal: bool,
-) -> Result<Request<'a>, Error>
-    ensures alone { length words.entry.now ≤ 1 → IsOkAnd result (λ request. (asked request ≡ (codes "solo", (codes "CATALOG", None) ∷ (codes "SCRIPT", Some (codes "-")) ∷ (codes "DIR", None) ∷ [])) × (flags_of request ≡ (codes "EXPLAIN", false) ∷ (codes "INTERACTIVE", false) ∷ (codes "COLUMNS", false) ∷ (codes "CSV", false) ∷ (codes "JSON", false) ∷ (codes "SQLITE", false) ∷ [])) }
-    ensures given { IfOk result (λ request. 1 < length words.entry.now → Asks (map S.text words.entry.now) is_at_terminal request) }
+) -> Result<Asked<'a>, Error>
+    ensures alone { length words.entry.now ≤ 1 → IsOkAnd result AsksForInput }
+    ensures given { IfOk result (λ given. 1 < length words.entry.now → AsksFor (map S.text words.entry.now) is_at_terminal given) }
 {
     if words.len() <= 1 {
-        return Ok(Request::Solo {
+        return Ok(Asked::Alone(Request::Solo {
             catalog: None,
             script: "-",
             explain: false,
@@ -180,7 +143,7 @@ pub fn read_words<'a, S: AsStr>(
             mode: Mode::Tabs,
             sqlite: false,
             dir: None,
-        });
+        }));
     }
     read_given(alloc, words, is_at_terminal)
 }
@@ -190,13 +153,31 @@ fn read_given<'a, S: AsStr>(
     alloc: Global,
     words: &'a [S],
     is_at_terminal: bool,
-) -> Result<Request<'a>, Error>
-    ensures { IfOk result (λ request. Asks (map S.text words.entry.now) is_at_terminal request) }
+) -> Result<Asked<'a>, Error>
+    ensures { IfOk result (λ given. AsksFor (map S.text words.entry.now) is_at_terminal given) }
 {
     let mut command = command(alloc)?;
     let matches = command.try_get_matches_from_mut(words)?;
+    if let Some(("run", run)) = matches.subcommand()
+        && let Some(script) = run.get_str("SCRIPT")
+    {
+        let sessions = sessions_given(alloc, &mut command, run, script)?;
+        return Ok(Asked::Sessions(sessions));
+    }
+    let request = request_given(&mut command, &matches, is_at_terminal)?;
+    Ok(Asked::Alone(request))
+}
+
+/// What these matches ask for, which are of no sessions.
+fn request_given<'a>(
+    command: &mut Command<'_>,
+    matches: &ArgMatches<'a>,
+    is_at_terminal: bool,
+) -> Result<Request<'a>, Error>
+    ensures { (words : List Text) → subcommand_rows_of matches.entry.now ≡ subcommand_of usage words → IfOk result (λ request. Asks words is_at_terminal request) }
+{
     if let Some(("solo", solo)) = matches.subcommand() {
-        return solo_given(&mut command, solo, is_at_terminal);
+        return solo_given(command, solo, is_at_terminal);
     }
     if let Some(("check", check)) = matches.subcommand()
         && let Some(catalog) = check.get_str("CATALOG")
@@ -232,6 +213,61 @@ fn read_given<'a, S: AsStr>(
         });
     }
     Err(command.error(ErrorKind::MissingSubcommand, "a command is missing")?)
+}
+
+/// What the words after `run` ask for, which name this script.
+fn sessions_given<'a>(
+    alloc: Global,
+    command: &mut Command<'_>,
+    run: &ArgMatches<'a>,
+    script: &'a str,
+) -> Result<Sessions<'a>, Error>
+    ensures asks { IfOk result (λ sessions. asked_sessions sessions ≡ (codes "run", (codes "CATALOG", first_value (found_of run.entry.now) (codes "CATALOG")) ∷ (codes "SCRIPT", Some script.entry.now) ∷ (codes "DIR", first_value (found_of run.entry.now) (codes "DIR")) ∷ [])) }
+    ensures sqlite { IfOk result (λ sessions. spec.is_set (first_value (found_of run.entry.now) (codes "SQLITE")) ≡ sessions.sqlite) }
+    ensures retry { IfOk result (λ sessions. retry_of (first_value (found_of run.entry.now) (codes "N")) ≡ Some sessions.retry) }
+    ensures misuse { IfErr result (λ error. IsNoNumber (found_of run.entry.now) (kind_of error)) }
+{
+    let word = run.get_str("N");
+    let Some(retry) = retry_given(word) else {
+        return Err(no_number(alloc, command, word)?);
+    };
+    Ok(Sessions {
+        catalog: run.get_str("CATALOG"),
+        script,
+        sqlite: is_set(run.get_str("SQLITE")),
+        dir: run.get_str("DIR"),
+        retry,
+    })
+}
+
+/// How often a statement is run again, by the word for it; never, where there is none.
+fn retry_given(word: Option<&str>) -> Option<u32>
+    ensures { result ≡ retry_of (option_map (λ word. word.now) word.entry) }
+{
+    let Some(word) = word else {
+        return Some(0);
+    };
+    let retry = number(word)?;
+    if retry <= RETRY_LIMIT {
+        Some(retry as u32)
+    } else {
+        None
+    }
+}
+
+/// The fault of a word that is no number of retries.
+fn no_number(
+    alloc: Global,
+    command: &mut Command<'_>,
+    word: Option<&str>,
+) -> Result<Error, AllocError>
+    ensures { IfOk result (λ error. kind_of error ≡ ErrorKind.InvalidValue) }
+{
+    let word = word.unwrap_or("");
+    let message = format!(in alloc;
+        "invalid value '{word}' for '--retry <N>': not a number from 0 to {RETRY_LIMIT}"
+    )?;
+    command.error(ErrorKind::InvalidValue, message.as_str())
 }
 
 /// What the words after `solo` ask for.
@@ -323,191 +359,6 @@ fn not_text(alloc: Global) -> Result<Error, AllocError>
 {
     let message = "invalid UTF-8 was detected in one or more arguments";
     command(alloc)?.error(ErrorKind::InvalidValue, message)
-}
-
-fn command<'a>(alloc: Global) -> Result<Command<'a>, AllocError>
-    ensures { IfOk result (λ command. app_of command ≡ usage) }
-{
-    Command::new(alloc, "fragdb")
-        .version("0.1.0")
-        .about("A relational database in fragments")
-        .after_help(AFTER_HELP)
-        .subcommand_required(true)
-        .subcommand(solo_command(alloc)?)?
-        .subcommand(check_command(alloc)?)?
-        .subcommand(plan_command(alloc)?)?
-        .subcommand(play_command(alloc)?)
-}
-
-fn solo_command<'a>(alloc: Global) -> Result<Command<'a>, AllocError>
-    ensures { IfOk result (IsCommand (stored (shown (held (explained (of_any_script (codes "solo"))))))) }
-{
-    let solo = new_command(alloc, "solo", "Runs a script of statements, one at a time");
-    let catalog = option(alloc, "CATALOG", "catalog", CATALOG_HELP);
-    let solo = with(solo, catalog)?;
-    let script = optional(
-        alloc,
-        "SCRIPT",
-        "A file with one item a line, or - for standard input; at a terminal it may be left out",
-    );
-    let solo = with(solo, script)?;
-    let explain = flag(
-        alloc,
-        "EXPLAIN",
-        "explain",
-        "Explains on standard error why lines are refused; at a terminal that is on by itself",
-    );
-    let solo = with(solo, explain)?;
-    let interactive = flag(
-        alloc,
-        "INTERACTIVE",
-        "interactive",
-        "Asks for each line, and answers it at once, as at a terminal",
-    );
-    let solo = with(solo, interactive)?;
-    let solo = with_modes(alloc, with_notes(solo, AFTER_SOLO))?;
-    with_stores(alloc, solo)
-}
-
-/// The command with what says where stores are.
-fn with_stores<'a>(alloc: Global, command: Command<'a>) -> Result<Command<'a>, AllocError>
-    ensures { (app : App) → IsCommand app command.entry → IfOk result (IsCommand (stored app)) }
-{
-    let command = with_sqlite(alloc, command)?;
-    let dir = option(alloc, "DIR", "dir", DIR_HELP);
-    with(command, dir)
-}
-
-/// The command with a flag that asks for stores in SQLite.
-fn with_sqlite<'a>(alloc: Global, command: Command<'a>) -> Result<Command<'a>, AllocError>
-    ensures { (app : App) → IsCommand app command.entry → IfOk result (IsCommand (in_sqlite app)) }
-{
-    let sqlite = flag(alloc, "SQLITE", "sqlite", SQLITE_HELP);
-    with(command, sqlite)
-}
-
-/// The command with the flags that say how answers are shown.
-fn with_modes<'a>(alloc: Global, command: Command<'a>) -> Result<Command<'a>, AllocError>
-    ensures { (app : App) → IsCommand app command.entry → IfOk result (IsCommand (shown app)) }
-{
-    let columns = flag(alloc, "COLUMNS", "columns", "Shows rows in aligned columns");
-    let command = with(command, columns)?;
-    let csv = flag(alloc, "CSV", "csv", "Shows rows as comma-separated values");
-    let command = with(command, csv)?;
-    let json = flag(
-        alloc,
-        "JSON",
-        "json",
-        "Shows each row as a JSON object in a line",
-    );
-    with(command, json)
-}
-
-fn check_command<'a>(alloc: Global) -> Result<Command<'a>, AllocError>
-    ensures { IfOk result (IsCommand (treed (explained (command_with (codes "check") (codes "CATALOG"))))) }
-{
-    let check = new_command(alloc, "check", "Checks a catalogue and lists its fragments");
-    let catalog = required(alloc, "CATALOG", "A file with a catalogue, in TOML");
-    let check = with(check, catalog)?;
-    let explain = flag(
-        alloc,
-        "EXPLAIN",
-        "explain",
-        "Explains on standard error why the catalogue is refused; at a terminal that is on by itself",
-    );
-    let check = with(check, explain)?;
-    let tree = flag(
-        alloc,
-        "TREE",
-        "tree",
-        "Shows the fragments of each relation as a tree",
-    );
-    with(check, tree)
-}
-
-fn plan_command<'a>(alloc: Global) -> Result<Command<'a>, AllocError>
-    ensures { IfOk result (IsCommand (treed (command_with_two (codes "plan") (codes "CATALOG") (codes "STATEMENT")))) }
-{
-    let about = "Shows which fragments a statement reads, and with which conditions";
-    let plan = new_command(alloc, "plan", about);
-    let catalog = required(alloc, "CATALOG", "A file with a catalogue, in TOML");
-    let plan = with(plan, catalog)?;
-    let statement = required(
-        alloc,
-        "STATEMENT",
-        "A statement over the catalogue's relations",
-    );
-    let plan = with(plan, statement)?;
-    let tree = flag(alloc, "TREE", "tree", "Shows the plan as a tree");
-    with(plan, tree)
-}
-
-fn play_command<'a>(alloc: Global) -> Result<Command<'a>, AllocError>
-    ensures { IfOk result (IsCommand (in_sqlite (of_script (codes "play")))) }
-{
-    let play = new_command(alloc, "play", "Plays a script of schedules, event by event");
-    let play = with_notes(play, AFTER_PLAY);
-    let catalog = option(alloc, "CATALOG", "catalog", CATALOG_HELP);
-    let play = with(play, catalog)?;
-    let script = required(
-        alloc,
-        "SCRIPT",
-        "A file with one item a line, or - for standard input",
-    );
-    let play = with(play, script)?;
-    with_sqlite(alloc, play)
-}
-
-/// A command with no argument yet.
-fn new_command<'a>(alloc: Global, name: &'a str, about: &'a str) -> Command<'a>
-    ensures { IsCommand (new_app name.entry.now) result }
-{
-    Command::new(alloc, name).about(about)
-}
-
-/// The command with this text after its help.
-fn with_notes<'a>(command: Command<'a>, notes: &'a str) -> Command<'a>
-    ensures { (app : App) → IsCommand app command.entry → IsCommand app result }
-{
-    command.after_help(notes)
-}
-
-/// The command with one more argument.
-fn with<'a>(command: Command<'a>, argument: Arg<'a>) -> Result<Command<'a>, AllocError>
-    ensures { (app : App) (rule : Rule) → IsCommand app command.entry → IsRule rule argument.entry → IfOk result (IsCommand (with_rule app rule)) }
-{
-    command.arg(argument)
-}
-
-/// An argument that must be given.
-fn required<'a>(alloc: Global, name: &'a str, help: &'a str) -> Arg<'a>
-    ensures { IsRule (argument name.entry.now) result }
-{
-    Arg::new(alloc, name).required(true).help(help)
-}
-
-/// An argument that may be left out.
-fn optional<'a>(alloc: Global, name: &'a str, help: &'a str) -> Arg<'a>
-    ensures { IsRule (new_rule name.entry.now) result }
-{
-    Arg::new(alloc, name).help(help)
-}
-
-/// An argument that may be given behind this word.
-fn option<'a>(alloc: Global, name: &'a str, long: &'a str, help: &'a str) -> Arg<'a>
-    ensures { IsRule (option_argument name.entry.now long.entry.now) result }
-{
-    Arg::new(alloc, name).long(long).help(help)
-}
-
-/// A flag, which is known by a word.
-fn flag<'a>(alloc: Global, name: &'a str, long: &'a str, help: &'a str) -> Arg<'a>
-    ensures { IsRule (flag name.entry.now long.entry.now) result }
-{
-    Arg::new(alloc, name)
-        .long(long)
-        .action(ArgAction::SetTrue)
-        .help(help)
 }
 
 /// Writes clap's text where it belongs, help to the output and a mistake to the errors, and answers the

@@ -6,7 +6,7 @@ use Rattle.fragdb.proofs.opener.FolderOpensSoloSqlDeskSqlSite.open.Goals as goal
 
 pub returns-in-Ok-clause-ok : goal.returns-in-Ok-clause-ok
 returns-in-Ok-clause-ok g c =
-    let found : Found = record { desk = desk_kept g.M.Store c.in_ok-desk.desk.conn; sites = map (λ site. kept_by g.M.Store site.leaves.items site.conn) c.in_ok-sites.sites.items } in (
+    let found : Found = record { desk = desk_kept g.M.Store c.in_ok-sites.field-0.desk.conn; sites = map (λ site. kept_by g.M.Store site.leaves.items site.conn) c.in_ok-sites.field-0.sites.items } in (
       Kept found,
       (found, refl),
       record {

@@ -1,0 +1,89 @@
+-- The grammar of the command line: which commands there are, and what each may be given.
+use Rattle.std.specs.Prelude.{◌≡◌, true, false, [], Some, codes}
+use Rattle.clap.specs.Words.{App, Rule, Text, new_app, new_rule, with_rule, with_subcommand}
+use Rattle.clap.specs.Simple.{app_of, new_shape}
+use Rattle.clap.specs.Walk.{rule_of}
+use Rattle.clap.specs.declared.builder.arg.Arg.{Arg}
+use Rattle.clap.specs.declared.builder.command.Command.{Command}
+use Rattle.clap.specs.declared.builder.command.Command.TheViews.{out-Command}
+use Rattle.clap.specs.declared.builder.action.ArgAction.TheVariants.{SetTrue}
+
+-- an argument that must be given
+abbrev pub argument : Text → Rule
+argument name = record (new_rule name) { required = true }
+
+-- a command with one such argument
+abbrev pub command_with : Text → Text → App
+command_with name argument_name = with_rule (new_app name) (argument argument_name)
+
+-- a command with two such arguments
+abbrev pub command_with_two : Text → Text → Text → App
+command_with_two name first second = with_rule (command_with name first) (argument second)
+
+-- an argument that may be given behind this word
+abbrev pub option_argument : Text → Text → Rule
+option_argument name word = record (new_rule name) { long = Some word }
+
+-- a command `NAME [--catalog FILE] SCRIPT`
+abbrev pub of_script : Text → App
+of_script name = with_rule (with_rule (new_app name) (option_argument (codes "CATALOG") (codes "catalog"))) (argument (codes "SCRIPT"))
+
+-- a command `NAME [--catalog FILE] [SCRIPT]`
+abbrev pub of_any_script : Text → App
+of_any_script name = with_rule (with_rule (new_app name) (option_argument (codes "CATALOG") (codes "catalog"))) (new_rule (codes "SCRIPT"))
+
+-- a flag, which is known by a word
+abbrev pub flag : Text → Text → Rule
+flag name word = record (option_argument name word) { action = Some SetTrue }
+
+-- the command with a flag that asks for explanations
+abbrev pub explained : App → App
+explained app = with_rule app (flag (codes "EXPLAIN") (codes "explain"))
+
+-- the command with a flag that asks for a tree
+abbrev pub treed : App → App
+treed app = with_rule app (flag (codes "TREE") (codes "tree"))
+
+-- the command with flags that say how answers are shown: in columns, or in another way
+abbrev pub columned : App → App
+columned app = with_rule app (flag (codes "COLUMNS") (codes "columns"))
+
+abbrev pub shown : App → App
+shown app = with_rule (with_rule (columned app) (flag (codes "CSV") (codes "csv"))) (flag (codes "JSON") (codes "json"))
+
+-- the command with a flag that asks for a session
+abbrev pub held : App → App
+held app = with_rule app (flag (codes "INTERACTIVE") (codes "interactive"))
+
+-- the command with a flag that asks for stores in SQLite, and with a folder for them
+abbrev pub in_sqlite : App → App
+in_sqlite app = with_rule app (flag (codes "SQLITE") (codes "sqlite"))
+
+abbrev pub stored : App → App
+stored app = with_rule (in_sqlite app) (option_argument (codes "DIR") (codes "dir"))
+
+-- the command with an option that says how often a statement is run again
+abbrev pub retried : App → App
+retried app = with_rule app (option_argument (codes "N") (codes "retry"))
+
+-- the command line's grammar: `fragdb solo`, `fragdb check CATALOG`, both with flags, `fragdb plan CATALOG STATEMENT`, `fragdb play` and `fragdb run`
+abbrev pub program : App
+program = record {
+  top = record (new_shape (codes "fragdb")) { has_version = true; subcommand_required = true };
+  subs = [];
+}
+
+abbrev pub usage : App
+usage =
+    with_subcommand (with_subcommand (with_subcommand (with_subcommand (with_subcommand program (stored (shown (held (explained (of_any_script (codes "solo")))))).top) (treed (explained (command_with (codes "check") (codes "CATALOG")))).top)
+    (treed (command_with_two (codes "plan") (codes "CATALOG") (codes "STATEMENT"))).top) (in_sqlite (of_script (codes "play"))).top) (retried (stored (of_script (codes "run")))).top
+
+-- an argument of this rule, of its own command alone
+pub record IsRule (rule : Rule) (arg : Arg) : Type 0 where
+  pub is : rule_of arg ≡ rule
+  pub own : arg.global ≡ false
+
+-- a command of this grammar, each argument of which is its own
+pub record IsCommand (app : App) (command : Command) : Type 0 where
+  pub is : app_of command ≡ app
+  pub own : (out-Command command).has_globals ≡ false
