@@ -1,5 +1,5 @@
 use Rattle.std.proofs.Common.{◌≡◌, length}
 use Rattle.fragdb.proofs.store_opener.plain_sites.Given as goal
 
-abbrev pub invariant-loop-_place : goal.invariant-loop-_place
-invariant-loop-_place l = length l.sites.items ≡ l._place
+abbrev pub invariant-loop-place : goal.invariant-loop-place
+invariant-loop-place l = length l.sites.items ≡ l._place
