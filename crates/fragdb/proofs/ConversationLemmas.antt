@@ -1,5 +1,5 @@
 -- Lemmas on the conversation of a session.
-use Rattle.std.proofs.Common.{◌≡◌, ◌++◌, ◌∷◌, ◌<◌, ◌+◌, ◌⊎◌, ℕ, List, [], IfOk, OnErr, OnOk, Result, Ok, Err, ap, ap₂, append-nil, append_assoc, false, get_or, inl, inr, length, map, refl, subst, sym, take, ◌∙◌, codes}
+use Rattle.std.proofs.Common.{◌≡◌, ◌++◌, ◌∷◌, ◌<◌, ◌+◌, ℕ, List, [], IfOk, OnErr, OnOk, Result, Ok, Err, ap, ap₂, append-nil, false, get_or, inl, inr, length, map, refl, sym, take, ◌∙◌, codes}
 use Rattle.std.specs.Borrow.{Bor}
 use Rattle.std.specs.List.{AllByRecursion}
 use Rattle.std.proofs.lemmas.Grind.{flat_map-append}

@@ -1,6 +1,6 @@
 -- Each letter that was sent stays counted, whatever is played.
 use Rattle.std.proofs.Common.{◌≡◌, ◌++◌, ◌∷◌, [], ◌+◌, ℕ, zero, suc, Bool, true, List, Option, None, Some, inl, inr, length, subst, sym, arith, append-nil, length-append, ◌∙◌}
-use Rattle.std.proofs.Math.ListN.{length-set, set}
+use Rattle.std.proofs.Math.ListN.{length-set}
 use Rattle.std.proofs.lemmas.Grind.{flat_map-append}
 use Rattle.std.proofs.lemmas.List.{length-map}
 use Rattle.catalog.specs.Catalogue.{Catalogue}

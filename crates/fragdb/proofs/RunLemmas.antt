@@ -1,13 +1,12 @@
 -- Lemmas on sessions at once.
-use Rattle.std.proofs.Common.{◌≡◌, ◌++◌, ◌∷◌, ◌<◌, ◌+◌, ◌⊎◌, ℕ, suc, Bool, List, [], IfOk, Option, Result, Ok, Err, ap, append_assoc, inl, inr, length, map, refl, slice_index_or, subst, sym, ◌∙◌, arith}
+use Rattle.std.proofs.Common.{◌≡◌, ◌∷◌, ◌<◌, ℕ, suc, Bool, List, [], IfOk, Option, Result, Ok, Err, inr, length, map, slice_index_or, subst, sym, arith}
 use Rattle.std.specs.Borrow.{Bor}
 use Rattle.std.specs.List.{AllZip}
 use Rattle.catalog.specs.Catalogue.{Catalogue, IsValidCatalogue}
 use Rattle.store.specs.DeskContent.{DeskContent}
 use Rattle.store.specs.SiteContent.{SiteContent}
-use Rattle.wire.specs.declared.fault.CallFault.{CallFault}
 use Rattle.fragdb.specs.declared.conversation.Conversation.{Conversation}
-use Rattle.fragdb.specs.Conversations.{AreHeld, AreOfParts, IsHeld}
+use Rattle.fragdb.specs.Conversations.{AreHeld, AreOfParts}
 use Rattle.fragdb.specs.declared.run.RunFault.{RunFault}
 use Rattle.fragdb.specs.declared.run.RunFault.TheVariants.{Closed, Program, Refused}
 use Rattle.fragdb.specs.CatalogFile.{IsCatalogueFile}

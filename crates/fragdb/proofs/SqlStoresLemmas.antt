@@ -17,10 +17,9 @@ use Rattle.sqlstore.specs.declared.desk.SqlDesk.{SqlDesk}
 use Rattle.sqlstore.specs.declared.site.SqlSite.{SqlSite}
 use Rattle.sqlstore.specs.Content.{has_leaf}
 use Rattle.sqlstore.specs.Desk.{IsSoundDesk, desk_kept}
-use Rattle.sqlstore.specs.Fresh as new_site
 use Rattle.sqlstore.specs.Site.{IsSound, kept_by}
 use Rattle.world.specs.Recovery.{HaveLeaves}
-use Rattle.world.specs.Start.{AreNew, KeepNothing, KeepsNothing}
+use Rattle.world.specs.Start.{AreNew, KeepsNothing}
 use Rattle.wire.specs.Opening as opening
 use Rattle.fragdb.specs.SqlStores.{AreNewSites, AreOfLeaves, IsNewDesk, IsNewSite}
 

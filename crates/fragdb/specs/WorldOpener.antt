@@ -1,5 +1,5 @@
 -- What a world is opened with.
-use Rattle.std.specs.Prelude.{◌≡◌, ◌⊎◌, List, []}
+use Rattle.std.specs.Prelude.{◌≡◌, ◌⊎◌, []}
 use Rattle.meaning.specs.Whole.{Relations}
 use Rattle.catalog.specs.Catalogue.{Catalogue}
 use Rattle.store.specs.declared.fault.StoreFault.{StoreFault}

@@ -5,7 +5,7 @@ use denote.Ref.{NamedLft}
 use denote.Param.{param}
 use denote.Param.Send.{IsSend, IsSync, sendable, arg_send, param_send}
 use denote.Param.SendFields.{declared_send}
-use Rattle.std.proofs.Common.{◌≡◌, arith, length, rules}
+use Rattle.std.proofs.Common.{◌≡◌, arith, length}
 use Rattle.std.proofs.Crossing
 use Rattle.store.specs.declared.desk_store.DeskStore
 use Rattle.wire.proofs.Sent.{session_send}

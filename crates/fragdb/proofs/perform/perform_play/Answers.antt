@@ -1,6 +1,5 @@
 use Rattle.std.proofs.Common.{IfErr, IfOk, IfSome, subst, sym}
-use Rattle.std.specs.Io.KnownBytes.{Keeps}
-use Rattle.fragdb.specs.Perform.{ComesTo, IsStopped, outcome_of_check}
+use Rattle.fragdb.specs.Perform.{ComesTo, outcome_of_check}
 use Rattle.fragdb.specs.Play.{IsUnplayed, PlaysFiles}
 use Rattle.fragdb.specs.Schedule.{world_over}
 use Rattle.fragdb.proofs.PerformLemmas.{came_idle, came_to, on_err, stopped_play}

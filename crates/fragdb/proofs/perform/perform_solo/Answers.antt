@@ -1,6 +1,5 @@
 use Rattle.std.proofs.Common.{IfErr, IfOk, IfSome, subst, sym}
-use Rattle.std.specs.Io.KnownBytes.{Keeps}
-use Rattle.fragdb.specs.Perform.{ComesTo, IsStopped, outcome_of_script}
+use Rattle.fragdb.specs.Perform.{ComesTo, outcome_of_script}
 use Rattle.fragdb.specs.Solo.{IsUnrun, RunsFiles}
 use Rattle.fragdb.proofs.PerformLemmas.{came_idle, came_to, on_err, stopped_script}
 use Rattle.fragdb.proofs.perform.perform_solo.Goals as goal

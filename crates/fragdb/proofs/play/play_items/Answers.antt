@@ -1,7 +1,7 @@
 use Rattle.std.proofs.Common.{◌≡◌, ◌++◌, ◌∷◌, [], ◌+◌, ℕ, List, take, string_bytes, true, is_ok, ap, refl, sym, subst, arith, rules, ◌∙◌}
 use Rattle.std.specs.FinMap as finite
 use Rattle.std.specs.Io.KnownBytes.{Appends}
-use Rattle.std.proofs.lemmas.List.{take_all, take_more}
+use Rattle.std.proofs.lemmas.List.{take_more}
 use Rattle.fragdb.specs.declared.play_items.Placed.{Placed}
 use Rattle.fragdb.specs.Play.{PlaysItems}
 use Rattle.fragdb.specs.Schedule.{HasRun, world_over}

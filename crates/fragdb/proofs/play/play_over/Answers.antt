@@ -1,12 +1,10 @@
-use Rattle.std.proofs.Common.{[], List, ap, subst, sym, ◌∙◌}
+use Rattle.std.proofs.Common.{subst, sym, ◌∙◌}
 use Rattle.catalog.specs.Catalogue.{Catalogue}
-use Rattle.world.specs.declared.event.Entry.{Entry}
-use Rattle.world.specs.declared.world.World.{World}
 use Rattle.catalog.specs.Relation.{catalogue_of}
 use Rattle.fragdb.specs.Play.{PlaysAll}
-use Rattle.fragdb.specs.Schedule.{HasRun, IsReached, stage_of, world_over}
+use Rattle.fragdb.specs.Schedule.{IsReached, world_over}
 use Rattle.fragdb.specs.WorldOpener.{IsOpenedOver}
-use Rattle.fragdb.proofs.PlayLemmas.{PlaysAll-weaker, has_run, stops_opening, stops_output}
+use Rattle.fragdb.proofs.PlayLemmas.{PlaysAll-weaker, has_run}
 use Rattle.fragdb.proofs.SoloLemmas.{Appends-kept}
 use Rattle.fragdb.proofs.play.play_over.Goals as goal
 

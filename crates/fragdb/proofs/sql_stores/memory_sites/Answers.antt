@@ -1,6 +1,6 @@
-use Rattle.std.proofs.Common.{◌≡◌, ◌++◌, ◌∷◌, [], ◌+◌, ℕ, arith, length, length-append, rules, subst, sym}
+use Rattle.std.proofs.Common.{◌≡◌, ◌++◌, ◌∷◌, [], ◌+◌, ℕ, arith, length, length-append, rules, subst}
 use Rattle.catalog.specs.Relation.{catalogue_of}
-use Rattle.fragdb.specs.SqlStores.{AreNewSites, IsNewSite}
+use Rattle.fragdb.specs.SqlStores.{IsNewSite}
 use Rattle.fragdb.proofs.SqlStoresLemmas.{and_one}
 use Rattle.fragdb.proofs.sql_stores.memory_sites.Goals as goal
 

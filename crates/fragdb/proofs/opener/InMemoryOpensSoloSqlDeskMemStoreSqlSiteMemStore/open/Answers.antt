@@ -1,6 +1,6 @@
-use Rattle.std.proofs.Common.{◌≡◌, [], ap, refl, subst, sym, ◌∙◌}
+use Rattle.std.proofs.Common.{◌≡◌, ap, refl, subst, sym, ◌∙◌}
 use Rattle.std.specs.FinMap as finite
-use Rattle.meaning.specs.Whole.{FitsSchema, Relations}
+use Rattle.meaning.specs.Whole.{FitsSchema}
 use Rattle.catalog.specs.FragmentLeaf.{schemas_of}
 use Rattle.catalog.specs.Relation.{catalogue_of}
 use Rattle.fragdb.specs.Origin.{New, no_rows}
