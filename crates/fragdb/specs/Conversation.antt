@@ -1,5 +1,5 @@
 -- What one session of a script says and hears.
-use Rattle.std.specs.Prelude.{◌≡◌, ◌⊎◌, ℕ, Bool, true, false, List, [], ◌∷◌, ◌++◌, codes, flat_map, map, Result, Ok, Err}
+use Rattle.std.specs.Prelude.{◌≡◌, ◌⊎◌, ℕ, Bool, true, false, IfErr, List, [], ◌∷◌, ◌++◌, codes, flat_map, map, Result, Ok, Err}
 use Rattle.std.specs.List.{AllByRecursion}
 use Rattle.history.specs.declared.told.Told.{Told}
 use Rattle.wire.specs.declared.fault.CallFault.{CallFault}
@@ -12,6 +12,10 @@ is_end call.Memory = true
 is_end (call.Store fault) = true
 is_end call.Closed = true
 is_end other = false
+
+-- a call fails only by such a fault
+abbrev pub FailsByEnd : {T : Type 0} → Result T CallFault → Type 0
+FailsByEnd result = IfErr result (λ fault. is_end fault ≡ true)
 
 -- a command, and what came of it: what was told, or why it wasn't done
 pub record Turn : Type 0 where

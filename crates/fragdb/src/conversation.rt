@@ -1,8 +1,8 @@
 //! What one session of a script says and hears.
 
-ghost use Rattle.std.specs.Prelude.{◌≡◌, ◌++◌, [], true, false, IfErr, IfOk, OnErr, OnOk, map, string_bytes};
+ghost use Rattle.std.specs.Prelude.{◌≡◌, ◌++◌, [], true, IfOk, OnErr, OnOk, map, string_bytes};
 ghost use Rattle.fragdb.specs.Conversation as spec;
-ghost use Rattle.fragdb.specs.Conversation.{AreSaid, IsConversation, IsEnding, Says, is_end};
+ghost use Rattle.fragdb.specs.Conversation.{AreSaid, FailsByEnd, IsConversation, IsEnding, Says};
 ghost use Rattle.wire.specs.Session.{AddsTold};
 
 use crate::progress::Watches;
@@ -54,7 +54,7 @@ pub fn converse<R: Wait + Clock, D: DeskStore, G, P: Watches>(
 ) -> Result<Conversation, CallFault>
     requires { session.told ≡ [] }
     ensures ok { IfOk result (λ held. IsConversation part.now.session.now (map (λ command. command.now) part.now.commands.items) held.told.items (string_bytes held.printed)) }
-    ensures end { IfErr result (λ fault. is_end fault ≡ true) }
+    ensures end { FailsByEnd result }
 {
     let mut session = session;
     let mut printed = String::new(alloc);
@@ -88,7 +88,7 @@ fn say_all<R: Wait + Clock, D: DeskStore, G, P: Watches>(
     requires none { session.old.told ≡ [] }
     requires nothing { string_bytes printed.old ≡ [] }
     ensures ok { OnOk result (AreSaid name.now (map (λ command. command.now) commands.now) session.new.told (string_bytes printed.new)) }
-    ensures end { IfErr result (λ fault. is_end fault ≡ true) }
+    ensures end { FailsByEnd result }
 {
     let mut retries: u64 = 0;
     for command in commands {
@@ -109,7 +109,7 @@ fn say<R: Wait + Clock, D: DeskStore, G, P: Watches>(
     printed: &mut String,
 ) -> Result<u32, CallFault>
     ensures ok { OnOk result (Says name.now command.now session.old.told session.new.told (string_bytes printed.old) (string_bytes printed.new)) }
-    ensures end { IfErr result (λ fault. is_end fault ≡ true) }
+    ensures end { FailsByEnd result }
 {
     let is_lone = !session.is_open();
     let Came { reply, retries } = ask(rt, manner.retry, session, command);
@@ -167,7 +167,7 @@ fn roll_back<R: Wait, D: DeskStore, G>(
     session: &mut Session<'_, D, G>,
 ) -> Result<(), CallFault>
     ensures ok { OnOk result ((ending : _) × IsEnding ending × (session.new.told ≡ session.old.told ++ ending)) }
-    ensures end { IfErr result (λ fault. is_end fault ≡ true) }
+    ensures end { FailsByEnd result }
 {
     if !session.is_open() {
         return Ok(());
@@ -178,7 +178,7 @@ fn roll_back<R: Wait, D: DeskStore, G>(
 
 /// The fault after which the script isn't run on, if there is one.
 fn unless_ended(reply: &Result<Reply, CallFault>) -> Result<(), CallFault>
-    ensures { IfErr result (λ fault. is_end fault ≡ true) }
+    ensures { FailsByEnd result }
 {
     match reply {
         Err(fault) if is_end(fault) => Err(*fault),

@@ -1,7 +1,7 @@
 //! Sessions at once, each in a thread of its own.
 
-ghost use Rattle.std.specs.Prelude.{◌≡◌, [], true, IfErr, IfOk, Ok, map};
-ghost use Rattle.fragdb.specs.Conversation.{is_end};
+ghost use Rattle.std.specs.Prelude.{◌≡◌, [], true, IfOk, Ok, map};
+ghost use Rattle.fragdb.specs.Conversation.{FailsByEnd, is_end};
 ghost use Rattle.fragdb.specs.Conversations.{AreHeld, AreOfParts, IsHeld};
 ghost use Rattle.fragdb.specs.RunScript.{part_of};
 
@@ -44,7 +44,7 @@ where
     G: Gate + Send + Sync + Drop + 'static,
     P: Watches + Sync,
     ensures ok { IfOk result (λ held. AreOfParts (map part_of parts.now) held.items) }
-    ensures end { IfErr result (λ fault. is_end fault ≡ true) }
+    ensures end { FailsByEnd result }
 {
     let seats = seats(rt, alloc, database, parts)?;
     let held = take_seats(rt, alloc, manner, seats)?;
@@ -112,7 +112,7 @@ fn all_of(
     held: Vec<Result<Conversation, CallFault>>,
 ) -> Result<Vec<Conversation>, CallFault>
     ensures ok { IfOk result (λ all. held.items ≡ map Ok all.items) }
-    ensures end { IfErr result (λ fault. is_end fault ≡ true) }
+    ensures end { FailsByEnd result }
 {
     let mut all = Vec::new(alloc);
     for one in held {

@@ -21,7 +21,7 @@ pub struct SiteFound {
     pub in_doubt: Vec<Txn>,
 }
 
-/// What a site's tables have. Their rows stay where they are.
+/// What a site's tables have. Their rows stay where they are. It is for a person's eyes, so no clause says it.
 pub fn site_found<M: Alter + Drop>(
     alloc: Global,
     mut conn: Connection<M>,
@@ -39,7 +39,7 @@ pub fn site_found<M: Alter + Drop>(
     })
 }
 
-/// The transactions whose commit rows a coordinator's table has.
+/// The transactions whose commit rows a coordinator's table has, for a person's eyes as well.
 pub fn decided<M: Alter + Drop>(alloc: Global, mut conn: Connection<M>) -> Result<Vec<Txn>, Error> {
     txns_of(
         alloc,

@@ -105,7 +105,8 @@ pub struct Folder<'f, F> {
 }
 
 impl<'f, F> Folder<'f, F> {
-    /// Those of this folder, over the catalogue of a file, or the built-in one.
+    /// Those of this folder, over the catalogue of a file, or the built-in one. What lies in a folder no contract can say, so none
+    /// says which one this is.
     pub fn new(
         rt: &'f HostRuntime,
         files: &'f F,

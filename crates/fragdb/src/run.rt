@@ -1,7 +1,7 @@
 //! The command `run`: a script of many sessions, which are at work at once.
 
-ghost use Rattle.std.specs.Prelude.{◌≡◌, ◌≤◌, Err, IfErr, IfOk, IfSome, OnOk, length, map, string_bytes};
-ghost use Rattle.std.specs.Io.KnownBytes.{Appends, Keeps};
+ghost use Rattle.std.specs.Prelude.{◌≡◌, ◌≤◌, Err, IfErr, IfOk, IfSome, length, map, string_bytes};
+ghost use Rattle.std.specs.Io.KnownBytes.{Keeps};
 ghost use Rattle.catalog.specs.Relation.{catalogue_of};
 ghost use Rattle.history.specs.Records.{AreRecords};
 ghost use Rattle.wire.specs.Opening.{HaveLeaves};
@@ -9,7 +9,6 @@ ghost use Rattle.fragdb.specs.Client.{IsOfClient};
 ghost use Rattle.fragdb.specs.Conversations.{AreOfParts};
 ghost use Rattle.fragdb.specs.Perform.{ComesTo, IsUnread};
 ghost use Rattle.fragdb.specs.Run.{HasRun, HasWritten, IsUnrun, RunsFiles, RunsScript, StopsRun, StopsSessions, outcome_of};
-ghost use Rattle.fragdb.specs.Input.{IsOfOutput};
 ghost use Rattle.fragdb.specs.RunScript.{part_of};
 ghost use Rattle.fragdb.specs.Solo.{longest};
 
@@ -26,6 +25,7 @@ use crate::run_script::{Part, parts};
 use crate::solo::read_script;
 use crate::sql_stores::OpenStores;
 use crate::store_opener::OpensStores;
+use crate::written::write_text;
 use catalog::catalogue::Catalog;
 use catalog::fault::CatFault;
 use history::records::Records;
@@ -268,7 +268,7 @@ fn run_parts<
         // Where the standard error is closed nobody can be told.
         let _ = writeln!(errors, "fragdb: {retries} retries");
     }
-    write_printed(output, printed.as_str())?;
+    write_text(output, printed.as_str())?;
     Ok(is_woven)
 }
 
@@ -278,19 +278,6 @@ fn commands_in(parts: &[Part<'_>]) -> usize {
         0,
         |all: usize, part| all.saturating_add(part.commands.len()),
     )
-}
-
-/// Writes what is printed, and flushes it.
-fn write_printed<'a, W: Write>(output: &mut W, printed: &str) -> Result<(), ProgramFault<'a>>
-    ensures ok { OnOk result (Appends (W.contents output.old) (W.contents output.new) printed.now) }
-    ensures err { IfErr result IsOfOutput }
-{
-    output
-        .write_all(printed.as_bytes())
-        .map_err(|error| ProgramFault::writing(&error))?;
-    output
-        .flush()
-        .map_err(|error| ProgramFault::writing(&error))
 }
 
 /// Runs the parts over a database of these stores, which is closed then.

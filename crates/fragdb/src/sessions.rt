@@ -18,7 +18,8 @@ use std::{fs, io};
 use store::desk_store::DeskStore;
 use store::site_store::SiteStore;
 
-/// Runs the sessions of a script over the stores that they ask for, and tells what it came to.
+/// Runs the sessions of a script over the stores that they ask for, and tells what it came to. What files hold no contract can
+/// say; over readers and writers `run_files` says what is done.
 pub fn do_run<H: Threads + Wait + Clock + Copy + Send + Sync + 'static, W: Write, E: Write>(
     rt: &HostRuntime,
     threads: &H,

@@ -93,7 +93,7 @@ pub struct Files<'f> {
 }
 
 impl<'f> Files<'f> {
-    /// Those that a program reaches.
+    /// Those that a program reaches. What files hold no contract can say.
     pub fn new(rt: &'f HostRuntime) -> Files<'f> {
         Files { rt }
     }
