@@ -17,7 +17,6 @@ use Rattle.meaning.specs.declared.answer.Answer.{Answer}
 use Rattle.meaning.specs.declared.answer.Answer.TheVariants as answer
 use Rattle.meaning.specs.declared.statement.Statement.TheVariants as statement
 use Rattle.meaning.specs.declared.statement.Join.{Join}
-use Rattle.meaning.specs.declared.statement.Source.{Source}
 use Rattle.meaning.specs.declared.statement.Select.{Select}
 use Rattle.meaning.specs.declared.statement.Insert.{Insert}
 use Rattle.meaning.specs.declared.statement.Update.{Update}
@@ -25,7 +24,7 @@ use Rattle.meaning.specs.Laws.{IsSelectByKey, InsertedIsSelected, DeletedAreGone
 use Rattle.meaning.specs.Listed.{listed}
 use Rattle.meaning.specs.Meaning.{meaning, select_answer, with_changed}
 use Rattle.meaning.specs.Relation.{has_key, insert_row}
-use Rattle.meaning.specs.Selected.{paired, joined, rows_read, selected, names_read}
+use Rattle.meaning.specs.Selected.{paired, joined, rows_joined, rows_read, selected, names_read}
 use Rattle.meaning.specs.Updated.{updated}
 use Rattle.meaning.specs.Whole.{Relations, rows_of, replaced}
 use Rattle.meaning.proofs.Changed.{updated_keeps_keys}
@@ -125,16 +124,19 @@ joined_adds_no_row col others (row ∷ rows) =
       | Some pair ↦ omega arith
     ]
 
-read_adds_no_row : (from : Source) (join : Option Join) (whole : Relations) → length (rows_read from join whole) ≤ length (rows_of whole from.name)
-read_adds_no_row from None whole = omega arith
-read_adds_no_row from (Some join) whole = joined_adds_no_row join.col (rows_of whole join.relation.name) (rows_of whole from.name)
+read_adds_no_row : (whole : Relations) (joins : List Join) (rows : List (List Value)) → length (rows_joined whole joins rows) ≤ length rows
+read_adds_no_row whole [] rows = omega arith
+read_adds_no_row whole (join ∷ joins) rows =
+    let one = joined_adds_no_row join.col (rows_of whole join.relation.name) rows in
+    let rest = read_adds_no_row whole joins (joined join.col (rows_of whole join.relation.name) rows) in
+    omega arith
 
 pub select_adds_no_row : SelectAddsNoRow
 select_adds_no_row select whole header rows is =
-    let read = rows_read select.from select.join whole in
+    let read = rows_read select.from select.joins whole in
     let same : selected select read ≡ rows = cc in
     let cut = length-map (filter (conds_hold select.conds) read) (listed select.columns) in
-    let few = read_adds_no_row select.from select.join whole in
+    let few = read_adds_no_row whole select.joins (rows_of whole select.from.name) in
     let passed = length-filter_both (conds_hold select.conds) (λ r. not (conds_hold select.conds r)) (λ r. refl) read in
     omega (arith, ap length same)
 
@@ -218,7 +220,7 @@ inserted_is_selected insert select whole key values row_is absent is =
     let gone : has_key (key_of insert.row) rows ≡ false = ap (λ r. has_key (key_of r) rows) row_is ∙ absent in
     let own : conds_hold (key_is key) insert.row ≡ true = ap (conds_hold (key_is key)) row_is ∙ own_key key values in
     let stored = ap (λ t. (cond {A = Answer × Relations} t (answer.Exists, whole) (answer.Changed 1, after)).1) gone in
-    let read : rows_read select.from select.join after ≡ new = ap (λ j. rows_read select.from j after) is.alone ∙ ap (rows_of after) is.relation ∙ rows_put whole insert.into new in
+    let read : rows_read select.from select.joins after ≡ new = ap (λ j. rows_read select.from j after) is.alone ∙ ap (rows_of after) is.relation ∙ rows_put whole insert.into new in
     let names = ap (λ j. listed select.columns (names_read select.from j)) is.alone in
-    let found : selected select (rows_read select.from select.join after) ≡ insert.row ∷ [] = ap (selected select) read ∙ selected_by_key select insert.into key insert.row rows is own absent in
-    ap (select_answer select) stored ∙ ap (λ header. answer.Rows header (selected select (rows_read select.from select.join after))) names ∙ ap (answer.Rows (listed select.columns select.from.columns)) found
+    let found : selected select (rows_read select.from select.joins after) ≡ insert.row ∷ [] = ap (selected select) read ∙ selected_by_key select insert.into key insert.row rows is own absent in
+    ap (select_answer select) stored ∙ ap (λ header. answer.Rows header (selected select (rows_read select.from select.joins after))) names ∙ ap (answer.Rows (listed select.columns select.from.columns)) found

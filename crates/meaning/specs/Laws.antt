@@ -1,6 +1,6 @@
 -- Laws: what follows from the meaning, in the words of its user.
-use Rattle.std.specs.Prelude.{◌≡◌, ◌↔◌, ◌≤◌, ◌⊎◌, ℕ, ℤ, List, [], ◌∷◌, Some, None, false, map, length}
-use Rattle.std.specs.List.{Contains, range_with_len}
+use Rattle.std.specs.Prelude.{◌≡◌, ◌↔◌, ◌≤◌, ◌<◌, ◌+◌, ◌⊎◌, ℕ, ℤ, List, [], ◌∷◌, ◌++◌, Some, None, false, map, take, drop, length}
+use Rattle.std.specs.List.{AllByRecursion, Contains, range_with_len, slice_get}
 use Rattle.terms.specs.declared.cond.Cmp.TheVariants.{Eq}
 use Rattle.terms.specs.declared.value.Value.{Value}
 use Rattle.terms.specs.declared.value.Value.TheVariants.{Int}
@@ -9,20 +9,22 @@ use Rattle.terms.specs.Row.{key_of}
 use Rattle.meaning.specs.declared.answer.Answer.TheVariants as answer
 use Rattle.meaning.specs.declared.statement.Statement.{Statement}
 use Rattle.meaning.specs.declared.statement.Statement.TheVariants as statement
+use Rattle.meaning.specs.declared.statement.Join.{Join}
 use Rattle.meaning.specs.declared.statement.Select.{Select}
+use Rattle.meaning.specs.declared.statement.Source.{Source}
 use Rattle.meaning.specs.declared.statement.Insert.{Insert}
 use Rattle.meaning.specs.declared.statement.Update.{Update}
 use Rattle.meaning.specs.declared.statement.Delete.{Delete}
 use Rattle.meaning.specs.Listed.{listed}
 use Rattle.meaning.specs.Meaning.{meaning}
 use Rattle.meaning.specs.Relation.{Ascends, has_key}
-use Rattle.meaning.specs.Selected.{partner}
+use Rattle.meaning.specs.Selected.{joined, partner, rows_joined, rows_read}
 use Rattle.meaning.specs.Whole.{Relations, rows_of}
 
 -- a SELECT of all columns of a relation, on the one condition that the key is this integer
 pub record IsSelectByKey (select : Select) (name : List ℕ) (width : ℕ) (key : ℤ) : Type 0 where
   pub relation : select.from.name ≡ name
-  pub alone : select.join ≡ None
+  pub alone : select.joins ≡ []
   pub columns : select.columns ≡ range_with_len 0 width
   pub cond : select.conds ≡ record { col = 0; cmp = Eq; value = Int key } ∷ []
 
@@ -44,11 +46,32 @@ abbrev pub UpdateKeepsKeys : Type 0
 UpdateKeepsKeys = (update : Update) (whole : Relations) (name : List ℕ)
     → map key_of (rows_of (meaning (statement.Update update) whole).1 name) ≡ map key_of (rows_of whole name)
 
--- a SELECT answers at most one row for each row after FROM, with a JOIN too
+-- a SELECT answers at most one row for each row after FROM, with JOINs too
 abbrev pub SelectAddsNoRow : Type 0
 SelectAddsNoRow = (select : Select) (whole : Relations) (header : List (List ℕ)) (rows : List (List Value))
     → (meaning (statement.Select select) whole).0 ≡ answer.Rows header rows
     → length rows ≤ length (rows_of whole select.from.name)
+
+-- the rows that a SELECT reads ascend by the keys of those after FROM, with JOINs too
+abbrev pub ReadsInOrder : Type 0
+ReadsInOrder = (from : Source) (joins : List Join) (whole : Relations) → Ascends (rows_of whole from.name) → Ascends (rows_read from joins whole)
+
+-- a JOIN drops a row whose column has no key of the joined relation
+abbrev pub UnmatchedIsDropped : Type 0
+UnmatchedIsDropped = (col : ℕ) (others rows : List (List Value)) (row : List Value) → partner others (slice_get row col) ≡ None → joined col others (row ∷ rows) ≡ joined col others rows
+
+-- a row whose columns behind some change places: behind the first so many columns some stand, and then the others
+abbrev pub turned : ℕ → ℕ → List Value → List Value
+turned width count row = take width row ++ (drop (width + count) row ++ take count (drop width row))
+
+-- two JOINs by columns of the rows before both may come in either order: but for the order of their columns they read the same rows
+abbrev pub JoinsMayTurn : Type 0
+JoinsMayTurn = (whole : Relations) (one other : Join) (width count more : ℕ) (rows : List (List Value))
+    → AllByRecursion (λ row. length row ≡ width) rows
+    → AllByRecursion (λ row. length row ≡ count) (rows_of whole one.relation.name)
+    → AllByRecursion (λ row. length row ≡ more) (rows_of whole other.relation.name)
+    → one.col < width → other.col < width
+    → rows_joined whole (one ∷ other ∷ []) rows ≡ map (turned width more) (rows_joined whole (other ∷ one ∷ []) rows)
 
 -- among ascending rows the partner by a key is the row with that key
 abbrev pub PartnerHasKey : Type 0

@@ -21,7 +21,7 @@ use Rattle.meaning.specs.Updated.{updated}
 -- the listed columns of the rows read that meet all conditions, under the columns' names
 abbrev pub select_answer : Select → Relations → Answer
 select_answer select whole =
-    answer.Rows (listed select.columns (names_read select.from select.join)) (selected select (rows_read select.from select.join whole))
+    answer.Rows (listed select.columns (names_read select.from select.joins)) (selected select (rows_read select.from select.joins whole))
 
 -- one row more, unless its key is there
 abbrev pub after_insert : Insert → Relations → Answer × Relations

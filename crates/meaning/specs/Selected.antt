@@ -1,5 +1,5 @@
 -- What a SELECT reads, and what it keeps of that.
-use Rattle.std.specs.Prelude.{ℕ, List, ◌∷◌, ◌++◌, Option, Some, None, map, filter, find}
+use Rattle.std.specs.Prelude.{ℕ, List, [], ◌∷◌, ◌++◌, Option, Some, None, map, filter, find, flat_map}
 use Rattle.std.specs.List.{filter_map, slice_get}
 use Rattle.std.specs.Option.{option_map}
 use Rattle.std.specs.Ordering.{int_eq}
@@ -17,10 +17,13 @@ use Rattle.meaning.specs.Whole.{Relations, rows_of}
 abbrev pub qualified : Source → List (List ℕ)
 qualified source = map (λ column. source.name ++ 46 ∷ column) source.columns
 
--- the names of the columns that a SELECT reads: in a join those of both relations, qualified
-abbrev pub names_read : Source → Option Join → List (List ℕ)
-names_read from None = from.columns
-names_read from (Some join) = qualified from ++ qualified join.relation
+-- the names of the columns that a SELECT reads: with joins those of all its relations, qualified
+abbrev pub names_joined : Source → List Join → List (List ℕ)
+names_joined from joins = qualified from ++ flat_map (λ join. qualified join.relation) joins
+
+abbrev pub names_read : Source → List Join → List (List ℕ)
+names_read from [] = from.columns
+names_read from (join ∷ joins) = names_joined from (join ∷ joins)
 
 -- the first row whose key is the value; none for a text, or where there is no value
 abbrev pub partner : List (List Value) → Option Value → Option (List Value)
@@ -36,10 +39,14 @@ paired col others row = option_map (λ other. row ++ other) (partner others (sli
 abbrev pub joined : ℕ → List (List Value) → List (List Value) → List (List Value)
 joined col others rows = filter_map (paired col others) rows
 
+-- rows joined with one relation after another
+abbrev pub rows_joined : Relations → List Join → List (List Value) → List (List Value)
+rows_joined whole [] rows = rows
+rows_joined whole (join ∷ joins) rows = rows_joined whole joins (joined join.col (rows_of whole join.relation.name) rows)
+
 -- the rows that a SELECT reads
-abbrev pub rows_read : Source → Option Join → Relations → List (List Value)
-rows_read from None whole = rows_of whole from.name
-rows_read from (Some join) whole = joined join.col (rows_of whole join.relation.name) (rows_of whole from.name)
+abbrev pub rows_read : Source → List Join → Relations → List (List Value)
+rows_read from joins whole = rows_joined whole joins (rows_of whole from.name)
 
 -- the rows that meet all conditions, cut to the listed columns; equal rows stay
 abbrev pub selected : Select → List (List Value) → List (List Value)

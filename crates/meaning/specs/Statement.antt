@@ -1,5 +1,5 @@
 -- Which statements fit a schema.
-use Rattle.std.specs.Prelude.{◌≡◌, ◌≢◌, ◌≤◌, ◌<◌, neg_ℤ, pos, ◌≤ℤ◌, List, [], ◌∷◌, ◌++◌, Option, Some, None, length}
+use Rattle.std.specs.Prelude.{◌≡◌, ◌≢◌, ℕ, ◌≤◌, ◌<◌, neg_ℤ, pos, ◌≤ℤ◌, List, [], ◌∷◌, ◌++◌, Some, length}
 use Rattle.std.specs.List.{AllByRecursion, slice_get}
 use Rattle.terms.specs.declared.value.Kind.{Kind}
 use Rattle.terms.specs.declared.value.Kind.TheVariants as kinds
@@ -19,33 +19,34 @@ use Rattle.meaning.specs.declared.statement.Update.{Update}
 use Rattle.meaning.specs.declared.statement.Delete.{Delete}
 use Rattle.meaning.specs.Schema.{relation_named, kinds_of, names_of}
 
--- A join of the schema: another relation, there under its name, with its columns' names and an integer key;
--- the column after FROM is an integer too. What is joined has columns of these types.
-pub record IsJoinOf (schema : List RelationSchema) (relation : RelationSchema) (join : Join) (joined : List Kind) : Type 0 where
-  pub other : RelationSchema
+-- A join of the schema, behind relations of these names and columns of these types: another relation, there under its
+-- name, with its columns' names and an integer key; the column that the key is compared with is an integer too.
+pub record IsJoinOf (schema : List RelationSchema) (earlier : List (List ℕ)) (before : List Kind) (join : Join) (other : RelationSchema) : Type 0 where
   pub there : relation_named join.relation.name schema ≡ Some other
-  pub another : other.name ≢ relation.name
+  pub another : AllByRecursion (λ name. other.name ≢ name) earlier
   pub names : join.relation.columns ≡ names_of other
-  pub types : joined ≡ kinds_of other
-  pub key : slice_get joined 0 ≡ Some kinds.Int
-  pub column : slice_get (kinds_of relation) join.col ≡ Some kinds.Int
+  pub key : slice_get (kinds_of other) 0 ≡ Some kinds.Int
+  pub column : slice_get before join.col ≡ Some kinds.Int
 
-abbrev pub MayJoin : List RelationSchema → RelationSchema → Option Join → List Kind → Type 0
-MayJoin schema relation None joined = joined ≡ []
-MayJoin schema relation (Some join) joined = IsJoinOf schema relation join joined
+-- joins of the schema, one after another, and the types of all columns
+abbrev pub AreJoinsOf : List RelationSchema → List (List ℕ) → List Kind → List Join → List Kind → Type 0
+AreJoinsOf schema earlier before [] all = all ≡ before
+AreJoinsOf schema earlier before (join ∷ joins) all =
+    (other : RelationSchema) × IsJoinOf schema earlier before join other × AreJoinsOf schema (earlier ++ other.name ∷ []) (before ++ kinds_of other) joins all
 
--- A SELECT of the schema: its relation is there under its name, with its columns' names, and so is the joined
--- one, if there is one; the listed columns are theirs, and so are those of the conditions, which fit them.
+-- A SELECT of the schema: its relation is there under its name, with its columns' names, and so are the joined
+-- ones, at most two; the listed columns are theirs, and so are those of the conditions, which fit them.
 pub record IsSelectOf (schema : List RelationSchema) (select : Select) : Type 0 where
   pub relation : RelationSchema
-  pub joined : List Kind
+  pub types : List Kind
   pub there : relation_named select.from.name schema ≡ Some relation
   pub names : select.from.columns ≡ names_of relation
-  pub joins : MayJoin schema relation select.join joined
+  pub few_joins : length select.joins ≤ 2
+  pub joins : AreJoinsOf schema (relation.name ∷ []) (kinds_of relation) select.joins types
   pub few_columns : length select.columns ≤ 32
-  pub columns : AllByRecursion (λ column. column < length (kinds_of relation ++ joined)) select.columns
+  pub columns : AllByRecursion (λ column. column < length types) select.columns
   pub few_conds : length select.conds ≤ 8
-  pub conds : AllByRecursion (IsCondOf (kinds_of relation ++ joined)) select.conds
+  pub conds : AllByRecursion (IsCondOf types) select.conds
 
 -- an INSERT of the schema: its relation is there, and its row fits the relation's columns
 pub record IsInsertOf (schema : List RelationSchema) (insert : Insert) : Type 0 where

@@ -1,6 +1,6 @@
 //! Laws of the meaning. Each function does nothing: a call of it gives its caller the law.
 
-ghost use Rattle.meaning.specs.Laws.{InsertedIsSelected, DeletedAreGone, UpdateKeepsKeys, SelectAddsNoRow, PartnerHasKey, SelectChangesNothing, RefusalChangesNothing};
+ghost use Rattle.meaning.specs.Laws.{InsertedIsSelected, DeletedAreGone, UpdateKeepsKeys, SelectAddsNoRow, ReadsInOrder, UnmatchedIsDropped, JoinsMayTurn, PartnerHasKey, SelectChangesNothing, RefusalChangesNothing};
 
 /// After an INSERT whose key was not there, a SELECT by that key answers the row and nothing else.
 pub fn inserted_is_selected()
@@ -17,9 +17,24 @@ pub fn update_keeps_keys()
     ensures { UpdateKeepsKeys }
 {}
 
-/// A SELECT, with a JOIN too, answers at most one row for each row after FROM.
+/// A SELECT, with JOINs too, answers at most one row for each row after FROM.
 pub fn select_adds_no_row()
     ensures { SelectAddsNoRow }
+{}
+
+/// A SELECT, with JOINs too, reads rows in the order of the keys after FROM.
+pub fn reads_in_order()
+    ensures { ReadsInOrder }
+{}
+
+/// A JOIN drops a row whose column has no key of the joined relation.
+pub fn unmatched_is_dropped()
+    ensures { UnmatchedIsDropped }
+{}
+
+/// Two JOINs by columns of the relation after FROM may come in either order.
+pub fn joins_may_turn()
+    ensures { JoinsMayTurn }
 {}
 
 /// The row that a JOIN finds by a key is the one row with that key.

@@ -8,11 +8,11 @@ ghost use Rattle.terms.specs.Row.{key_of};
 ghost use Rattle.meaning.specs.declared.answer.Answer.TheVariants.{Rows};
 ghost use Rattle.meaning.specs.Listed.{listed};
 ghost use Rattle.meaning.specs.Meaning.{select_answer};
-ghost use Rattle.meaning.specs.Selected.{names_read, qualified, partner, paired, joined, selected};
+ghost use Rattle.meaning.specs.Selected.{names_joined, names_read, qualified, partner, paired, joined, rows_joined, selected};
 
 use crate::answer::Answer;
 use crate::listed::listed;
-use crate::statement::{Select, Source};
+use crate::statement::{Join, Select, Source};
 use crate::whole::Whole;
 use std::alloc::Global;
 use terms::copy::{TryCopy, copy_all};
@@ -27,15 +27,14 @@ pub fn run_select(alloc: Global, whole: &Whole, select: &Select) -> Result<Answe
     ensures { IfOk result (λ answer. answer ≡ select_answer select.now whole.now) }
 {
     let rows = whole.rows(&select.from.name);
-    match &select.join {
-        None => table(alloc, select, select.from.columns.as_slice(), rows),
-        Some(join) => {
-            let names = joined_names(alloc, &select.from, &join.relation)?;
-            let others = whole.rows(&join.relation.name);
-            let pairs = joined(alloc, join.col, others, rows)?;
-            table(alloc, select, names.as_slice(), pairs.as_slice())
-        }
-    }
+    let joins = select.joins.as_slice();
+    let Some((first, others)) = joins.split_first() else {
+        return table(alloc, select, select.from.columns.as_slice(), rows);
+    };
+    let names = joined_names(alloc, &select.from, joins)?;
+    let pairs = joined(alloc, first.col, whole.rows(&first.relation.name), rows)?;
+    let rows = joined_on(alloc, whole, others, pairs)?;
+    table(alloc, select, names.as_slice(), rows.as_slice())
 }
 
 /// The answer of a SELECT that reads rows with columns of these names.
@@ -63,28 +62,26 @@ pub fn selected(alloc: Global, select: &Select, rows: &[Row]) -> Result<Vec<Row>
 
 /// The names of the columns that a SELECT lists.
 pub fn header(alloc: Global, select: &Select) -> Result<Vec<Text>, Memory>
-    ensures { IfOk result (λ names. names.items ≡ listed select.now.columns (names_read select.now.from select.now.join)) }
+    ensures { IfOk result (λ names. names.items ≡ listed select.now.columns (names_read select.now.from select.now.joins)) }
 {
-    match &select.join {
-        None => listed(
-            alloc,
-            select.columns.as_slice(),
-            select.from.columns.as_slice(),
-        ),
-        Some(join) => {
-            let names = joined_names(alloc, &select.from, &join.relation)?;
-            listed(alloc, select.columns.as_slice(), names.as_slice())
-        }
+    let joins = select.joins.as_slice();
+    if joins.is_empty() {
+        let names = select.from.columns.as_slice();
+        return listed(alloc, select.columns.as_slice(), names);
     }
+    let names = joined_names(alloc, &select.from, joins)?;
+    listed(alloc, select.columns.as_slice(), names.as_slice())
 }
 
-/// The names of the columns of two relations, qualified.
-fn joined_names(alloc: Global, from: &Source, other: &Source) -> Result<Vec<Text>, Memory>
-    ensures { IfOk result (λ names. names.items ≡ qualified from.now ++ qualified other.now) }
+/// The names of the columns of joined relations, qualified.
+fn joined_names(alloc: Global, from: &Source, joins: &[Join]) -> Result<Vec<Text>, Memory>
+    ensures { IfOk result (λ names. names.items ≡ names_joined from.now joins.now) }
 {
     let mut names = Vec::new(alloc);
     add_qualified(alloc, &mut names, from)?;
-    add_qualified(alloc, &mut names, other)?;
+    for join in joins {
+        add_qualified(alloc, &mut names, &join.relation)?;
+    }
     Ok(names)
 }
 
@@ -106,6 +103,23 @@ fn qualified_name(alloc: Global, relation: &Text, column: &Text) -> Result<Text,
     name.push('.')?;
     name.push_str(column.as_str())?;
     Ok(Text::new(name))
+}
+
+/// Rows joined with one relation after another.
+fn joined_on(
+    alloc: Global,
+    whole: &Whole,
+    joins: &[Join],
+    rows: Vec<Row>,
+) -> Result<Vec<Row>, Memory>
+    ensures { IfOk result (λ all. all.items ≡ rows_joined whole.now joins.now rows.items) }
+{
+    let mut all = rows;
+    for join in joins {
+        let others = whole.rows(&join.relation.name);
+        all = joined(alloc, join.col, others, all.as_slice())?;
+    }
+    Ok(all)
 }
 
 /// Each row followed by its partner among the others. Rows without one are dropped.

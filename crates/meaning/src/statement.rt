@@ -26,20 +26,21 @@ pub struct Source {
     pub columns: Seq<Text>,
 }
 
-/// A join by the key of a second relation, which is compared with a column of the relation after FROM.
+/// A join by the key of a further relation, which is compared with a column of those before it.
 #[derive(Debug, Drop)]
 pub struct Join {
     pub relation: Source,
-    /// The column of the relation after FROM, counted from 0.
+    /// A column of the relations before it, counted on from 0 through all of them.
     pub col: usize,
 }
 
-/// `SELECT`: the listed columns of the rows that meet all conditions. In a join the columns of the
-/// second relation are counted on from those of the first.
+/// `SELECT`: the listed columns of the rows that meet all conditions. In a join the columns of each
+/// relation are counted on from those before it.
 #[derive(Debug, Drop)]
 pub struct Select {
     pub from: Source,
-    pub join: Option<Join>,
+    /// The joins, each after those that its column may be of.
+    pub joins: Seq<Join>,
     /// Columns counted from 0, in the order of the list.
     pub columns: Seq<usize>,
     pub conds: Conds,
@@ -115,14 +116,11 @@ impl TryCopy for Join {
 impl TryCopy for Select {
     fn copy(&self) -> Result<Select, Memory> {
         let from = self.from.copy()?;
-        let join = match &self.join {
-            Some(join) => Some(join.copy()?),
-            None => None,
-        };
+        let joins = self.joins.copy()?;
         let columns = self.columns.copy()?;
         Ok(Select {
             from,
-            join,
+            joins,
             columns,
             conds: self.conds.copy()?,
         })
