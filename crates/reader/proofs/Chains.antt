@@ -1,5 +1,5 @@
 -- Chains of steps, each of which may give nothing.
-use Rattle.std.proofs.Common.{◌≡◌, Bool, true, false, cond, Option, Some, None, option_and_then, option_map, inl, inr, refl, ◌⊎◌}
+use Rattle.std.proofs.Common.{◌≡◌, Bool, true, false, cond, List, [], ◌∷◌, Option, Some, None, option_and_then, option_map, refl}
 use Rattle.reader.specs.Scope.{only_one}
 
 -- what a choice gives where its other side gives nothing
@@ -21,11 +21,11 @@ pub mapped_step : {A B : Type 0} (view : A → B) (o : Option A) (y : B) → opt
 mapped_step view None y is = cc
 mapped_step view (Some x) y is = (x, refl, cc)
 
--- the only one of two is one of them
-pub only_part : {A : Type 0} (one other : Option A) (x : A) → only_one one other ≡ Some x → (one ≡ Some x) ⊎ (other ≡ Some x)
-only_part None other x is = inr is
-only_part (Some y) None x is = inl is
-only_part (Some y) (Some z) x is = cc
+-- the only one of a list is all of it
+pub only_part : {A : Type 0} (xs : List A) (x : A) → only_one xs ≡ Some x → xs ≡ x ∷ []
+only_part [] x is = cc
+only_part (y ∷ []) x is = cc
+only_part (y ∷ z ∷ xs) x is = cc
 
 -- a limit on top of nothing
 pub limited : {A : Type 0} (test : Bool) (x : Option A) → x ≡ None → cond test x None ≡ None

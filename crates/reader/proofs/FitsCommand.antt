@@ -1,8 +1,8 @@
 -- What a text means fits the schema: statements and commands.
-use Rattle.std.proofs.Common.{◌≡◌, ◌≢◌, ℕ, ◌<◌, Bool, true, false, ◌&&◌, cond, List, [], ◌∷◌, ◌++◌, Option, Some, None, length, find, nat_eq, nat_lt, inl, inr, ◌⊎◌, refl, ap, sym, subst, ◌∙◌, arith}
+use Rattle.std.proofs.Common.{◌≡◌, ◌≢◌, ℕ, suc, ◌+◌, ◌<◌, ◌≤◌, Bool, true, false, ◌&&◌, cond, List, [], ◌∷◌, ◌++◌, Some, None, option_map, length, length-append, map, append_assoc, find, nat_eq, nat_lt, inl, inr, ◌⊎◌, refl, ap, sym, subst, ◌∙◌, arith}
 use Rattle.std.specs.Cmp.Lexicographic.{pointwise}
-use Rattle.std.specs.List.{AllByRecursion, slice_get}
-use Rattle.std.proofs.lemmas.Bool.{and_parts, eqb-true, eqb-false, ltb-true}
+use Rattle.std.specs.List.{AllByRecursion, list_any, slice_get}
+use Rattle.std.proofs.lemmas.Bool.{and_parts, or_parts, eqb-true, eqb-false, ltb-true}
 use Rattle.std.proofs.lemmas.List.{append-nil, length-map}
 use Rattle.std.proofs.lemmas.Slice.Eq.{bytes_eq-Decides}
 use Rattle.terms.specs.declared.cond.Cond.{Cond}
@@ -21,21 +21,21 @@ use Rattle.meaning.specs.declared.statement.Assignment.{Assignment}
 use Rattle.meaning.specs.declared.statement.Update.{Update}
 use Rattle.meaning.specs.declared.statement.Delete.{Delete}
 use Rattle.meaning.specs.Schema.{relation_named, kinds_of}
-use Rattle.meaning.specs.Statement.{IsJoinOf, IsSelectOf, IsInsertOf, IsAssignable, IsAssignmentOf, IsUpdateOf, IsDeleteOf}
+use Rattle.meaning.specs.Statement.{IsJoinOf, AreJoinsOf, IsSelectOf, IsInsertOf, IsAssignable, IsAssignmentOf, IsUpdateOf, IsDeleteOf}
 use Rattle.reader.specs.declared.command.Command.{Command}
 use Rattle.reader.specs.declared.command.Command.TheVariants as commands
 use Rattle.reader.specs.declared.keyword.Keyword.TheVariants as word
 use Rattle.reader.specs.declared.scope.Found.{Found}
 use Rattle.reader.specs.declared.sign.Sign.TheVariants as mark
 use Rattle.reader.specs.Command.{IsTextOf, IsCommandOf}
-use Rattle.reader.specs.Grammar.{separated, constant_text, listed_text, join_text, where_text, assigned_text, assignment_text, select_text, insert_text, update_text, written_text, IsFilled, IsWritable}
-use Rattle.reader.specs.Names.{all_of, value_of, number_of, places_of, conds_of, source_of, is_integer, other_than_key, joined_by, join_of, other_of, select_of_one, select_of_two, select_from, select_of, row_of, insert_of, settable, addend, sum_of, assigned_of, assignment_of, are_apart, sets_of, update_of, delete_of, command_of}
-use Rattle.reader.specs.Scope.{one_relation, two_relations, types, column_named, found_in}
+use Rattle.reader.specs.Grammar.{separated, constant_text, listed_text, joins_text, where_text, assigned_text, assignment_text, select_text, insert_text, update_text, written_text, IsFilled, IsWritable}
+use Rattle.reader.specs.Names.{Joined, all_of, value_of, number_of, places_of, conds_of, source_of, is_integer, is_key, other_than_key, joined_by, join_of, other_of, others_of, joined_relations, select_from, select_of, row_of, insert_of, settable, addend, sum_of, assigned_of, assignment_of, are_apart, sets_of, update_of, delete_of, command_of}
+use Rattle.reader.specs.Scope.{Scope, relation_table, one_relation, types, types_in, column_named, found_in}
 use Rattle.reader.specs.Symbol.{Symbol, key, sign, name}
 use Rattle.reader.specs.Tree as tree
 use Rattle.reader.proofs.Chains.{chosen, refused, first_step, mapped_step}
 use Rattle.reader.proofs.Fits.{both_parts}
-use Rattle.reader.proofs.FitsSchema.{IsSound, IsSoundConstant, IsSoundCondition, all_sound, sound_constant, sound_separated, sound_where, value_fits, number_within, row_fits, all_answers, places_fit, conds_fit}
+use Rattle.reader.proofs.FitsSchema.{IsSound, IsSoundConstant, IsSoundCondition, all_sound, sound_constant, sound_separated, sound_where, value_fits, number_within, row_fits, all_answers, any_items, places_fit, conds_fit}
 use Rattle.reader.proofs.Places.{slice_get-within_front, slice_get-behind, named_there, there_in}
 use Rattle.reader.proofs.WrittenAssignments.{are_apart_fits}
 
@@ -62,139 +62,174 @@ named_itself schema asked relation is = ap (λ n. relation_named n schema) (foun
 
 sound_select : (select : tree.Select) → AllByRecursion IsSound (select_text select) → AllByRecursion IsSoundCondition select.conditions
 sound_select select all =
-    let tail = both_parts IsSound (listed_text select.listed) (key word.From ∷ name select.relation ∷ (join_text select.join ++ where_text select.conditions)) all.1 in
-    let conditions = both_parts IsSound (join_text select.join) (where_text select.conditions) tail.1.1.1 in
+    let tail = both_parts IsSound (listed_text select.listed) (key word.From ∷ name select.relation ∷ (joins_text select.joins ++ where_text select.conditions)) all.1 in
+    let conditions = both_parts IsSound (joins_text select.joins) (where_text select.conditions) tail.1.1.1 in
     sound_where select.conditions conditions.1
 
 integer_is : (kind : Kind) → is_integer kind ≡ true → kind ≡ kinds.Int
 integer_is kinds.Int is = refl
 integer_is kinds.Text is = cc
 
--- the column beside the key
-key_cases : (count left right column : ℕ) → other_than_key count left right ≡ Some column → ((left ≡ count) × (right < count) × (right ≡ column)) ⊎ ((right ≡ count) × (left < count) × (left ≡ column))
-key_cases count left right column is =
-    elim (nat_eq left count && nat_lt right count) as (λ t. nat_eq left count && nat_lt right count ≡ t → cond t (Some right) (cond (nat_eq right count && nat_lt left count) (Some left) None) ≡ Some column → ((left ≡ count) × (right < count) × (right ≡ column)) ⊎ ((right ≡ count) × (left < count) × (left ≡ column))) [
+-- the column that is compared with the key
+key_cases : (joined : Joined) (left right column : ℕ) → other_than_key joined left right ≡ Some column → ((is_key joined left ≡ true) × (right < joined.before) × (right ≡ column)) ⊎ ((is_key joined right ≡ true) × (left < joined.before) × (left ≡ column))
+key_cases joined left right column is =
+    elim (is_key joined left && nat_lt right joined.before) as (λ t. is_key joined left && nat_lt right joined.before ≡ t → cond t (Some right) (cond (is_key joined right && nat_lt left joined.before) (Some left) None) ≡ Some column → ((is_key joined left ≡ true) × (right < joined.before) × (right ≡ column)) ⊎ ((is_key joined right ≡ true) × (left < joined.before) × (left ≡ column))) [
       | true ↦ λ both here.
-          let parts = and_parts (nat_eq left count) (nat_lt right count) both in
-          inl (eqb-true left count parts.0, ltb-true right count parts.1, cc here)
+          let parts = and_parts (is_key joined left) (nat_lt right joined.before) both in
+          inl (parts.0, ltb-true right joined.before parts.1, cc here)
       | false ↦ λ other later.
-          let one = chosen (nat_eq right count && nat_lt left count) (Some left) column later in
-          let parts = and_parts (nat_eq right count) (nat_lt left count) one.0 in
-          inr (eqb-true right count parts.0, ltb-true left count parts.1, cc one.1)
+          let one = chosen (is_key joined right && nat_lt left joined.before) (Some left) column later in
+          let parts = and_parts (is_key joined right) (nat_lt left joined.before) one.0 in
+          inr (parts.0, ltb-true left joined.before parts.1, cc one.1)
     ] refl is
 
--- the key behind the columns after FROM is an integer
-key_there : (columns others : List schema.Column) (place : ℕ) (kind : Kind) → place ≡ length columns → slice_get (types columns ++ types others) place ≡ Some kind → is_integer kind ≡ true → slice_get (types others) 0 ≡ Some kinds.Int
-key_there columns others place kind is there integer =
-    sym (slice_get-behind (types columns) (types others) 0 place (omega (arith, length-map columns (λ c. c.kind)))) ∙ there ∙ ap Some (integer_is kind integer)
+-- the key behind the columns before is an integer
+key_there : (joined : Joined) (before others : List Kind) (place : ℕ) (kind : Kind) → joined.before ≡ length before → is_key joined place ≡ true → slice_get (before ++ (kinds_of joined.relation ++ others)) place ≡ Some kind → is_integer kind ≡ true → slice_get (kinds_of joined.relation) 0 ≡ Some kinds.Int
+key_there joined before others place kind counted first there integer =
+    let parts = and_parts (nat_eq place joined.before) (nat_lt 0 (length joined.relation.columns)) first in
+    let at : place ≡ joined.before = eqb-true place joined.before parts.0 in
+    let some : 0 < length joined.relation.columns = ltb-true 0 (length joined.relation.columns) parts.1 in
+    sym (slice_get-within_front (kinds_of joined.relation) others 0 (omega (arith, some, length-map joined.relation.columns (λ c. c.kind))))
+    ∙ sym (slice_get-behind before (kinds_of joined.relation ++ others) 0 place (omega (arith, at, counted))) ∙ there ∙ ap Some (integer_is kind integer)
 
--- the column after FROM is an integer
-column_there : (columns others : List schema.Column) (place col : ℕ) (kind : Kind) → place < length columns → place ≡ col → slice_get (types columns ++ types others) place ≡ Some kind → is_integer kind ≡ true → slice_get (types columns) col ≡ Some kinds.Int
-column_there columns others place col kind within same there integer =
-    ap (slice_get (types columns)) (sym same)
-    ∙ sym (slice_get-within_front (types columns) (types others) place (omega (arith, length-map columns (λ c. c.kind)))) ∙ there ∙ ap Some (integer_is kind integer)
+-- a column before is an integer
+column_there : (count : ℕ) (before others : List Kind) (place col : ℕ) (kind : Kind) → count ≡ length before → place < count → place ≡ col → slice_get (before ++ others) place ≡ Some kind → is_integer kind ≡ true → slice_get before col ≡ Some kinds.Int
+column_there count before others place col kind counted within same there integer =
+    ap (slice_get before) (sym same) ∙ sym (slice_get-within_front before others place (omega (arith, counted, within))) ∙ there ∙ ap Some (integer_is kind integer)
 
--- what two relations are joined by are the key and an integer column
-joined_fits : (relation other : RelationSchema) (written : tree.Join) (col : ℕ) → joined_by (two_relations relation other) written ≡ Some col → (slice_get (kinds_of other) 0 ≡ Some kinds.Int) × (slice_get (kinds_of relation) col ≡ Some kinds.Int)
-joined_fits relation other written col is =
-    let left = first_step _ (found_in (two_relations relation other) written.left) col is in
-    let right = first_step _ (found_in (two_relations relation other) written.right) col left.2 in
-    let column = first_step _ (other_than_key (length relation.columns) left.0.place right.0.place) col right.2 in
+-- what a relation is joined by are its key and an integer column before it
+joined_fits : (scope : Scope) (joined : Joined) (before others : List Kind) (col : ℕ) → joined.before ≡ length before → types_in scope ≡ before ++ (kinds_of joined.relation ++ others) → joined_by scope joined ≡ Some col → (slice_get (kinds_of joined.relation) 0 ≡ Some kinds.Int) × (slice_get before col ≡ Some kinds.Int)
+joined_fits scope joined before others col counted all is =
+    let left = first_step _ (found_in scope joined.written.left) col is in
+    let right = first_step _ (found_in scope joined.written.right) col left.2 in
+    let column = first_step _ (other_than_key joined left.0.place right.0.place) col right.2 in
     let one = chosen (is_integer left.0.kind && is_integer right.0.kind) (Some column.0) col column.2 in
     let integers = and_parts (is_integer left.0.kind) (is_integer right.0.kind) one.0 in
     let same : column.0 ≡ col = cc one.1 in
-    let left_there = there_in (two_relations relation other) written.left left.0 left.1 in
-    let right_there = there_in (two_relations relation other) written.right right.0 right.1 in
-    elim (key_cases (length relation.columns) left.0.place right.0.place column.0 column.1) [
+    let left_there : slice_get (before ++ (kinds_of joined.relation ++ others)) left.0.place ≡ Some left.0.kind = ap (λ ks. slice_get ks left.0.place) (sym all) ∙ there_in scope joined.written.left left.0 left.1 in
+    let right_there : slice_get (before ++ (kinds_of joined.relation ++ others)) right.0.place ≡ Some right.0.kind = ap (λ ks. slice_get ks right.0.place) (sym all) ∙ there_in scope joined.written.right right.0 right.1 in
+    elim (key_cases joined left.0.place right.0.place column.0 column.1) [
       | inl met ↦ (
-        key_there relation.columns other.columns left.0.place left.0.kind met.0 left_there integers.0,
-        column_there relation.columns other.columns right.0.place col right.0.kind met.1 (met.2 ∙ same) right_there integers.1,
+        key_there joined before others left.0.place left.0.kind counted met.0 left_there integers.0,
+        column_there joined.before before (kinds_of joined.relation ++ others) right.0.place col right.0.kind counted met.1 (met.2 ∙ same) right_there integers.1,
       )
       | inr met ↦ (
-        key_there relation.columns other.columns right.0.place right.0.kind met.0 right_there integers.1,
-        column_there relation.columns other.columns left.0.place col left.0.kind met.1 (met.2 ∙ same) left_there integers.0,
+        key_there joined before others right.0.place right.0.kind counted met.0 right_there integers.1,
+        column_there joined.before before (kinds_of joined.relation ++ others) left.0.place col left.0.kind counted met.1 (met.2 ∙ same) left_there integers.0,
       )
     ]
 
--- the joined relation is another one, under its own name
-other_fits : (schema : List RelationSchema) (relation other : RelationSchema) (written : tree.Join) → other_of schema relation written ≡ Some other → (relation_named other.name schema ≡ Some other) × (other.name ≢ relation.name)
-other_fits schema relation other written is =
-    let found = first_step (λ (o : RelationSchema). cond (pointwise nat_eq o.name relation.name) None (Some o)) (relation_named written.relation schema) other is in
-    let one = refused (pointwise nat_eq found.0.name relation.name) (Some found.0) other found.2 in
-    let same : found.0 ≡ other = cc one.1 in
-    let P : RelationSchema → Type 0 = λ o. (relation_named o.name schema ≡ Some o) × (o.name ≢ relation.name) in
-    subst P same (
-      named_itself schema written.relation found.0 found.1,
-      λ equal. let both : true ≡ false = sym ((bytes_eq-Decides found.0.name relation.name).1 equal) ∙ one.0 in cc,
+-- a name that is none of these
+none_named : (earlier : List (List ℕ)) (other : List ℕ) → list_any (λ name. pointwise nat_eq name other) earlier ≡ false → AllByRecursion (λ name. other ≢ name) earlier
+none_named [] other none = tt
+none_named (one ∷ earlier) other none =
+    let parts = or_parts (pointwise nat_eq one other) (list_any (λ n. pointwise nat_eq n other) earlier) none in (
+      λ equal. let both : true ≡ false = sym ((bytes_eq-Decides one other).1 (sym equal)) ∙ parts.0 in cc,
+      none_named earlier other parts.1,
     )
 
-join_fits : (schema : List RelationSchema) (relation other : RelationSchema) (written : tree.Join) (join : Join) → other_of schema relation written ≡ Some other → join_of relation other written ≡ Some join → IsJoinOf schema relation join (kinds_of other)
-join_fits schema relation other written join there is =
-    let col = mapped_step (λ (column : ℕ). record { relation = source_of other; col = column }) (joined_by (two_relations relation other) written) join is in
-    let another = other_fits schema relation other written there in
-    let fits = joined_fits relation other written col.0 col.1 in
-    let P : Join → Type 0 = λ j. IsJoinOf schema relation j (kinds_of other) in
+-- a relation that is joined is another one, under its own name
+other_fits : (schema : List RelationSchema) (earlier : List (List ℕ)) (other : RelationSchema) (written : tree.Join) → other_of schema earlier written ≡ Some other → (relation_named other.name schema ≡ Some other) × AllByRecursion (λ name. other.name ≢ name) earlier
+other_fits schema earlier other written is =
+    let found = first_step (λ (o : RelationSchema). cond (list_any (λ name. pointwise nat_eq name o.name) earlier) None (Some o)) (relation_named written.relation schema) other is in
+    let one = refused (list_any (λ name. pointwise nat_eq name found.0.name) earlier) (Some found.0) other found.2 in
+    let same : found.0 ≡ other = cc one.1 in
+    let P : RelationSchema → Type 0 = λ o. (relation_named o.name schema ≡ Some o) × AllByRecursion (λ name. o.name ≢ name) earlier in
+    subst P same (named_itself schema written.relation found.0 found.1, none_named earlier found.0.name one.0)
+
+join_fits : (schema : List RelationSchema) (earlier : List (List ℕ)) (scope : Scope) (joined : Joined) (before others : List Kind) (join : Join) → other_of schema earlier joined.written ≡ Some joined.relation → joined.before ≡ length before → types_in scope ≡ before ++ (kinds_of joined.relation ++ others) → join_of scope joined ≡ Some join → IsJoinOf schema earlier before join joined.relation
+join_fits schema earlier scope joined before others join there counted all is =
+    let col = mapped_step (λ (column : ℕ). record { relation = source_of joined.relation; col = column }) (joined_by scope joined) join is in
+    let another = other_fits schema earlier joined.relation joined.written there in
+    let fits = joined_fits scope joined before others col.0 counted all col.1 in
+    let P : Join → Type 0 = λ j. IsJoinOf schema earlier before j joined.relation in
     subst P col.2 (record {
-      other = other;
       there = another.0;
       another = another.1;
       names = refl;
-      types = refl;
       key = fits.0;
       column = fits.1;
     })
 
-select_one_fits : (schema : List RelationSchema) (relation : RelationSchema) (written : tree.Select) (select : Select) → relation_named relation.name schema ≡ Some relation → AllByRecursion IsSoundCondition written.conditions → select_of_one relation written ≡ Some select → IsSelectOf schema select
-select_one_fits schema relation written select there are_sound is =
-    let places = first_step _ (places_of (one_relation relation) written.listed) select is in
-    let conds = first_step _ (conds_of (one_relation relation) written.conditions) select places.2 in
-    let same : record { from = source_of relation; join = None; columns = places.0; conds = conds.0 } ≡ select = cc conds.2 in
-    let fit = places_fit (one_relation relation) written.listed places.0 places.1 in
-    let conds_are = conds_fit (one_relation relation) written.conditions conds.0 are_sound conds.1 in
+-- the types of all columns of joined relations
+abbrev joined_types : List Joined → List Kind
+joined_types joined = types_in (map (λ j. relation_table j.relation) joined)
+
+-- what is joined with one relation more
+more_fit : (schema : List RelationSchema) (earlier : List (List ℕ)) (scope : Scope) (before : List Kind) (count : ℕ) (first : Joined) (written : List tree.Join) (others : List Joined) (joins : List Join) → other_of schema earlier first.written ≡ Some first.relation → first.before ≡ count → count ≡ length before → types_in scope ≡ before ++ (kinds_of first.relation ++ joined_types others) → others_of schema (earlier ++ first.relation.name ∷ []) (count + length first.relation.columns) written ≡ Some others → all_of (join_of scope) (first ∷ others) ≡ Some joins
+    → ((rest : List Join) → all_of (join_of scope) others ≡ Some rest → AreJoinsOf schema (earlier ++ first.relation.name ∷ []) (before ++ kinds_of first.relation) rest ((before ++ kinds_of first.relation) ++ joined_types others))
+    → AreJoinsOf schema earlier before joins (before ++ (kinds_of first.relation ++ joined_types others))
+more_fit schema earlier scope before count first written others joins there at counted all others_there are behind =
+    let one = first_step (λ y. option_map (λ rest. y ∷ rest) (all_of (join_of scope) others)) (join_of scope first) joins are in
+    let rest = mapped_step (λ rest. one.0 ∷ rest) (all_of (join_of scope) others) joins one.2 in
+    let P : List Join → Type 0 = λ js. AreJoinsOf schema earlier before js (before ++ (kinds_of first.relation ++ joined_types others)) in
+    let Q : List Kind → Type 0 = λ ks. AreJoinsOf schema (earlier ++ first.relation.name ∷ []) (before ++ kinds_of first.relation) rest.0 ks in
+    subst P rest.2 (
+      first.relation,
+      join_fits schema earlier scope first before (joined_types others) one.0 there (at ∙ counted) all one.1,
+      subst Q (append_assoc before (kinds_of first.relation) (joined_types others)) (behind rest.0 rest.1),
+    )
+
+-- what is joined fits the schema, one after another
+joins_fit : (schema : List RelationSchema) (earlier : List (List ℕ)) (scope : Scope) (before : List Kind) (count : ℕ) (written : List tree.Join) (joined : List Joined) (joins : List Join) → count ≡ length before → types_in scope ≡ before ++ joined_types joined → others_of schema earlier count written ≡ Some joined → all_of (join_of scope) joined ≡ Some joins
+    → AreJoinsOf schema earlier before joins (before ++ joined_types joined)
+joins_fit schema earlier scope before count [] joined joins counted all there are =
+    let none : [] ≡ joined = cc there in
+    let Q : List Joined → Type 0 = λ js. all_of (join_of scope) js ≡ Some joins in
+    let empty : Some [] ≡ Some joins = subst Q (sym none) are in
+    let no_joins : [] ≡ joins = cc empty in
+    let P : List Joined → Type 0 = λ js. AreJoinsOf schema earlier before [] (before ++ joined_types js) in
+    let R : List Join → Type 0 = λ js. AreJoinsOf schema earlier before js (before ++ joined_types joined) in
+    subst R no_joins (subst P none (append-nil before))
+joins_fit schema earlier scope before count (join ∷ written) joined joins counted all there are =
+    let other = first_step _ (other_of schema earlier join) joined there in
+    let others = first_step _ (others_of schema (earlier ++ other.0.name ∷ []) (count + length other.0.columns) written) joined other.2 in
+    let first : Joined = record { relation = other.0; before = count; written = join } in
+    let same : first ∷ others.0 ≡ joined = cc others.2 in
+    let P : List Joined → Type 0 = λ js. types_in scope ≡ before ++ joined_types js → all_of (join_of scope) js ≡ Some joins → AreJoinsOf schema earlier before joins (before ++ joined_types js) in
+    subst P same (λ all_types are_all. more_fit schema earlier scope before count first written others.0 joins other.1 refl counted all_types others.1 are_all
+    (λ rest is. joins_fit schema (earlier ++ other.0.name ∷ []) scope (before ++ kinds_of other.0) (count + length other.0.columns) written others.0 rest
+    (omega (arith, counted, length-append before (kinds_of other.0), length-map other.0.columns (λ c. c.kind)))
+    (all_types ∙ sym (append_assoc before (kinds_of other.0) (joined_types others.0))) others.1 is)) all are
+
+-- as many joins as relations, and these as many as are written
+as_many_others : (schema : List RelationSchema) (earlier : List (List ℕ)) (count : ℕ) (written : List tree.Join) (joined : List Joined) → others_of schema earlier count written ≡ Some joined → length joined ≡ length written
+as_many_others schema earlier count [] joined is = let none : [] ≡ joined = cc is in ap length (sym none)
+as_many_others schema earlier count (join ∷ written) joined is =
+    let other = first_step _ (other_of schema earlier join) joined is in
+    let others = first_step _ (others_of schema (earlier ++ other.0.name ∷ []) (count + length other.0.columns) written) joined other.2 in
+    let same : record { relation = other.0; before = count; written = join } ∷ others.0 ≡ joined = cc others.2 in
+    ap length (sym same) ∙ ap suc (as_many_others schema (earlier ++ other.0.name ∷ []) (count + length other.0.columns) written others.0 others.1)
+
+select_from_fits : (schema : List RelationSchema) (relation : RelationSchema) (joined : List Joined) (written : tree.Select) (select : Select) → relation_named relation.name schema ≡ Some relation → others_of schema (relation.name ∷ []) (length relation.columns) written.joins ≡ Some joined → length written.joins ≤ 2 → AllByRecursion IsSoundCondition written.conditions → select_from relation joined written ≡ Some select → IsSelectOf schema select
+select_from_fits schema relation joined written select there others few are_sound is =
+    let scope = joined_relations relation joined in
+    let places = first_step _ (places_of scope written.listed) select is in
+    let joins = first_step _ (all_of (join_of scope) joined) select places.2 in
+    let conds = first_step _ (conds_of scope written.conditions) select joins.2 in
+    let same : record { from = source_of relation; joins = joins.0; columns = places.0; conds = conds.0 } ≡ select = cc conds.2 in
+    let fit = places_fit scope written.listed places.0 places.1 in
+    let conds_are = conds_fit scope written.conditions conds.0 are_sound conds.1 in
+    let as_many : length joins.0 ≡ length joined = (all_answers (join_of scope) (λ j. Unit {0}) (λ j. Unit {0}) (λ j join any one. tt) joined joins.0 (any_items joined) joins.1).1 in
     let P : Select → Type 0 = IsSelectOf schema in
     subst P same (record {
       relation = relation;
-      joined = [];
+      types = types_in scope;
       there = there;
       names = refl;
-      joins = refl;
+      few_joins = omega (arith, as_many, as_many_others schema (relation.name ∷ []) (length relation.columns) written.joins joined others, few);
+      joins = joins_fit schema (relation.name ∷ []) scope (kinds_of relation) (length relation.columns) written.joins joined joins.0 (sym (length-map relation.columns (λ c. c.kind))) refl others joins.1;
       few_columns = fit.1;
       columns = fit.0;
       few_conds = conds_are.1;
       conds = conds_are.0;
     })
 
-select_two_fits : (schema : List RelationSchema) (relation other : RelationSchema) (written_join : tree.Join) (written : tree.Select) (select : Select) → relation_named relation.name schema ≡ Some relation → other_of schema relation written_join ≡ Some other → AllByRecursion IsSoundCondition written.conditions → select_of_two relation other written_join written ≡ Some select → IsSelectOf schema select
-select_two_fits schema relation other written_join written select there there_too are_sound is =
-    let places = first_step _ (places_of (two_relations relation other) written.listed) select is in
-    let join = first_step _ (join_of relation other written_join) select places.2 in
-    let conds = first_step _ (conds_of (two_relations relation other) written.conditions) select join.2 in
-    let same : record { from = source_of relation; join = Some join.0; columns = places.0; conds = conds.0 } ≡ select = cc conds.2 in
-    let fit = places_fit (two_relations relation other) written.listed places.0 places.1 in
-    let conds_are = conds_fit (two_relations relation other) written.conditions conds.0 are_sound conds.1 in
-    let P : Select → Type 0 = IsSelectOf schema in
-    subst P same (record {
-      relation = relation;
-      joined = kinds_of other;
-      there = there;
-      names = refl;
-      joins = join_fits schema relation other written_join join.0 there_too join.1;
-      few_columns = fit.1;
-      columns = fit.0;
-      few_conds = conds_are.1;
-      conds = conds_are.0;
-    })
-
-select_from_fits : (schema : List RelationSchema) (relation : RelationSchema) (join : Option tree.Join) (written : tree.Select) (select : Select) → relation_named relation.name schema ≡ Some relation → AllByRecursion IsSoundCondition written.conditions → select_from schema relation join written ≡ Some select → IsSelectOf schema select
-select_from_fits schema relation None written select there are_sound is = select_one_fits schema relation written select there are_sound is
-select_from_fits schema relation (Some join) written select there are_sound is =
-    let other = first_step _ (other_of schema relation join) select is in
-    select_two_fits schema relation other.0 join written select there other.1 are_sound other.2
-
-select_fits : (schema : List RelationSchema) (written : tree.Select) (select : Select) → AllByRecursion IsSoundCondition written.conditions → select_of schema written ≡ Some select → IsSelectOf schema select
-select_fits schema written select are_sound is =
+select_fits : (schema : List RelationSchema) (written : tree.Select) (select : Select) → length written.joins ≤ 2 → AllByRecursion IsSoundCondition written.conditions → select_of schema written ≡ Some select → IsSelectOf schema select
+select_fits schema written select few are_sound is =
     let relation = first_step _ (relation_named written.relation schema) select is in
-    select_from_fits schema relation.0 written.join written select (named_itself schema written.relation relation.0 relation.1) are_sound relation.2
+    let joined = first_step _ (others_of schema (relation.0.name ∷ []) (length relation.0.columns) written.joins) select relation.2 in
+    select_from_fits schema relation.0 joined.0 written select (named_itself schema written.relation relation.0 relation.1) joined.1 few are_sound joined.2
 
 -- ---- inserts
 
@@ -335,7 +370,7 @@ command_fits : (schema : List RelationSchema) (written : tree.Written) (command 
 command_fits schema (tree.select written) command filled all is =
     let one = mapped_step (λ (s : Select). commands.Run (statements.Select s)) (select_of schema written) command is in
     let P : Command → Type 0 = IsCommandOf schema in
-    subst P one.2 (select_fits schema written one.0 (sound_select written all) one.1)
+    subst P one.2 (select_fits schema written one.0 filled.1 (sound_select written all) one.1)
 command_fits schema (tree.insert written) command filled all is =
     let one = mapped_step (λ (s : Insert). commands.Run (statements.Insert s)) (insert_of schema written) command is in
     let P : Command → Type 0 = IsCommandOf schema in

@@ -1,9 +1,10 @@
 -- What `*` lists, and that the sides of ON may be turned about.
-use Rattle.std.proofs.Common.{◌≡◌, ℕ, ◌+◌, Bool, true, false, ◌&&◌, cond, List, ◌∷◌, ◌++◌, Option, Some, None, option_and_then, option_map, length, nat_eq, nat_lt, nat_le, refl, sym, ap, subst, ◌∙◌, append-nil, length-append, arith}
+use Rattle.std.proofs.Common.{◌≡◌, ℕ, zero, suc, ◌+◌, Bool, true, false, ◌&&◌, cond, List, [], ◌∷◌, ◌++◌, Option, Some, None, option_and_then, option_map, length, map, flat_map, nat_eq, nat_lt, nat_le, refl, sym, ap, subst, ◌∙◌, length-append, arith}
 use Rattle.std.specs.List.{range_with_len}
 use Rattle.std.proofs.lemmas.Bool.{and_parts, eqb-true, ltb-true}
 use Rattle.std.proofs.lemmas.List.{length-map}
 use Rattle.terms.specs.declared.cond.Cond.{Cond}
+use Rattle.terms.specs.declared.value.Kind.{Kind}
 use Rattle.meaning.specs.declared.schema.RelationSchema.{RelationSchema}
 use Rattle.meaning.specs.declared.statement.Join.{Join}
 use Rattle.meaning.specs.declared.statement.Select.{Select}
@@ -14,11 +15,12 @@ use Rattle.meaning.specs.Selected.{names_read, qualified}
 use Rattle.meaning.proofs.ListedLemmas.{listed_all}
 use Rattle.reader.specs.declared.command.Command.TheVariants as commands
 use Rattle.reader.specs.declared.scope.Found.{Found}
-use Rattle.reader.specs.Names.{source_of, is_integer, other_than_key, joined_by, join_of, other_of, places_of, conds_of, select_of_one, select_of_two, select_from, select_of, command_of}
-use Rattle.reader.specs.Scope.{Scope, one_relation, two_relations, types, types_in, found_in}
-use Rattle.reader.specs.Laws.{turned}
+use Rattle.reader.specs.Names.{Joined, all_of, source_of, is_integer, is_key, other_than_key, joined_by, join_of, other_of, others_of, joined_relations, places_of, conds_of, select_from, select_of, command_of}
+use Rattle.reader.specs.Scope.{Scope, relation_table, types, types_in, found_in}
+use Rattle.reader.specs.Laws.{turned, turned_at}
 use Rattle.reader.specs.Tree as tree
 use Rattle.reader.proofs.Chains.{chosen, first_step, mapped_step}
+use Rattle.reader.proofs.Others.{selected_in}
 
 -- ---- `*`
 
@@ -29,49 +31,63 @@ all_names count columns names as_many is =
     let same : range_with_len 0 count ≡ columns = cc one.1 in
     ap (λ places. listed places names) (sym same) ∙ ap (λ n. listed (range_with_len 0 n) names) as_many ∙ listed_all names
 
--- a select that lists all
-abbrev starred : List ℕ → Option tree.Join → List tree.Condition → tree.Select
-starred relation join conditions = record { listed = tree.all; relation = relation; join = join; conditions = conditions }
-
 as_many_types : (relation : RelationSchema) → length (types relation.columns) ≡ length (names_of relation)
 as_many_types relation = length-map relation.columns (λ c. c.kind) ∙ sym (length-map relation.columns (λ c. c.name))
 
 as_many_qualified : (relation : RelationSchema) → length (types relation.columns) ≡ length (qualified (source_of relation))
 as_many_qualified relation = as_many_types relation ∙ sym (length-map (names_of relation) (λ column. relation.name ++ 46 ∷ column))
 
-star_of_one : (relation : RelationSchema) (name : List ℕ) (join : Option tree.Join) (conditions : List tree.Condition) (select : Select) → select_of_one relation (starred name join conditions) ≡ Some select → listed select.columns (names_read select.from select.join) ≡ names_read select.from select.join
-star_of_one relation name join conditions select is =
-    let places = first_step _ (places_of (one_relation relation) tree.all) select is in
-    let conds = first_step _ (conds_of (one_relation relation) conditions) select places.2 in
-    let same : record { from = source_of relation; join = None; columns = places.0; conds = conds.0 } ≡ select = cc conds.2 in
-    let P : Select → Type 0 = λ s. listed s.columns (names_read s.from s.join) ≡ names_read s.from s.join in
-    subst P same (all_names (length (types_in (one_relation relation))) places.0 (names_of relation) (ap length (append-nil (types relation.columns)) ∙ as_many_types relation) places.1)
+-- the types and the qualified names of relations that are joined
+abbrev joined_types : List Joined → List Kind
+joined_types joined = types_in (map (λ j. relation_table j.relation) joined)
 
-star_of_two : (relation other : RelationSchema) (written : tree.Join) (name : List ℕ) (join : Option tree.Join) (conditions : List tree.Condition) (select : Select) → select_of_two relation other written (starred name join conditions) ≡ Some select → listed select.columns (names_read select.from select.join) ≡ names_read select.from select.join
-star_of_two relation other written name join conditions select is =
-    let places = first_step _ (places_of (two_relations relation other) tree.all) select is in
-    let joined = first_step _ (join_of relation other written) select places.2 in
-    let conds = first_step _ (conds_of (two_relations relation other) conditions) select joined.2 in
-    let by = mapped_step (λ (column : ℕ). record { relation = source_of other; col = column }) (joined_by (two_relations relation other) written) joined.0 joined.1 in
-    let same : record { from = source_of relation; join = Some joined.0; columns = places.0; conds = conds.0 } ≡ select = cc conds.2 in
-    let P : Select → Type 0 = λ s. listed s.columns (names_read s.from s.join) ≡ names_read s.from s.join in
-    let Q : Join → Type 0 = λ j. listed places.0 (names_read (source_of relation) (Some j)) ≡ names_read (source_of relation) (Some j) in
-    let as_many : length (types_in (two_relations relation other)) ≡ length (qualified (source_of relation) ++ qualified (source_of other)) =
-    length-append (types relation.columns) (types other.columns)
-    ∙ ap (λ n. n + length (types other.columns)) (as_many_qualified relation) ∙ ap (λ n. length (qualified (source_of relation)) + n) (as_many_qualified other)
-    ∙ sym (length-append (qualified (source_of relation)) (qualified (source_of other))) in
-    subst P same (subst Q by.2 (all_names (length (types_in (two_relations relation other))) places.0 (qualified (source_of relation) ++ qualified (source_of other)) as_many places.1))
+abbrev joined_names : List Join → List (List ℕ)
+joined_names joins = flat_map (λ join. qualified join.relation) joins
 
-star_from : (schema : List RelationSchema) (relation : RelationSchema) (name : List ℕ) (join whole : Option tree.Join) (conditions : List tree.Condition) (select : Select) → select_from schema relation join (starred name whole conditions) ≡ Some select → listed select.columns (names_read select.from select.join) ≡ names_read select.from select.join
-star_from schema relation name None whole conditions select is = star_of_one relation name whole conditions select is
-star_from schema relation name (Some join) whole conditions select is =
-    let other = first_step _ (other_of schema relation join) select is in
-    star_of_two relation other.0 join name whole conditions select other.2
+as_many_joined : (scope : Scope) (joined : List Joined) (joins : List Join) → all_of (join_of scope) joined ≡ Some joins → length (joined_types joined) ≡ length (joined_names joins)
+as_many_joined scope [] joins are = let none : [] ≡ joins = cc are in ap (λ js. length (joined_names js)) none
+as_many_joined scope (first ∷ joined) joins are =
+    let one = first_step (λ y. option_map (λ rest. y ∷ rest) (all_of (join_of scope) joined)) (join_of scope first) joins are in
+    let rest = mapped_step (λ rest. one.0 ∷ rest) (all_of (join_of scope) joined) joins one.2 in
+    let by = mapped_step (λ (column : ℕ). record { relation = source_of first.relation; col = column }) (joined_by scope first) one.0 one.1 in
+    let P : List Join → Type 0 = λ js. length (joined_types (first ∷ joined)) ≡ length (joined_names js) in
+    let Q : Join → Type 0 = λ j. length (joined_types (first ∷ joined)) ≡ length (joined_names (j ∷ rest.0)) in
+    subst P rest.2 (subst Q by.2 (omega (
+      arith,
+      length-append (types first.relation.columns) (joined_types joined),
+      length-append (qualified (source_of first.relation)) (joined_names rest.0),
+      as_many_qualified first.relation,
+      as_many_joined scope joined rest.0 rest.1,
+    )))
 
-pub star_lists : (schema : List RelationSchema) (name : List ℕ) (join : Option tree.Join) (conditions : List tree.Condition) (select : Select) → select_of schema (record { listed = tree.all; relation = name; join = join; conditions = conditions }) ≡ Some select → listed select.columns (names_read select.from select.join) ≡ names_read select.from select.join
-star_lists schema name join conditions select is =
+-- as many names are read as there are columns
+as_many_read : (relation : RelationSchema) (joined : List Joined) (joins : List Join) → all_of (join_of (joined_relations relation joined)) joined ≡ Some joins → length (types_in (joined_relations relation joined)) ≡ length (names_read (source_of relation) joins)
+as_many_read relation joined [] are =
+    omega (arith, length-append (types relation.columns) (joined_types joined), as_many_types relation, as_many_joined (joined_relations relation joined) joined [] are)
+as_many_read relation joined (join ∷ joins) are =
+    omega (
+      arith,
+      length-append (types relation.columns) (joined_types joined),
+      length-append (qualified (source_of relation)) (joined_names (join ∷ joins)),
+      as_many_qualified relation,
+      as_many_joined (joined_relations relation joined) joined (join ∷ joins) are,
+    )
+
+star_from : (relation : RelationSchema) (joined : List Joined) (written : tree.Select) (select : Select) → written.listed ≡ tree.all → select_from relation joined written ≡ Some select → listed select.columns (names_read select.from select.joins) ≡ names_read select.from select.joins
+star_from relation joined written select all is =
+    let scope = joined_relations relation joined in
+    let places = first_step _ (places_of scope written.listed) select is in
+    let joins = first_step _ (all_of (join_of scope) joined) select places.2 in
+    let conds = first_step _ (conds_of scope written.conditions) select joins.2 in
+    let same : record { from = source_of relation; joins = joins.0; columns = places.0; conds = conds.0 } ≡ select = cc conds.2 in
+    let P : Select → Type 0 = λ s. listed s.columns (names_read s.from s.joins) ≡ names_read s.from s.joins in
+    subst P same (all_names (length (types_in scope)) places.0 (names_read (source_of relation) joins.0) (as_many_read relation joined joins.0 joins.1) (ap (places_of scope) (sym all) ∙ places.1))
+
+pub star_lists : (schema : List RelationSchema) (name : List ℕ) (joins : List tree.Join) (conditions : List tree.Condition) (select : Select) → select_of schema (record { listed = tree.all; relation = name; joins = joins; conditions = conditions }) ≡ Some select → listed select.columns (names_read select.from select.joins) ≡ names_read select.from select.joins
+star_lists schema name joins conditions select is =
     let relation = first_step _ (relation_named name schema) select is in
-    star_from schema relation.0 name join join conditions select relation.2
+    let joined = first_step _ (others_of schema (relation.0.name ∷ []) (length relation.0.columns) joins) select relation.2 in
+    star_from relation.0 joined.0 (record { listed = tree.all; relation = name; joins = joins; conditions = conditions }) select refl joined.2
 
 -- ---- the sides of ON
 
@@ -88,49 +104,101 @@ either_first true false x y apart = refl
 either_first false true x y apart = refl
 either_first false false x y apart = refl
 
-key_swap : (count left right : ℕ) → other_than_key count right left ≡ other_than_key count left right
-key_swap count left right = either_first (nat_eq left count && nat_lt right count) (nat_eq right count && nat_lt left count) right left (λ one other. apart one other)
+key_swap : (joined : Joined) (left right : ℕ) → other_than_key joined right left ≡ other_than_key joined left right
+key_swap joined left right = either_first (is_key joined left && nat_lt right joined.before) (is_key joined right && nat_lt left joined.before) right left (λ one other. apart one other)
   where
-    apart : (nat_eq left count && nat_lt right count) ≡ true → (nat_eq right count && nat_lt left count) ≡ true → ⊥
+    apart : (is_key joined left && nat_lt right joined.before) ≡ true → (is_key joined right && nat_lt left joined.before) ≡ true → ⊥
     apart one other =
-        let at = eqb-true left count (and_parts (nat_eq left count) (nat_lt right count) one).0 in
-        let below = ltb-true left count (and_parts (nat_eq right count) (nat_lt left count) other).1 in
+        let key = (and_parts (is_key joined left) (nat_lt right joined.before) one).0 in
+        let at = eqb-true left joined.before (and_parts (nat_eq left joined.before) (nat_lt 0 (length joined.relation.columns)) key).0 in
+        let below = ltb-true left joined.before (and_parts (is_key joined right) (nat_lt left joined.before) other).1 in
         omega arith
 
 -- the column by which the sides join, if they are there
-abbrev by_sides : ℕ → Option Found → Option Found → Option ℕ
-by_sides count left right = option_and_then (λ (l : Found). option_and_then (λ (r : Found). option_and_then (λ (column : ℕ). cond (is_integer l.kind && is_integer r.kind) (Some column) None) (other_than_key count l.place r.place)) right) left
+abbrev by_sides : Joined → Option Found → Option Found → Option ℕ
+by_sides joined left right = option_and_then (λ (l : Found). option_and_then (λ (r : Found). option_and_then (λ (column : ℕ). cond (is_integer l.kind && is_integer r.kind) (Some column) None) (other_than_key joined l.place r.place)) right) left
 
-sides_swap : (count : ℕ) (left right : Option Found) → by_sides count right left ≡ by_sides count left right
-sides_swap count None None = refl
-sides_swap count None (Some r) = refl
-sides_swap count (Some l) None = refl
-sides_swap count (Some l) (Some r) =
-    ap (λ b. option_and_then (λ (column : ℕ). cond b (Some column) None) (other_than_key count r.place l.place)) (and_swap (is_integer r.kind) (is_integer l.kind))
-    ∙ ap (option_and_then (λ (column : ℕ). cond (is_integer l.kind && is_integer r.kind) (Some column) None)) (key_swap count l.place r.place)
+sides_swap : (joined : Joined) (left right : Option Found) → by_sides joined right left ≡ by_sides joined left right
+sides_swap joined None None = refl
+sides_swap joined None (Some r) = refl
+sides_swap joined (Some l) None = refl
+sides_swap joined (Some l) (Some r) =
+    ap (λ b. option_and_then (λ (column : ℕ). cond b (Some column) None) (other_than_key joined r.place l.place)) (and_swap (is_integer r.kind) (is_integer l.kind))
+    ∙ ap (option_and_then (λ (column : ℕ). cond (is_integer l.kind && is_integer r.kind) (Some column) None)) (key_swap joined l.place r.place)
 
-joined_swap : (scope : Scope) (join : tree.Join) → joined_by scope (turned join) ≡ joined_by scope join
-joined_swap scope join = sides_swap (length scope.first.columns) (found_in scope join.left) (found_in scope join.right)
+-- a relation that is joined, with the sides of its ON turned about
+abbrev joined_turned : Joined → Joined
+joined_turned joined = record { relation = joined.relation; before = joined.before; written = turned joined.written }
 
--- the select with another join column
-abbrev two_by : RelationSchema → RelationSchema → tree.Select → Option ℕ → Option Select
-two_by relation other select column =
-    option_and_then (λ (places : List ℕ). option_and_then (λ (join : Join). option_and_then (λ (conds : List Cond). Some (record { from = source_of relation; join = Some join; columns = places; conds = conds })) (conds_of (two_relations relation other) select.conditions)) (option_map (λ (col : ℕ). record { relation = source_of other; col = col }) column)) (places_of (two_relations relation other) select.listed)
+join_swap : (scope : Scope) (joined : Joined) → join_of scope (joined_turned joined) ≡ join_of scope joined
+join_swap scope joined =
+    ap (option_map (λ (column : ℕ). record { relation = source_of joined.relation; col = column })) (sides_swap joined (found_in scope joined.written.left) (found_in scope joined.written.right))
 
-from_swap : (schema : List RelationSchema) (relation : RelationSchema) (join : Option tree.Join) (select : tree.Select) → select_from schema relation (option_map turned join) (record { listed = select.listed; relation = select.relation; join = option_map turned select.join; conditions = select.conditions }) ≡ select_from schema relation join select
-from_swap schema relation None select = refl
-from_swap schema relation (Some join) select =
-    elim (other_of schema relation join) as (λ o. option_and_then (λ (other : RelationSchema). two_by relation other select (joined_by (two_relations relation other) (turned join))) o ≡ option_and_then (λ (other : RelationSchema). two_by relation other select (joined_by (two_relations relation other) join)) o) [
+-- relations, with the ON of that at a place turned about
+abbrev turned_there : ℕ → List Joined → List Joined
+turned_there place [] = []
+turned_there zero (first ∷ joined) = joined_turned first ∷ joined
+turned_there (suc place) (first ∷ joined) = first ∷ turned_there place joined
+
+joins_swap : (scope : Scope) (place : ℕ) (joined : List Joined) → all_of (join_of scope) (turned_there place joined) ≡ all_of (join_of scope) joined
+joins_swap scope place [] = refl
+joins_swap scope zero (first ∷ joined) = ap (option_and_then (λ (j : Join). option_map (λ (js : List Join). j ∷ js) (all_of (join_of scope) joined))) (join_swap scope first)
+joins_swap scope (suc place) (first ∷ joined) = ap (λ rest. option_and_then (λ (j : Join). option_map (λ (js : List Join). j ∷ js) rest) (join_of scope first)) (joins_swap scope place joined)
+
+tables_swap : (place : ℕ) (joined : List Joined) → map (λ j. relation_table j.relation) (turned_there place joined) ≡ map (λ j. relation_table j.relation) joined
+tables_swap place [] = refl
+tables_swap zero (first ∷ joined) = refl
+tables_swap (suc place) (first ∷ joined) = ap (λ tables. relation_table first.relation ∷ tables) (tables_swap place joined)
+
+-- one relation, and those that are joined behind it
+abbrev with_others : ℕ → tree.Join → RelationSchema → Option (List Joined) → Option (List Joined)
+with_others before join other others = option_and_then (λ (joined : List Joined). Some (record { relation = other; before = before; written = join } ∷ joined)) others
+
+others_swap : (schema : List RelationSchema) (earlier : List (List ℕ)) (before : ℕ) (place : ℕ) (joins : List tree.Join) → others_of schema earlier before (turned_at place joins) ≡ option_map (turned_there place) (others_of schema earlier before joins)
+others_swap schema earlier before place [] = refl
+others_swap schema earlier before zero (join ∷ joins) =
+    elim (other_of schema earlier join) as (λ o. option_and_then (λ (other : RelationSchema). with_others before (turned join) other (others_of schema (earlier ++ other.name ∷ []) (before + length other.columns) joins)) o ≡ option_map (turned_there zero) (option_and_then (λ (other : RelationSchema). with_others before join other (others_of schema (earlier ++ other.name ∷ []) (before + length other.columns) joins)) o)) [
       | None ↦ refl
-      | Some other ↦ ap (two_by relation other select) (joined_swap (two_relations relation other) join)
+      | Some other ↦
+          elim (others_of schema (earlier ++ other.name ∷ []) (before + length other.columns) joins) as (λ o. with_others before (turned join) other o ≡ option_map (turned_there zero) (with_others before join other o)) [
+            | None ↦ refl
+            | Some others ↦ refl
+          ]
+    ]
+others_swap schema earlier before (suc place) (join ∷ joins) =
+    elim (other_of schema earlier join) as (λ o. option_and_then (λ (other : RelationSchema). with_others before join other (others_of schema (earlier ++ other.name ∷ []) (before + length other.columns) (turned_at place joins))) o ≡ option_map (turned_there (suc place)) (option_and_then (λ (other : RelationSchema). with_others before join other (others_of schema (earlier ++ other.name ∷ []) (before + length other.columns) joins)) o)) [
+      | None ↦ refl
+      | Some other ↦
+          ap (with_others before join other) (others_swap schema (earlier ++ other.name ∷ []) (before + length other.columns) place joins)
+          ∙ (elim (others_of schema (earlier ++ other.name ∷ []) (before + length other.columns) joins) as (λ o. with_others before join other (option_map (turned_there place) o) ≡ option_map (turned_there (suc place)) (with_others before join other o)) [
+            | None ↦ refl
+            | Some others ↦ refl
+          ])
     ]
 
-pub sides_turn : (schema : List RelationSchema) (select : tree.Select) → command_of schema (tree.select (record { listed = select.listed; relation = select.relation; join = option_map turned select.join; conditions = select.conditions })) ≡ command_of schema (tree.select select)
-sides_turn schema select =
-    let turned_about : tree.Select = record { listed = select.listed; relation = select.relation; join = option_map turned select.join; conditions = select.conditions } in
-    let same : select_of schema turned_about ≡ select_of schema select =
-    elim (relation_named select.relation schema) as (λ o. option_and_then (λ (relation : RelationSchema). select_from schema relation (option_map turned select.join) turned_about) o ≡ option_and_then (λ (relation : RelationSchema). select_from schema relation select.join select) o) [
+from_swap : (relation : RelationSchema) (place : ℕ) (joined : List Joined) (select : tree.Select) → select_from relation (turned_there place joined) select ≡ select_from relation joined select
+from_swap relation place joined select =
+    let scope = joined_relations relation joined in
+    ap (λ tables. selected_in relation select (relation_table relation ∷ tables) (turned_there place joined)) (tables_swap place joined)
+    ∙ ap (λ joins. option_and_then (λ (places : List ℕ). option_and_then (λ (joins : List Join). option_and_then (λ (conds : List Cond). Some (record { from = source_of relation; joins = joins; columns = places; conds = conds })) (conds_of scope select.conditions)) joins) (places_of scope select.listed)) (joins_swap scope place joined)
+
+-- a select with the joins turned about at a place
+abbrev select_turned : ℕ → tree.Select → tree.Select
+select_turned place select = record { listed = select.listed; relation = select.relation; joins = turned_at place select.joins; conditions = select.conditions }
+
+select_swap : (schema : List RelationSchema) (relation : RelationSchema) (place : ℕ) (select : tree.Select) → option_and_then (λ (joined : List Joined). select_from relation joined select) (others_of schema (relation.name ∷ []) (length relation.columns) (turned_at place select.joins)) ≡ option_and_then (λ (joined : List Joined). select_from relation joined select) (others_of schema (relation.name ∷ []) (length relation.columns) select.joins)
+select_swap schema relation place select =
+    ap (option_and_then (λ (joined : List Joined). select_from relation joined select)) (others_swap schema (relation.name ∷ []) (length relation.columns) place select.joins)
+    ∙ (elim (others_of schema (relation.name ∷ []) (length relation.columns) select.joins) as (λ o. option_and_then (λ (joined : List Joined). select_from relation joined select) (option_map (turned_there place) o) ≡ option_and_then (λ (joined : List Joined). select_from relation joined select) o) [
       | None ↦ refl
-      | Some relation ↦ from_swap schema relation select.join select
+      | Some joined ↦ from_swap relation place joined select
+    ])
+
+pub sides_turn : (schema : List RelationSchema) (select : tree.Select) (place : ℕ) → command_of schema (tree.select (record { listed = select.listed; relation = select.relation; joins = turned_at place select.joins; conditions = select.conditions })) ≡ command_of schema (tree.select select)
+sides_turn schema select place =
+    let same : select_of schema (select_turned place select) ≡ select_of schema select =
+    elim (relation_named select.relation schema) as (λ o. option_and_then (λ (relation : RelationSchema). option_and_then (λ (joined : List Joined). select_from relation joined select) (others_of schema (relation.name ∷ []) (length relation.columns) (turned_at place select.joins))) o ≡ option_and_then (λ (relation : RelationSchema). option_and_then (λ (joined : List Joined). select_from relation joined select) (others_of schema (relation.name ∷ []) (length relation.columns) select.joins)) o) [
+      | None ↦ refl
+      | Some relation ↦ select_swap schema relation place select
     ] in
     ap (option_map (λ (statement : Select). commands.Run (statements.Select statement))) same

@@ -16,6 +16,7 @@ pub mod Lists
 pub mod Productions
 pub mod Commands
 pub mod Chains
+pub mod Others
 pub mod Places
 pub mod Each
 pub mod Broken
@@ -28,6 +29,7 @@ pub mod NoMeaning
 pub mod Unique
 pub mod CondsOfText
 pub mod ResolvedColumns
+pub mod ResolvedJoins
 pub mod ResolvedConds
 pub mod Spellings
 pub mod Resolved

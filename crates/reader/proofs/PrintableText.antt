@@ -1,5 +1,5 @@
 -- The statement of a text is printable, under a schema of relations that have names.
-use Rattle.std.proofs.Common.{◌≡◌, ◌≢◌, ℕ, ◌<◌, List, [], ◌∷◌, ◌++◌, Option, Some, None, length, nat_le, refl, ap, subst, arith}
+use Rattle.std.proofs.Common.{◌≡◌, ◌≢◌, ℕ, ◌<◌, List, [], ◌∷◌, ◌++◌, Some, length, map, nat_le, refl, ap, subst, arith}
 use Rattle.std.specs.List.{range_with_len}
 use Rattle.std.proofs.lemmas.List.FromFn.{length-range_with_len}
 use Rattle.terms.specs.declared.value.Kind.{Kind}
@@ -15,14 +15,14 @@ use Rattle.reader.specs.declared.command.Command.{Command}
 use Rattle.reader.specs.declared.command.Command.TheVariants as commands
 use Rattle.reader.specs.Command.{IsTextOf, IsCommandOf}
 use Rattle.reader.specs.Grammar.{IsListable, IsWritable}
-use Rattle.reader.specs.Names.{all_of, place_in, places_of, conds_of, source_of, join_of, other_of, select_of_one, select_of_two, select_from, select_of, insert_of, update_of, delete_of, command_of}
+use Rattle.reader.specs.Names.{Joined, all_of, place_in, places_of, conds_of, source_of, join_of, others_of, joined_relations, select_from, select_of, insert_of, update_of, delete_of, command_of}
 use Rattle.reader.specs.Printable.{AreNamed, ListsSome, IsPrintableCommand}
-use Rattle.reader.specs.Scope.{Scope, one_relation, two_relations, types, types_in}
+use Rattle.reader.specs.Scope.{Scope, relation_table, types, types_in}
 use Rattle.reader.specs.Tree as tree
 use Rattle.reader.proofs.Chains.{chosen, first_step, mapped_step}
 use Rattle.reader.proofs.FitsCommand.{some_answers}
 use Rattle.reader.proofs.FitsSchema.{all_answers, any_items}
-use Rattle.reader.proofs.Resolved.{relation_is_named}
+use Rattle.reader.proofs.ResolvedJoins.{relation_is_named}
 
 -- as many numbers as there are columns
 some_numbers : (n : ℕ) → 0 < n → range_with_len 0 n ≢ []
@@ -46,35 +46,23 @@ some_places scope (tree.columns columns) places some filled is =
     let answers = all_answers (place_in scope) (λ column. Unit {0}) (λ place. Unit {0}) (λ column place any is. tt) columns places (any_items columns) one.1 in
     some_answers columns places filled answers.1
 
-one_lists : (relation : RelationSchema) (written : tree.Select) (select : Select) → relation.columns ≢ [] → IsListable written.listed → select_of_one relation written ≡ Some select → select.columns ≢ []
-one_lists relation written select some filled is =
-    let places = first_step _ (places_of (one_relation relation) written.listed) select is in
-    let conds = first_step _ (conds_of (one_relation relation) written.conditions) select places.2 in
-    let same : record { from = source_of relation; join = None; columns = places.0; conds = conds.0 } ≡ select = cc conds.2 in
+from_lists : (relation : RelationSchema) (joined : List Joined) (written : tree.Select) (select : Select) → relation.columns ≢ [] → IsListable written.listed → select_from relation joined written ≡ Some select → select.columns ≢ []
+from_lists relation joined written select some filled is =
+    let scope = joined_relations relation joined in
+    let places = first_step _ (places_of scope written.listed) select is in
+    let joins = first_step _ (all_of (join_of scope) joined) select places.2 in
+    let conds = first_step _ (conds_of scope written.conditions) select joins.2 in
+    let same : record { from = source_of relation; joins = joins.0; columns = places.0; conds = conds.0 } ≡ select = cc conds.2 in
     let P : Select → Type 0 = λ s. s.columns ≢ [] in
-    subst P same (some_places (one_relation relation) written.listed places.0 (some_types relation.columns [] some) filled places.1)
-
-two_list : (relation other : RelationSchema) (written_join : tree.Join) (written : tree.Select) (select : Select) → relation.columns ≢ [] → IsListable written.listed → select_of_two relation other written_join written ≡ Some select → select.columns ≢ []
-two_list relation other written_join written select some filled is =
-    let places = first_step _ (places_of (two_relations relation other) written.listed) select is in
-    let join = first_step _ (join_of relation other written_join) select places.2 in
-    let conds = first_step _ (conds_of (two_relations relation other) written.conditions) select join.2 in
-    let same : record { from = source_of relation; join = Some join.0; columns = places.0; conds = conds.0 } ≡ select = cc conds.2 in
-    let P : Select → Type 0 = λ s. s.columns ≢ [] in
-    subst P same (some_places (two_relations relation other) written.listed places.0 (some_types relation.columns (types other.columns) some) filled places.1)
-
-from_lists : (schema : List RelationSchema) (relation : RelationSchema) (join : Option tree.Join) (written : tree.Select) (select : Select) → relation.columns ≢ [] → IsListable written.listed → select_from schema relation join written ≡ Some select → select.columns ≢ []
-from_lists schema relation None written select some filled is = one_lists relation written select some filled is
-from_lists schema relation (Some join) written select some filled is =
-    let other = first_step _ (other_of schema relation join) select is in
-    two_list relation other.0 join written select some filled other.2
+    subst P same (some_places scope written.listed places.0 (some_types relation.columns (types_in (map (λ j. relation_table j.relation) joined)) some) filled places.1)
 
 -- a select that is read lists some column
 select_lists : (schema : List RelationSchema) (written : tree.Select) (select : Select) → AreNamed schema → IsListable written.listed → select_of schema written ≡ Some select → select.columns ≢ []
 select_lists schema written select named filled is =
     let relation = first_step _ (relation_named written.relation schema) select is in
     let names = relation_is_named schema written.relation relation.0 named relation.1 in
-    from_lists schema relation.0 written.join written select names.filled filled relation.2
+    let joined = first_step _ (others_of schema (relation.0.name ∷ []) (length relation.0.columns) written.joins) select relation.2 in
+    from_lists relation.0 joined.0 written select names.filled filled joined.2
 
 -- a command that runs a SELECT lists some column
 abbrev CommandLists : Command → Type 0
@@ -86,7 +74,7 @@ CommandLists commands.Rollback = Unit {0}
 command_lists : (schema : List RelationSchema) (written : tree.Written) (command : Command) → AreNamed schema → IsWritable written → command_of schema written ≡ Some command → CommandLists command
 command_lists schema (tree.select written) command named filled is =
     let one = mapped_step (λ (s : Select). commands.Run (statements.Select s)) (select_of schema written) command is in
-    subst CommandLists one.2 (select_lists schema written one.0 named filled one.1)
+    subst CommandLists one.2 (select_lists schema written one.0 named filled.0 one.1)
 command_lists schema (tree.insert written) command named filled is =
     let one = mapped_step (λ (s : Insert). commands.Run (statements.Insert s)) (insert_of schema written) command is in
     subst CommandLists one.2 tt

@@ -1,5 +1,5 @@
 -- The two laws of each production: what it reads is written so, and what is written so is read again.
-use Rattle.std.proofs.Common.{◌≡◌, ℕ, true, false, cond, List, [], ◌∷◌, ◌++◌, Option, Some, None, refl, ap, append_assoc, inl, inr}
+use Rattle.std.proofs.Common.{◌≡◌, ◌≤◌, ℕ, true, false, cond, List, [], ◌∷◌, ◌++◌, length, Option, Some, None, refl, ap, ◌∙◌, append_assoc, append-nil, inl, inr, arith}
 use Rattle.terms.specs.declared.cond.Cmp.{Cmp}
 use Rattle.terms.specs.declared.cond.Cmp.TheVariants as comparison
 use Rattle.reader.specs.declared.keyword.Keyword.TheVariants as word
@@ -7,8 +7,8 @@ use Rattle.reader.specs.declared.sign.Sign.{Sign}
 use Rattle.reader.specs.declared.sign.Sign.TheVariants as mark
 use Rattle.reader.specs.Symbol.{Symbol, key, sign, name, number, text}
 use Rattle.reader.specs.Tree as tree
-use Rattle.reader.specs.Grammar.{separated, qualifier_text, column_text, constant_text, listed_text, comparison_sign, condition_text, conditions_text, where_text, join_text, assigned_text, assignment_text, IsFilled, IsListable}
-use Rattle.reader.specs.Parsing.{and_then, ◌>>=◌, is_same, eat, given, expect, name_at, number_at, is_name, comparison_of, comparison_at, plain_at, items_at, column_at, constant_at, listed_at, condition_at, where_at, joined_at, join_at, sum_at, assigned_at, assignment_at}
+use Rattle.reader.specs.Grammar.{separated, qualifier_text, column_text, constant_text, listed_text, comparison_sign, condition_text, conditions_text, where_text, join_text, joins_text, assigned_text, assignment_text, IsFilled, IsListable}
+use Rattle.reader.specs.Parsing.{and_then, ◌>>=◌, is_same, eat, given, expect, name_at, number_at, is_name, comparison_of, comparison_at, plain_at, items_at, column_at, constant_at, listed_at, condition_at, where_at, joined_at, joins_from, joins_at, sum_at, assigned_at, assignment_at}
 use Rattle.reader.proofs.Steps.{Cut, eat_again, ◌then◌, Takes, TakesWith, written, written_with, bind, way, taken, pair, expect_takes, name_takes, number_takes}
 use Rattle.reader.proofs.Lists.{Again, items_takes, items_again}
 
@@ -212,20 +212,67 @@ unfolding joined_at and_then expect given eat name_at
 joined_again j rest no_dot =
     rw (append_assoc (column_text j.left) (sign mark.Equal ∷ column_text j.right) rest, column_again j.left (sign mark.Equal ∷ (column_text j.right ++ rest)) refl, column_again j.right rest no_dot) refl
 
-pub join_takes : Takes join_at join_text
-unfolding join_at
-join_takes symbols y h =
-    elim (taken _ _ _ _ h) [
-      | inl there ↦
-          let joined = bind there.2 in
-          written join_text joined.2 (there.1 then joined_takes _ _ joined.1)
-      | inr none ↦ written join_text none (record { parts = refl })
+-- what follows the first JOIN
+abbrev joins_rest : List tree.Join → List Symbol
+joins_rest [] = []
+joins_rest (j ∷ js) = joined_text j ++ joins_text js
+
+abbrev IsOneOrTwo : List tree.Join → Type 0
+IsOneOrTwo [] = ⊥
+IsOneOrTwo (j ∷ js) = length js ≤ 1
+
+joins_from_takes : TakesWith joins_from joins_rest IsOneOrTwo
+unfolding joins_from
+joins_from_takes symbols y h =
+    let first = bind h in
+    let front = joined_takes _ _ first.1 in
+    elim (taken _ _ _ _ first.2) [
+      | inl more ↦
+          let second = bind more.2 in
+          written_with joins_rest IsOneOrTwo second.2 (front then more.1 then joined_takes _ _ second.1 then (record { parts = refl })) (omega arith)
+      | inr end ↦ written_with joins_rest IsOneOrTwo end (front then (record { parts = refl })) (omega arith)
     ]
 
-pub join_again : (j : Option tree.Join) (rest : List Symbol) → Lacks (key word.Join) rest → Lacks (sign mark.Dot) rest → join_at (join_text j ++ rest) ≡ Some (j, rest)
-unfolding join_at and_then given
-join_again None rest no_join no_dot = rw no_join refl
-join_again (Some j) rest no_join no_dot = rw (eat_again (key word.Join) (joined_text j ++ rest) refl, joined_again j rest no_dot) refl
+joins_filled : (js : List tree.Join) → IsOneOrTwo js → joins_text js ≡ key word.Join ∷ joins_rest js
+joins_filled [] some = absurd some
+joins_filled (j ∷ js) some = refl
+
+two_at_most : (js : List tree.Join) → IsOneOrTwo js → length js ≤ 2
+two_at_most [] some = absurd some
+two_at_most (j ∷ js) some = omega arith
+
+pub joins_takes : TakesWith joins_at joins_text (λ js. length js ≤ 2)
+unfolding joins_at
+joins_takes symbols y h =
+    elim (taken _ _ _ _ h) [
+      | inl there ↦
+          let behind = joins_from_takes _ _ there.2 in
+          let cut : Cut symbols (key word.Join ∷ joins_rest y.0) y.1 = there.1 then behind.0 in
+          (rw (joins_filled y.0 behind.1) cut, two_at_most y.0 behind.1)
+      | inr none ↦ written_with joins_text (λ js. length js ≤ 2) none (record { parts = refl }) (omega arith)
+    ]
+
+one_again : (j : tree.Join) (rest : List Symbol) → Lacks (key word.Join) rest → Lacks (sign mark.Dot) rest → joins_at (join_text j ++ rest) ≡ Some (j ∷ [], rest)
+unfolding joins_at joins_from and_then given
+one_again j rest no_join no_dot = rw (eat_again (key word.Join) (joined_text j ++ rest) refl, joined_again j rest no_dot, no_join) refl
+
+two_again : (j k : tree.Join) (rest : List Symbol) → Lacks (sign mark.Dot) rest → joins_at (join_text j ++ (join_text k ++ rest)) ≡ Some (j ∷ k ∷ [], rest)
+unfolding joins_at joins_from and_then given
+two_again j k rest no_dot =
+    rw (
+      eat_again (key word.Join) (joined_text j ++ (join_text k ++ rest)) refl,
+      joined_again j (join_text k ++ rest) (another (sign mark.Dot) (key word.Join) (joined_text k ++ rest) refl),
+      eat_again (key word.Join) (joined_text k ++ rest) refl,
+      joined_again k rest no_dot,
+    ) refl
+
+pub joins_again : (js : List tree.Join) → length js ≤ 2 → (rest : List Symbol) → Lacks (key word.Join) rest → Lacks (sign mark.Dot) rest → joins_at (joins_text js ++ rest) ≡ Some (js, rest)
+unfolding joins_at given
+joins_again [] few rest no_join no_dot = rw no_join refl
+joins_again (j ∷ []) few rest no_join no_dot = ap (λ text. joins_at (text ++ rest)) (append-nil (join_text j)) ∙ one_again j rest no_join no_dot
+joins_again (j ∷ k ∷ []) few rest no_join no_dot =
+    ap joins_at (append_assoc (join_text j) (join_text k ++ []) rest ∙ ap (λ text. join_text j ++ (text ++ rest)) (append-nil (join_text k))) ∙ two_again j k rest no_dot
+joins_again (j ∷ k ∷ l ∷ js) few rest no_join no_dot = absurd (omega arith)
 
 -- ---- what an update sets
 

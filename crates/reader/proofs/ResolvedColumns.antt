@@ -1,21 +1,21 @@
 -- Columns as they are written are found: the name at a place is the place's.
-use Rattle.std.proofs.Common.{◌≡◌, ◌≢◌, ℕ, zero, suc, ◌+◌, ◌<◌, ◌-◌, Bool, true, false, cond, List, [], ◌∷◌, Option, Some, None, option_and_then, option_map, length, map, nat_eq, nat_lt, inl, inr, refl, ap, sym, subst, ◌∙◌, arith}
+use Rattle.std.proofs.Common.{◌≡◌, ◌≢◌, ℕ, zero, suc, ◌+◌, ◌<◌, Bool, true, false, cond, List, [], ◌∷◌, Option, Some, None, option_and_then, option_map, length, map, nat_eq, refl, ap, sym, subst, ◌∙◌, arith}
 use Rattle.std.specs.Cmp.Lexicographic.{pointwise}
 use Rattle.std.specs.List.{AllByRecursion, position_from, slice_get}
-use Rattle.std.proofs.lemmas.Bool.{cases_lt, lt-ltb, le-ltb, false_from_ne_true}
-use Rattle.std.proofs.lemmas.List.{append-nil, length-map}
+use Rattle.std.proofs.lemmas.Bool.{false_from_ne_true}
+use Rattle.std.proofs.lemmas.List.{append-nil}
 use Rattle.std.proofs.lemmas.Option.{slice_get-map}
 use Rattle.std.proofs.lemmas.Slice.Eq.{bytes_eq-Decides}
 use Rattle.terms.specs.declared.value.Kind.{Kind}
 use Rattle.meaning.specs.declared.schema.Column as schema
 use Rattle.meaning.specs.declared.schema.RelationSchema.{RelationSchema}
+use Rattle.reader.specs.declared.scope.Found.{Found}
 use Rattle.reader.specs.Names.{source_of}
 use Rattle.reader.specs.Printable.{AreDistinct}
-use Rattle.reader.specs.Scope.{Scope, one_relation, two_relations, columns_alone, relation_table, types, types_in, column_named, only_one, counted_on, found_in_table, found_in}
+use Rattle.reader.specs.Scope.{Table, Scope, one_relation, columns_alone, relation_table, types, types_in, column_named, and_others, only_one, counted_on, found_in_table, found_in}
 use Rattle.reader.specs.Tree as tree
-use Rattle.reader.specs.Written.{or_nothing, name_in, plain_column, qualified_column, column_of_two}
+use Rattle.reader.specs.Written.{or_nothing, name_in, plain_column, qualified_column}
 use Rattle.reader.proofs.Chains.{mapped_step}
-use Rattle.reader.proofs.Places.{slice_get-within_front, slice_get-behind}
 
 -- ---- steps, one after another
 
@@ -84,58 +84,28 @@ named_at columns place kind distinct is =
 abbrev pub AreFound : Scope → (ℕ → tree.Column) → Type 0
 AreFound scope write = (place : ℕ) (kind : Kind) → slice_get (types_in scope) place ≡ Some kind → found_in scope (write place) ≡ Some (record { place = place; kind = kind })
 
--- the only one of two where the other is nothing
-only_first : {A : Type 0} (one other : Option A) (x : A) → one ≡ Some x → other ≡ None → only_one one other ≡ Some x
-only_first one other x is none = rw (is, none) refl
-
-only_second : {A : Type 0} (one other : Option A) (x : A) → one ≡ None → other ≡ Some x → only_one one other ≡ Some x
-only_second one other x none is = rw (none, is) refl
+-- one that is found in the only table
+pub alone_there : (table : Table) (column : tree.Column) (found : Found) → found_in_table table column ≡ Some found → found_in (table ∷ []) column ≡ Some found
+alone_there table column found is =
+    let e : 0 + found.place ≡ found.place = omega arith in
+    ap (λ o. only_one (and_others (option_map (counted_on 0) o) [])) is ∙ ap (λ n. Some (record { place = n; kind = found.kind })) e
 
 -- of columns alone
 pub alone_found : (columns : List schema.Column) → AreDistinct (map (λ c. c.name) columns) → AreFound (columns_alone columns) (plain_column (map (λ c. c.name) columns))
 alone_found columns distinct place kind is =
     let there : slice_get (types columns) place ≡ Some kind = ap (λ ks. slice_get ks place) (sym (append-nil (types columns))) ∙ is in
-    only_first _ _ _ (named_at columns place kind distinct there) refl
+    alone_there (record { name = None; columns = columns }) (plain_column (map (λ c. c.name) columns) place) (record { place = place; kind = kind }) (named_at columns place kind distinct there)
 
 -- of one relation
 pub one_found : (relation : RelationSchema) → AreDistinct (map (λ c. c.name) relation.columns) → AreFound (one_relation relation) (plain_column (map (λ c. c.name) relation.columns))
 one_found relation distinct place kind is =
     let there : slice_get (types relation.columns) place ≡ Some kind = ap (λ ks. slice_get ks place) (sym (append-nil (types relation.columns))) ∙ is in
-    only_first _ _ _ (named_at relation.columns place kind distinct there) refl
+    alone_there (relation_table relation) (plain_column (map (λ c. c.name) relation.columns) place) (record { place = place; kind = kind }) (named_at relation.columns place kind distinct there)
 
--- with the name of its relation
-qualified_there : (relation : RelationSchema) (place : ℕ) (kind : Kind) → AreDistinct (map (λ c. c.name) relation.columns) → slice_get (types relation.columns) place ≡ Some kind → found_in_table (relation_table relation) (qualified_column (source_of relation) place) ≡ Some (record { place = place; kind = kind })
-qualified_there relation place kind distinct is =
-    passed (pointwise nat_eq relation.name relation.name) _ None _ (same_bytes relation.name relation.name refl) (named_at relation.columns place kind distinct is)
+-- with the relation's name
+pub qualified_there : (relation : RelationSchema) (place : ℕ) (kind : Kind) → AreDistinct (map (λ c. c.name) relation.columns) → slice_get (types relation.columns) place ≡ Some kind → found_in_table (relation_table relation) (qualified_column (source_of relation) place) ≡ Some (record { place = place; kind = kind })
+qualified_there relation place kind distinct is = passed (pointwise nat_eq relation.name relation.name) _ None _ (same_bytes relation.name relation.name refl) (named_at relation.columns place kind distinct is)
 
--- with the name of another
-qualified_other : (relation other : RelationSchema) (place : ℕ) → other.name ≢ relation.name → found_in_table (relation_table other) (qualified_column (source_of relation) place) ≡ None
+-- another relation has no such column
+pub qualified_other : (relation other : RelationSchema) (place : ℕ) → other.name ≢ relation.name → found_in_table (relation_table other) (qualified_column (source_of relation) place) ≡ None
 qualified_other relation other place unlike = not_passed (pointwise nat_eq other.name relation.name) _ None None (other_bytes other.name relation.name unlike) refl
-
--- of the first of two relations
-pub first_found : (relation other : RelationSchema) (place : ℕ) (kind : Kind) → other.name ≢ relation.name → AreDistinct (map (λ c. c.name) relation.columns) → slice_get (types relation.columns) place ≡ Some kind → found_in (two_relations relation other) (qualified_column (source_of relation) place) ≡ Some (record { place = place; kind = kind })
-first_found relation other place kind unlike distinct is =
-    only_first _ _ _ (qualified_there relation place kind distinct is) (ap (option_map (counted_on (length relation.columns))) (qualified_other relation other place unlike))
-
--- of the second of two relations
-pub second_found : (relation other : RelationSchema) (place : ℕ) (kind : Kind) → other.name ≢ relation.name → AreDistinct (map (λ c. c.name) other.columns) → slice_get (types other.columns) place ≡ Some kind → found_in (two_relations relation other) (qualified_column (source_of other) place) ≡ Some (record { place = length relation.columns + place; kind = kind })
-second_found relation other place kind unlike distinct is =
-    only_second _ _ _ (qualified_other other relation place (λ same. unlike (sym same))) (ap (option_map (counted_on (length relation.columns))) (qualified_there other place kind distinct is))
-
--- of two relations
-pub two_found : (relation other : RelationSchema) → other.name ≢ relation.name → AreDistinct (map (λ c. c.name) relation.columns) → AreDistinct (map (λ c. c.name) other.columns) → AreFound (two_relations relation other) (column_of_two (source_of relation) (source_of other))
-two_found relation other unlike distinct others_distinct place kind is =
-    let count : length (types relation.columns) ≡ length relation.columns = length-map relation.columns (λ c. c.kind) in
-    let names : length (map (λ c. c.name) relation.columns) ≡ length relation.columns = length-map relation.columns (λ c. c.name) in
-    let P : tree.Column → Type 0 = λ c. found_in (two_relations relation other) c ≡ Some (record { place = place; kind = kind }) in
-    elim (cases_lt place (length (map (λ c. c.name) relation.columns))) [
-      | inl front ↦
-          let there : slice_get (types relation.columns) place ≡ Some kind = sym (slice_get-within_front (types relation.columns) (types other.columns) place (omega arith)) ∙ is in
-          subst P (sym (passed (nat_lt place (length (map (λ c. c.name) relation.columns))) _ _ _ (lt-ltb place _ front) refl)) (first_found relation other place kind unlike distinct there)
-      | inr behind ↦
-          let rest : ℕ = place - length (map (λ c. c.name) relation.columns) in
-          let all : place ≡ length relation.columns + rest = omega arith in
-          let there : slice_get (types other.columns) rest ≡ Some kind = sym (slice_get-behind (types relation.columns) (types other.columns) rest place (omega arith)) ∙ is in
-          subst P (sym (not_passed (nat_lt place (length (map (λ c. c.name) relation.columns))) _ _ _ (le-ltb place _ behind) refl))
-          (second_found relation other rest kind unlike others_distinct there ∙ ap (λ (n : ℕ). Some (record { place = n; kind = kind })) (sym all))
-    ]

@@ -29,14 +29,10 @@ pub record IsJoin (join : tree.Join) : Type 0 where
   pub left : IsColumn join.left
   pub right : IsColumn join.right
 
-abbrev pub MayBeJoin : Option tree.Join → Type 0
-MayBeJoin None = Unit {0}
-MayBeJoin (Some join) = IsJoin join
-
 pub record IsSelect (select : tree.Select) : Type 0 where
   pub listed : IsListed select.listed
   pub relation : IsName select.relation
-  pub join : MayBeJoin select.join
+  pub joins : AllByRecursion IsJoin select.joins
   pub conditions : AllByRecursion IsCondition select.conditions
 
 pub record IsInsert (insert : tree.Insert) : Type 0 where

@@ -6,10 +6,10 @@ use Rattle.reader.specs.declared.sign.Sign.TheVariants as mark
 use Rattle.reader.specs.Symbol.{Symbol, key, sign, name}
 use Rattle.reader.specs.Tree as tree
 use Rattle.reader.specs.Tokens.{Stops, AreTokens}
-use Rattle.reader.specs.Grammar.{continued, separated, qualifier_text, column_text, constant_text, listed_text, comparison_sign, condition_text, conditions_text, where_text, join_text, select_text, insert_text, sum_sign, assigned_text, assignment_text, update_text, delete_text, written_text, IsFilled, IsWritable}
+use Rattle.reader.specs.Grammar.{continued, separated, qualifier_text, column_text, constant_text, listed_text, comparison_sign, condition_text, conditions_text, where_text, join_text, joins_text, select_text, insert_text, sum_sign, assigned_text, assignment_text, update_text, delete_text, written_text, IsFilled, IsWritable}
 use Rattle.reader.specs.PrintStatement.{separated_bytes, qualifier_bytes, column_bytes, constant_bytes, condition_bytes, conditions_bytes, where_bytes, listed_bytes, join_bytes, select_bytes, insert_bytes, assigned_bytes, assignment_bytes, update_bytes, delete_bytes, written_bytes}
 use Rattle.reader.proofs.Printing.{Prints, joins, prints_nothing, prints_blank, prints_both, prints_open, prints_whole, prints_key, prints_sign, prints_name, prints_text, prints_number}
-use Rattle.reader.proofs.Spellable.{IsQualifier, IsColumn, IsConstant, IsCondition, IsListed, MayBeJoin, IsSelect, IsInsert, IsAssigned, IsAssignment, IsUpdate, IsDelete, IsSpellable}
+use Rattle.reader.proofs.Spellable.{IsQualifier, IsColumn, IsConstant, IsCondition, IsListed, IsJoin, IsSelect, IsInsert, IsAssigned, IsAssignment, IsUpdate, IsDelete, IsSpellable}
 
 -- the same bytes, grouped in another way
 regrouped : {bytes others : List ℕ} {ts : List Symbol} → bytes ≡ others → Prints bytes ts → Prints others ts
@@ -88,20 +88,27 @@ prints_listed (tree.columns cs) are = prints_separated IsColumn column_bytes col
 six : (a b c d e f : List ℕ) → a ++ (b ++ (c ++ (d ++ (e ++ f)))) ≡ a ++ b ++ c ++ d ++ e ++ f
 six a b c d e f = simp append_assoc
 
-prints_join : (j : Option tree.Join) → MayBeJoin j → Prints (join_bytes j) (join_text j)
-prints_join None is = prints_nothing
-prints_join (Some j) is =
+prints_join : (j : tree.Join) → IsJoin j → Prints (join_bytes j) (join_text j)
+prints_join j is =
     let columns = spaced (prints_column j.left is.left) (spaced (prints_sign mark.Equal) (prints_column j.right is.right)) in
     regrouped (six (codes " JOIN ") j.relation (codes " ON ") (column_bytes j.left) (codes " = ") (column_bytes j.right)) (prints_blank (spaced (prints_key word.Join) (spaced (prints_name is.relation) (spaced (prints_key word.On) columns))))
 
-join_calm : (j : Option tree.Join) (cs : List tree.Condition) → Stops joins (join_bytes j ++ where_bytes cs)
-join_calm None cs = where_calm cs
-join_calm (Some j) cs = refl
+joins_calm : (js : List tree.Join) → Stops joins (flat_map join_bytes js)
+joins_calm [] = tt
+joins_calm (j ∷ js) = refl
+
+prints_joins : (js : List tree.Join) → AllByRecursion IsJoin js → Prints (flat_map join_bytes js) (joins_text js)
+prints_joins [] are = prints_nothing
+prints_joins (j ∷ js) are = prints_both (prints_join j are.0) (prints_joins js are.1) (joins_calm js)
+
+behind_calm : (js : List tree.Join) (cs : List tree.Condition) → Stops joins (flat_map join_bytes js ++ where_bytes cs)
+behind_calm [] cs = where_calm cs
+behind_calm (j ∷ js) cs = refl
 
 prints_select : (s : tree.Select) → IsSelect s → Prints (select_bytes s) (select_text s)
 prints_select s is =
-    let behind = prints_both (prints_join s.join is.join) (prints_where s.conditions is.conditions) (where_calm s.conditions) in
-    let from = spaced (prints_key word.From) (prints_both (prints_name is.relation) behind (join_calm s.join s.conditions)) in
+    let behind = prints_both (prints_joins s.joins is.joins) (prints_where s.conditions is.conditions) (where_calm s.conditions) in
+    let from = spaced (prints_key word.From) (prints_both (prints_name is.relation) behind (behind_calm s.joins s.conditions)) in
     regrouped (simp append_assoc) (spaced (prints_key word.Select) (spaced (prints_listed s.listed is.listed) from))
 
 prints_insert : (i : tree.Insert) → IsInsert i → Prints (insert_bytes i) (insert_text i)

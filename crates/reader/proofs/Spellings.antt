@@ -25,15 +25,21 @@ use Rattle.meaning.specs.declared.schema.RelationSchema.{RelationSchema}
 use Rattle.meaning.specs.declared.statement.Assigned.{Assigned}
 use Rattle.meaning.specs.declared.statement.Assigned.TheVariants as assigned
 use Rattle.meaning.specs.declared.statement.Assignment.{Assignment}
-use Rattle.meaning.specs.Statement.{IsAssignable, IsAssignmentOf}
+use Rattle.meaning.specs.declared.statement.Source.{Source}
+use Rattle.meaning.specs.declared.statement.Join.{Join}
+use Rattle.meaning.specs.Schema.{kinds_of, names_of}
+use Rattle.meaning.specs.Statement.{AreJoinsOf, IsAssignable, IsAssignmentOf}
 use Rattle.reader.specs.Names.{source_of}
-use Rattle.reader.specs.Scope.{Scope, types, types_in, one_relation, two_relations, columns_alone}
+use Rattle.reader.specs.Printable.{IsNamed, AreNamed}
+use Rattle.reader.specs.Scope.{Scope, types, types_in, one_relation, columns_alone}
 use Rattle.reader.specs.Tokens.{IsName, IsTextValue}
 use Rattle.reader.specs.Tree as tree
-use Rattle.reader.specs.Written.{or_nothing, name_in, plain_column, qualified_column, column_of_two, constant_as, condition_as, conditions_as, assigned_as, assignment_as}
-use Rattle.reader.proofs.Places.{slice_get-within_front, slice_get-behind}
+use Rattle.reader.specs.Written.{or_nothing, name_in, plain_column, qualified_column, column_of_joined, column_in, join_as, constant_as, condition_as, conditions_as, assigned_as, assignment_as}
+use Rattle.reader.proofs.FitsCommand.{found_by_name}
+use Rattle.reader.proofs.Places.{slice_get-front, slice_get-within_front, slice_get-behind}
 use Rattle.reader.proofs.ResolvedColumns.{passed, not_passed, all_at, there_at, name_there}
-use Rattle.reader.proofs.Spellable.{IsColumn, IsConstant, IsCondition, IsAssigned, IsAssignment}
+use Rattle.reader.proofs.ResolvedJoins.{AreSources, tables, join_source, are_types, relation_is_named}
+use Rattle.reader.proofs.Spellable.{IsColumn, IsConstant, IsCondition, IsJoin, IsAssigned, IsAssignment}
 
 -- each item as it is written
 pub all_mapped : {A B : Type 0} (write : A → B) (P : A → Type 0) (Q : B → Type 0) → ((x : A) → P x → Q (write x)) → (xs : List A) → AllByRecursion P xs → AllByRecursion Q (map write xs)
@@ -121,19 +127,59 @@ one_spelled relation names = alone_spelled relation.columns names
 pub qualified_spelled : (relation : RelationSchema) (place : ℕ) (kind : Kind) → IsName relation.name → AllByRecursion IsName (map (λ c. c.name) relation.columns) → slice_get (types relation.columns) place ≡ Some kind → IsColumn (qualified_column (source_of relation) place)
 qualified_spelled relation place kind name names is = record { qualifier = name; name = name_spelled relation.columns place kind names is }
 
-pub two_spelled : (relation other : RelationSchema) → IsName relation.name → AllByRecursion IsName (map (λ c. c.name) relation.columns) → IsName other.name → AllByRecursion IsName (map (λ c. c.name) other.columns) → AreSpelled (two_relations relation other) (column_of_two (source_of relation) (source_of other))
-two_spelled relation other name names other_name other_names place kind is =
+-- of one relation, with its name
+one_qualified : (relation : RelationSchema) (source : Source) (place : ℕ) (kind : Kind) → source_of relation ≡ source → IsNamed relation → slice_get (types relation.columns) place ≡ Some kind → IsColumn (qualified_column source place)
+one_qualified relation source place kind same named is =
+    let P : Source → Type 0 = λ s. IsColumn (qualified_column s place) in
+    subst P same (qualified_spelled relation place kind named.name named.columns is)
+
+-- of relations that are joined
+pub joined_spelled : (relation : RelationSchema) (relations : List RelationSchema) (source : Source) (joins : List Join) → source_of relation ≡ source → AreSources joins relations → AllByRecursion IsNamed (relation ∷ relations) → (place : ℕ) (kind : Kind) → slice_get (types_in (tables (relation ∷ relations))) place ≡ Some kind → IsColumn (column_of_joined source joins place)
+joined_spelled relation [] source [] same are named place kind is =
+    let there : slice_get (types relation.columns) place ≡ Some kind = ap (λ ks. slice_get ks place) (sym (append-nil (types relation.columns))) ∙ is in
+    one_qualified relation source place kind same named.0 there
+joined_spelled relation (next ∷ relations) source [] same are named place kind is = absurd are
+joined_spelled relation [] source (join ∷ joins) same are named place kind is = absurd are
+joined_spelled relation (next ∷ relations) source (join ∷ joins) same are named place kind is =
     let count : length (types relation.columns) ≡ length relation.columns = length-map relation.columns (λ c. c.kind) in
-    let count_names : length (map (λ c. c.name) relation.columns) ≡ length relation.columns = length-map relation.columns (λ c. c.name) in
-    elim (cases_lt place (length (map (λ c. c.name) relation.columns))) [
+    let count_names : length (names_of relation) ≡ length relation.columns = length-map relation.columns (λ c. c.name) in
+    let others : List Kind = types_in (tables (next ∷ relations)) in
+    let P : Source → Type 0 = λ s. IsColumn (column_of_joined s (join ∷ joins) place) in
+    subst P same (
+    elim (cases_lt place (length (names_of relation))) [
       | inl front ↦
-          let there : slice_get (types relation.columns) place ≡ Some kind = sym (slice_get-within_front (types relation.columns) (types other.columns) place (omega arith)) ∙ is in
-          subst IsColumn (sym (passed (nat_lt place (length (map (λ c. c.name) relation.columns))) _ _ _ (lt-ltb place _ front) refl)) (qualified_spelled relation place kind name names there)
+          let there : slice_get (types relation.columns) place ≡ Some kind = sym (slice_get-within_front (types relation.columns) others place (omega arith)) ∙ is in
+          subst IsColumn (sym (passed (nat_lt place (length (names_of relation))) _ _ _ (lt-ltb place _ front) refl)) (one_qualified relation (source_of relation) place kind refl named.0 there)
       | inr behind ↦
-          let rest : ℕ = place - length (map (λ c. c.name) relation.columns) in
-          let there : slice_get (types other.columns) rest ≡ Some kind = sym (slice_get-behind (types relation.columns) (types other.columns) rest place (omega arith)) ∙ is in
-          subst IsColumn (sym (not_passed (nat_lt place (length (map (λ c. c.name) relation.columns))) _ _ _ (le-ltb place _ behind) refl)) (qualified_spelled other rest kind other_name other_names there)
-    ]
+          let rest : ℕ = place - length (names_of relation) in
+          let there : slice_get others rest ≡ Some kind = sym (slice_get-behind (types relation.columns) others rest place (omega arith)) ∙ is in
+          subst IsColumn (sym (not_passed (nat_lt place (length (names_of relation))) _ _ _ (le-ltb place _ behind) refl)) (joined_spelled next relations join.relation joins are.0 are.1 named.1 rest kind there)
+    ])
+
+-- of all relations of a select: plain where nothing is joined
+pub select_spelled : (relation : RelationSchema) (relations : List RelationSchema) (source : Source) (joins : List Join) → source_of relation ≡ source → AreSources joins relations → AllByRecursion IsNamed (relation ∷ relations) → AreSpelled (tables (relation ∷ relations)) (column_in source joins)
+select_spelled relation [] source [] same are named =
+    let P : Source → Type 0 = λ s. AreSpelled (one_relation relation) (plain_column s.columns) in
+    subst P same (one_spelled relation named.0.columns)
+select_spelled relation (next ∷ relations) source [] same are named = absurd are
+select_spelled relation relations source (join ∷ joins) same are named = joined_spelled relation relations source (join ∷ joins) same are named
+
+-- the joins
+pub joins_spelled : (schema : List RelationSchema) → AreNamed schema → (earlier : List (List ℕ)) (before : List Kind) (joins : List Join) (all : List Kind) → AreJoinsOf schema earlier before joins all → (write : ℕ → tree.Column) → ((place : ℕ) (kind : Kind) → slice_get all place ≡ Some kind → IsColumn (write place)) → AllByRecursion IsJoin (map (join_as write) joins)
+joins_spelled schema named earlier before [] all are write spelled = tt
+joins_spelled schema named earlier before (join ∷ joins) all are write spelled =
+    let is_named = relation_is_named schema join.relation.name are.0 named are.1.there in
+    let source = join_source schema earlier before join are.0 are.1 in
+    let N : List ℕ → Type 0 = IsName in
+    let all_types = are_types schema earlier before (join ∷ joins) all are 0 write in
+    let column : slice_get all join.col ≡ Some kinds.Int = ap (λ ks. slice_get ks join.col) all_types ∙ slice_get-front before _ join.col kinds.Int are.1.column in (
+      record {
+        relation = subst N (found_by_name schema join.relation.name are.0 are.1.there) is_named.name;
+        left = spelled join.col kinds.Int column;
+        right = one_qualified are.0 join.relation 0 kinds.Int source is_named are.1.key;
+      },
+      joins_spelled schema named (earlier ++ are.0.name ∷ []) (before ++ kinds_of are.0) joins all are.2 write spelled,
+    )
 
 -- the listed columns
 pub places_spelled : (scope : Scope) (write : ℕ → tree.Column) → AreSpelled scope write → (places : List ℕ) → AllByRecursion (λ place. place < length (types_in scope)) places → AllByRecursion IsColumn (map write places)

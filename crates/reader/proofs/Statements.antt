@@ -1,14 +1,14 @@
 -- The two laws of each statement, and of each command.
-use Rattle.std.proofs.Common.{◌≡◌, false, List, [], ◌∷◌, ◌++◌, Some, refl, append_assoc, inl, inr}
+use Rattle.std.proofs.Common.{◌≡◌, ◌≤◌, length, false, List, [], ◌∷◌, ◌++◌, Some, refl, append_assoc, inl, inr}
 use Rattle.reader.specs.declared.keyword.Keyword.TheVariants as word
 use Rattle.reader.specs.declared.sign.Sign.TheVariants as mark
 use Rattle.reader.specs.Symbol.{Symbol, key, sign, name}
 use Rattle.reader.specs.Tree as tree
-use Rattle.reader.specs.Grammar.{separated, constant_text, listed_text, where_text, join_text, assignment_text, written_text, IsFilled, IsListable, IsWritable, IsEnd}
+use Rattle.reader.specs.Grammar.{separated, constant_text, listed_text, where_text, joins_text, assignment_text, written_text, IsFilled, IsListable, IsWritable, IsEnd}
 use Rattle.reader.specs.Parsing.{and_then, is_same, eat, given, expect, name_at, constant_at, assignment_at, select_at, insert_at, update_at, delete_at, bare_at, written_at, where_at}
 use Rattle.reader.proofs.Steps.{◌then◌, TakesWith, Takes, written, written_with, bind, taken, expect_takes, name_takes}
 use Rattle.reader.proofs.Lists.{items_takes, items_again}
-use Rattle.reader.proofs.Productions.{Lacks, another, constant_takes, constant_again, listed_takes, listed_again, where_takes, where_again, where_lacks, join_takes, join_again, assignment_takes, assignment_again}
+use Rattle.reader.proofs.Productions.{Lacks, another, constant_takes, constant_again, listed_takes, listed_again, where_takes, where_again, where_lacks, joins_takes, joins_again, assignment_takes, assignment_again}
 
 -- at the end only a semicolon can be next
 end_lacks : (t : Symbol) → is_same t (sign mark.Semicolon) ≡ false → (rest : List Symbol) → IsEnd rest → Lacks t rest
@@ -27,10 +27,10 @@ kept_lacks t no_where no_semicolon cs rest end = where_lacks t no_where cs rest 
 
 -- what follows SELECT
 abbrev select_rest : tree.Select → List Symbol
-select_rest s = listed_text s.listed ++ key word.From ∷ name s.relation ∷ (join_text s.join ++ where_text s.conditions)
+select_rest s = listed_text s.listed ++ key word.From ∷ name s.relation ∷ (joins_text s.joins ++ where_text s.conditions)
 
 abbrev IsSelectable : tree.Select → Type 0
-IsSelectable s = IsListable s.listed
+IsSelectable s = IsListable s.listed × (length s.joins ≤ 2)
 
 select_takes : TakesWith select_at select_rest IsSelectable
 unfolding select_at
@@ -38,21 +38,22 @@ select_takes symbols y h =
     let listed = bind h in
     let from = bind listed.2 in
     let relation = bind from.2 in
-    let join = bind relation.2 in
-    let conditions = bind join.2 in
+    let joins = bind relation.2 in
+    let conditions = bind joins.2 in
     let front = listed_takes _ _ listed.1 in
+    let middle = joins_takes _ _ joins.1 in
     written_with select_rest IsSelectable conditions.2
-    (front.0 then expect_takes _ _ _ from.1 then name_takes _ _ relation.1 then join_takes _ _ join.1 then where_takes _ _ conditions.1)
-    front.1
+    (front.0 then expect_takes _ _ _ from.1 then name_takes _ _ relation.1 then middle.0 then where_takes _ _ conditions.1)
+    (front.1, middle.1)
 
 select_again : (s : tree.Select) → IsSelectable s → (rest : List Symbol) → IsEnd rest → select_at (select_rest s ++ rest) ≡ Some (s, rest)
 unfolding select_at and_then expect given eat name_at
 select_again s fine rest end =
     rw (
-      append_assoc (listed_text s.listed) (key word.From ∷ name s.relation ∷ (join_text s.join ++ where_text s.conditions)) rest,
-      listed_again s.listed fine (key word.From ∷ name s.relation ∷ ((join_text s.join ++ where_text s.conditions) ++ rest)) refl refl,
-      append_assoc (join_text s.join) (where_text s.conditions) rest,
-      join_again s.join (where_text s.conditions ++ rest) (kept_lacks (key word.Join) refl refl s.conditions rest end) (kept_lacks (sign mark.Dot) refl refl s.conditions rest end),
+      append_assoc (listed_text s.listed) (key word.From ∷ name s.relation ∷ (joins_text s.joins ++ where_text s.conditions)) rest,
+      listed_again s.listed fine.0 (key word.From ∷ name s.relation ∷ ((joins_text s.joins ++ where_text s.conditions) ++ rest)) refl refl,
+      append_assoc (joins_text s.joins) (where_text s.conditions) rest,
+      joins_again s.joins fine.1 (where_text s.conditions ++ rest) (kept_lacks (key word.Join) refl refl s.conditions rest end) (kept_lacks (sign mark.Dot) refl refl s.conditions rest end),
       kept_again s.conditions rest end,
     ) refl
 

@@ -1,5 +1,5 @@
 -- What a refusal says of what it refuses, by its rule.
-use Rattle.std.specs.Prelude.{◌≡◌, ◌≢◌, ◌⊎◌, ◌<◌, ◌-◌, ◌^◌, ℕ, true, false, List, [], ◌∷◌, Option, Some, None, IsSome, Result, IfErr, length, nat_eq}
+use Rattle.std.specs.Prelude.{◌≡◌, ◌≢◌, ◌⊎◌, ◌<◌, ◌-◌, ◌^◌, ℕ, true, false, List, [], ◌∷◌, ◌++◌, Some, None, Result, IfErr, length, nat_eq}
 use Rattle.std.specs.Char.{is_ascii_uppercase, is_ascii_control}
 use Rattle.std.specs.Cmp.Lexicographic.{pointwise}
 use Rattle.std.specs.List.{list_any}
@@ -15,8 +15,8 @@ use Rattle.reader.specs.declared.fault.Rule.TheVariants as rules
 use Rattle.reader.specs.declared.scope.Found.{Found}
 use Rattle.meaning.specs.declared.statement.Assignment.{Assignment}
 use Rattle.reader.specs.Grammar.{Writes, WritesConditions}
-use Rattle.reader.specs.Names.{all_of, greatest, other_than_key, other_of, settable, assignment_of, are_apart}
-use Rattle.reader.specs.Scope.{Scope, one_relation, two_relations, columns_alone, types_in, column_named, found_in_table, found_in_joined, found_in}
+use Rattle.reader.specs.Names.{Joined, all_of, greatest, other_than_key, other_of, others_of, joined_relations, settable, assignment_of, are_apart}
+use Rattle.reader.specs.Scope.{Scope, one_relation, columns_alone, types_in, column_named, all_found, found_in}
 use Rattle.reader.specs.Symbol.{Symbol}
 use Rattle.reader.specs.Tokens.{AreTokens}
 use Rattle.reader.specs.Tree as tree
@@ -35,12 +35,10 @@ abbrev pub RelationBreaks : Rule → List RelationSchema → List ℕ → Type 0
 RelationBreaks rules.NoRelation schema name = relation_named name schema ≡ None
 RelationBreaks rule schema name = ⊥
 
--- a column is in none of the tables, or in both
+-- a column is in none of the tables, or in more than one
 abbrev pub ColumnBreaks : Rule → Scope → tree.Column → Type 0
-ColumnBreaks rules.NoColumn scope column =
-    (found_in_table scope.first column ≡ None) × (found_in_joined (length scope.first.columns) scope.joined column ≡ None)
-ColumnBreaks rules.Ambiguous scope column =
-    IsSome (found_in_table scope.first column) × IsSome (found_in_joined (length scope.first.columns) scope.joined column)
+ColumnBreaks rules.NoColumn scope column = all_found 0 scope column ≡ []
+ColumnBreaks rules.Ambiguous scope column = 1 < length (all_found 0 scope column)
 ColumnBreaks rule scope column = ⊥
 
 -- the type of a constant
@@ -120,23 +118,30 @@ abbrev pub ListedBreaks : Rule → Scope → tree.Listed → Type 0
 ListedBreaks rule scope tree.all = (rule ≡ rules.Limit) × (32 < length (types_in scope))
 ListedBreaks rule scope (tree.columns columns) = SomeOf (ColumnBreaks rule scope) columns ⊎ ((rule ≡ rules.Limit) × (32 < length columns))
 
--- the columns on both sides of ON are not the key and a column after FROM, or one is no integer
-abbrev pub SidesBreak : Rule → ℕ → Found → Found → Type 0
-SidesBreak rules.JoinNotKey count left right = other_than_key count left.place right.place ≡ None
-SidesBreak rules.WrongType count left right = (left.kind ≢ kinds.Int) ⊎ (right.kind ≢ kinds.Int)
-SidesBreak rule count left right = ⊥
+-- the columns on both sides of ON are not the key and a column before it, or one is no integer
+abbrev pub SidesBreak : Rule → Joined → Found → Found → Type 0
+SidesBreak rules.JoinNotKey joined left right = other_than_key joined left.place right.place ≡ None
+SidesBreak rules.WrongType joined left right = (left.kind ≢ kinds.Int) ⊎ (right.kind ≢ kinds.Int)
+SidesBreak rule joined left right = ⊥
 
 -- a column of ON is not to be found, or the two join nothing
-abbrev pub OnBreaks : Rule → Scope → tree.Join → Type 0
-OnBreaks rule scope join =
-    (ColumnBreaks rule scope join.left ⊎ ColumnBreaks rule scope join.right)
-    ⊎ ((left right : Found) × (found_in scope join.left ≡ Some left) × (found_in scope join.right ≡ Some right) × SidesBreak rule (length scope.first.columns) left right)
+abbrev pub OnBreaks : Rule → Scope → Joined → Type 0
+OnBreaks rule scope joined =
+    (ColumnBreaks rule scope joined.written.left ⊎ ColumnBreaks rule scope joined.written.right)
+    ⊎ ((left right : Found) × (found_in scope joined.written.left ≡ Some left) × (found_in scope joined.written.right ≡ Some right) × SidesBreak rule joined left right)
 
--- the relation after JOIN is not there, or is the one after FROM
-abbrev pub JoinedBreaks : Rule → List RelationSchema → RelationSchema → tree.Join → Type 0
-JoinedBreaks rule schema relation join =
+-- the relation after JOIN is not there, or is one of those before it
+abbrev pub OtherBreaks : Rule → List RelationSchema → List (List ℕ) → tree.Join → Type 0
+OtherBreaks rule schema earlier join =
     RelationBreaks rule schema join.relation
-    ⊎ ((rule ≡ rules.JoinNotKey) × (other : RelationSchema) × (relation_named join.relation schema ≡ Some other) × (pointwise nat_eq other.name relation.name ≡ true))
+    ⊎ ((rule ≡ rules.JoinNotKey) × (other : RelationSchema) × (relation_named join.relation schema ≡ Some other) × (list_any (λ name. pointwise nat_eq name other.name) earlier ≡ true))
+
+-- one of the relations after JOIN breaks the rule, where those before it are there
+abbrev pub OthersBreak : Rule → List RelationSchema → List (List ℕ) → List tree.Join → Type 0
+OthersBreak rule schema earlier [] = ⊥
+OthersBreak rule schema earlier (join ∷ joins) =
+    OtherBreaks rule schema earlier join
+    ⊎ ((other : RelationSchema) × (other_of schema earlier join ≡ Some other) × OthersBreak rule schema (earlier ++ other.name ∷ []) joins)
 
 -- a constant does not fit the column at its place
 abbrev pub ValuesBreak : Rule → List Kind → List tree.Constant → Type 0
@@ -148,24 +153,20 @@ ValuesBreak rule (kind ∷ kinds) (constant ∷ constants) = ConstantBreaks rule
 abbrev pub RowBreaks : Rule → List Kind → List tree.Constant → Type 0
 RowBreaks rule kinds constants = ((rule ≡ rules.Count) × (length constants ≢ length kinds)) ⊎ ValuesBreak rule kinds constants
 
--- what a select without a join lists, or its conditions
-abbrev pub SelectOneBreaks : Rule → Scope → tree.Select → Type 0
-SelectOneBreaks rule scope select = ListedBreaks rule scope select.listed ⊎ ConditionsBreak rule scope select.conditions
+-- what a select lists, one of its ONs or its conditions
+abbrev pub SelectFromBreaks : Rule → Scope → List Joined → tree.Select → Type 0
+SelectFromBreaks rule scope joined select =
+    (ListedBreaks rule scope select.listed ⊎ SomeOf (OnBreaks rule scope) joined)
+    ⊎ ConditionsBreak rule scope select.conditions
 
--- what a select with a join lists, its ON or its conditions
-abbrev pub SelectTwoBreaks : Rule → Scope → tree.Join → tree.Select → Type 0
-SelectTwoBreaks rule scope join select = (ListedBreaks rule scope select.listed ⊎ OnBreaks rule scope join) ⊎ ConditionsBreak rule scope select.conditions
-
-abbrev pub SelectFromBreaks : Rule → List RelationSchema → RelationSchema → Option tree.Join → tree.Select → Type 0
-SelectFromBreaks rule schema relation None select = SelectOneBreaks rule (one_relation relation) select
-SelectFromBreaks rule schema relation (Some join) select =
-    JoinedBreaks rule schema relation join
-    ⊎ ((other : RelationSchema) × (other_of schema relation join ≡ Some other) × SelectTwoBreaks rule (two_relations relation other) join select)
-
+-- a relation of a select, or what it says of them
 abbrev pub SelectBreaks : Rule → List RelationSchema → tree.Select → Type 0
 SelectBreaks rule schema select =
     RelationBreaks rule schema select.relation
-    ⊎ ((relation : RelationSchema) × (relation_named select.relation schema ≡ Some relation) × SelectFromBreaks rule schema relation select.join select)
+    ⊎ ((relation : RelationSchema) × (relation_named select.relation schema ≡ Some relation)
+    × (OthersBreak rule schema (relation.name ∷ []) select.joins
+    ⊎ ((joined : List Joined) × (others_of schema (relation.name ∷ []) (length relation.columns) select.joins ≡ Some joined)
+    × SelectFromBreaks rule (joined_relations relation joined) joined select)))
 
 abbrev pub InsertBreaks : Rule → List RelationSchema → tree.Insert → Type 0
 InsertBreaks rule schema insert =

@@ -1,5 +1,5 @@
 -- The grammar: how the tokens of a command are made.
-use Rattle.std.specs.Prelude.{◌≡◌, ℕ, Bool, true, false, List, [], ◌∷◌, ◌++◌, Option, Some, None, ◌⊎◌}
+use Rattle.std.specs.Prelude.{◌≡◌, ℕ, ◌≤◌, Bool, true, false, List, [], ◌∷◌, ◌++◌, length, Option, Some, None, ◌⊎◌}
 use Rattle.reader.specs.declared.keyword.Keyword.TheVariants as word
 use Rattle.reader.specs.declared.sign.Sign.{Sign}
 use Rattle.reader.specs.declared.sign.Sign.TheVariants as mark
@@ -61,14 +61,18 @@ abbrev pub where_text : List tree.Condition → List Symbol
 where_text [] = []
 where_text (c ∷ cs) = key word.Where ∷ conditions_text (c ∷ cs)
 
--- [ JOIN name ON column "=" column ]
-abbrev pub join_text : Option tree.Join → List Symbol
-join_text None = []
-join_text (Some j) = key word.Join ∷ name j.relation ∷ key word.On ∷ (column_text j.left ++ sign mark.Equal ∷ column_text j.right)
+-- join = JOIN name ON column "=" column
+abbrev pub join_text : tree.Join → List Symbol
+join_text j = key word.Join ∷ name j.relation ∷ key word.On ∷ (column_text j.left ++ sign mark.Equal ∷ column_text j.right)
 
--- select = SELECT list FROM name [ JOIN name ON column "=" column ] [ WHERE conditions ]
+-- { join }
+abbrev pub joins_text : List tree.Join → List Symbol
+joins_text [] = []
+joins_text (j ∷ js) = join_text j ++ joins_text js
+
+-- select = SELECT list FROM name [ join [ join ] ] [ WHERE conditions ]
 abbrev pub select_text : tree.Select → List Symbol
-select_text s = key word.Select ∷ (listed_text s.listed ++ key word.From ∷ name s.relation ∷ (join_text s.join ++ where_text s.conditions))
+select_text s = key word.Select ∷ (listed_text s.listed ++ key word.From ∷ name s.relation ∷ (joins_text s.joins ++ where_text s.conditions))
 
 -- insert = INSERT INTO name VALUES "(" constant { "," constant } ")"
 abbrev pub insert_text : tree.Insert → List Symbol
@@ -114,9 +118,9 @@ abbrev pub IsListable : tree.Listed → Type 0
 IsListable tree.all = Unit {0}
 IsListable (tree.columns cs) = IsFilled cs
 
--- no list of it is empty, but for the conditions
+-- no list of it is empty but those of joins, at most two, and of conditions
 abbrev pub IsWritable : tree.Written → Type 0
-IsWritable (tree.select s) = IsListable s.listed
+IsWritable (tree.select s) = IsListable s.listed × (length s.joins ≤ 2)
 IsWritable (tree.insert i) = IsFilled i.values
 IsWritable (tree.update u) = IsFilled u.sets
 IsWritable (tree.delete d) = Unit {0}

@@ -1,5 +1,5 @@
 -- Names: what a command means whose names, types and limits fit a schema.
-use Rattle.std.specs.Prelude.{ℕ, ℤ, pos, neg_ℤ, ◌^◌, ◌-◌, Bool, true, false, not, ◌&&◌, List, [], ◌∷◌, Option, Some, None, length, option_and_then, option_map, nat_eq, nat_lt, nat_le, if◌then◌else◌}
+use Rattle.std.specs.Prelude.{ℕ, ◌+◌, ℤ, pos, neg_ℤ, ◌^◌, ◌-◌, Bool, true, false, not, ◌&&◌, List, [], ◌∷◌, ◌++◌, Option, Some, None, length, map, option_and_then, option_map, nat_eq, nat_lt, nat_le, if◌then◌else◌}
 use Rattle.std.specs.Cmp.Lexicographic.{pointwise}
 use Rattle.std.specs.List.{list_any, range_with_len}
 use Rattle.terms.specs.declared.cond.Cond.{Cond}
@@ -22,8 +22,9 @@ use Rattle.meaning.specs.declared.statement.Delete.{Delete}
 use Rattle.meaning.specs.Schema.{relation_named, kinds_of, names_of}
 use Rattle.reader.specs.declared.command.Command.{Command}
 use Rattle.reader.specs.declared.command.Command.TheVariants as commands
+use Rattle.reader.specs.declared.joins.Joined as code_joined
 use Rattle.reader.specs.declared.scope.Found.{Found}
-use Rattle.reader.specs.Scope.{◌>>=◌, Scope, one_relation, two_relations, types_in, column_named, found_in}
+use Rattle.reader.specs.Scope.{◌>>=◌, Scope, relation_table, one_relation, types_in, column_named, found_in}
 use Rattle.reader.specs.Tree as tree
 
 -- each item's answer, if every item has one
@@ -96,51 +97,68 @@ abbrev pub is_integer : Kind → Bool
 is_integer kinds.Int = true
 is_integer kinds.Text = false
 
--- the column that is compared with the key of the joined relation: one of these two
-abbrev pub other_than_key : ℕ → ℕ → ℕ → Option ℕ
-other_than_key count left right =
-    if nat_eq left count && nat_lt right count then Some right else (if nat_eq right count && nat_lt left count then Some left else None)
+-- A relation that is joined, the number of all columns before its own, and how its join is written.
+pub record Joined : Type 0 where
+  pub relation : RelationSchema
+  pub before : ℕ
+  pub written : tree.Join
 
--- the column after FROM by which two relations are joined: it and the key are integers
-abbrev pub joined_by : Scope → tree.Join → Option ℕ
-joined_by scope join = do
-  left ← found_in scope join.left
-  right ← found_in scope join.right
-  column ← other_than_key (length scope.first.columns) left.place right.place
+-- what is joined, as the code has it
+abbrev pub joined_of : code_joined.Joined → Joined
+joined_of j = record { relation = j.relation.now; before = j.before; written = tree.join_tree j.written }
+
+-- whether a place among all columns is that of a joined relation's key
+abbrev pub is_key : Joined → ℕ → Bool
+is_key joined place = nat_eq place joined.before && nat_lt 0 (length joined.relation.columns)
+
+-- the column before a joined relation that is compared with its key: one of these two
+abbrev pub other_than_key : Joined → ℕ → ℕ → Option ℕ
+other_than_key joined left right =
+    if is_key joined left && nat_lt right joined.before then Some right else (if is_key joined right && nat_lt left joined.before then Some left else None)
+
+-- the column with which the key of a joined relation is compared: both are integers
+abbrev pub joined_by : Scope → Joined → Option ℕ
+joined_by scope joined = do
+  left ← found_in scope joined.written.left
+  right ← found_in scope joined.written.right
+  column ← other_than_key joined left.place right.place
   if is_integer left.kind && is_integer right.kind then Some column else None
 
-abbrev pub join_of : RelationSchema → RelationSchema → tree.Join → Option Join
-join_of relation other join = option_map (λ column. record { relation = source_of other; col = column }) (joined_by (two_relations relation other) join)
+-- the join of a relation by that column
+abbrev pub join_of : Scope → Joined → Option Join
+join_of scope joined = option_map (λ column. record { relation = source_of joined.relation; col = column }) (joined_by scope joined)
 
--- the relation that is joined: another one
-abbrev pub other_of : List RelationSchema → RelationSchema → tree.Join → Option RelationSchema
-other_of schema relation join = do
+-- the relation of a join behind those of these names: another one
+abbrev pub other_of : List RelationSchema → List (List ℕ) → tree.Join → Option RelationSchema
+other_of schema earlier join = do
   other ← relation_named join.relation schema
-  if pointwise nat_eq other.name relation.name then None else Some other
+  if list_any (λ name. pointwise nat_eq name other.name) earlier then None else Some other
 
-abbrev pub select_of_one : RelationSchema → tree.Select → Option Select
-select_of_one relation select = do
-  places ← places_of (one_relation relation) select.listed
-  conds ← conds_of (one_relation relation) select.conditions
-  Some (record { from = source_of relation; join = None; columns = places; conds = conds })
+-- the relations that are joined, one after another, behind those of these names and as many columns
+abbrev pub others_of : List RelationSchema → List (List ℕ) → ℕ → List tree.Join → Option (List Joined)
+others_of schema earlier before [] = Some []
+others_of schema earlier before (join ∷ joins) = do
+  other ← other_of schema earlier join
+  others ← others_of schema (earlier ++ other.name ∷ []) (before + length other.columns) joins
+  Some (record { relation = other; before = before; written = join } ∷ others)
 
-abbrev pub select_of_two : RelationSchema → RelationSchema → tree.Join → tree.Select → Option Select
-select_of_two relation other written select = do
-  places ← places_of (two_relations relation other) select.listed
-  join ← join_of relation other written
-  conds ← conds_of (two_relations relation other) select.conditions
-  Some (record { from = source_of relation; join = Some join; columns = places; conds = conds })
+-- the scope of a select: the relation after FROM and those that are joined
+abbrev pub joined_relations : RelationSchema → List Joined → Scope
+joined_relations relation joined = relation_table relation ∷ map (λ j. relation_table j.relation) joined
 
-abbrev pub select_from : List RelationSchema → RelationSchema → Option tree.Join → tree.Select → Option Select
-select_from schema relation None select = select_of_one relation select
-select_from schema relation (Some join) select = do
-  other ← other_of schema relation join
-  select_of_two relation other join select
+-- a select whose relations are there
+abbrev pub select_from : RelationSchema → List Joined → tree.Select → Option Select
+select_from relation joined select = do
+  places ← places_of (joined_relations relation joined) select.listed
+  joins ← all_of (join_of (joined_relations relation joined)) joined
+  conds ← conds_of (joined_relations relation joined) select.conditions
+  Some (record { from = source_of relation; joins = joins; columns = places; conds = conds })
 
 abbrev pub select_of : List RelationSchema → tree.Select → Option Select
 select_of schema select = do
   relation ← relation_named select.relation schema
-  select_from schema relation select.join select
+  joined ← others_of schema (relation.name ∷ []) (length relation.columns) select.joins
+  select_from relation joined select
 
 -- ---- inserts
 

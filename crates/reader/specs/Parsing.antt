@@ -177,11 +177,19 @@ joined_at symbols = do
   right ← column_at equal.1
   Some (record { relation = relation.0; left = left.0; right = right.0 }, right.1)
 
-unfoldable pub join_at : List Symbol → Option (Option tree.Join × List Symbol)
-join_at symbols =
+-- one join, or another after it
+unfoldable pub joins_from : List Symbol → Option (List tree.Join × List Symbol)
+joins_from symbols = do
+  first ← joined_at symbols
+  given (key word.Join) first.1
+      (λ rest. joined_at rest >>= λ second. Some (first.0 ∷ second.0 ∷ [], second.1))
+      (λ rest. Some (first.0 ∷ [], rest))
+
+unfoldable pub joins_at : List Symbol → Option (List tree.Join × List Symbol)
+joins_at symbols =
     given (key word.Join) symbols
-    (λ rest. joined_at rest >>= λ j. Some (Some j.0, j.1))
-    (λ rest. Some (None, rest))
+    joins_from
+    (λ rest. Some ([], rest))
 
 -- what follows SELECT
 unfoldable pub select_at : List Symbol → Option (tree.Select × List Symbol)
@@ -189,9 +197,9 @@ select_at symbols = do
   listed ← listed_at symbols
   from ← expect (key word.From) listed.1
   relation ← name_at from.1
-  join ← join_at relation.1
-  conditions ← where_at join.1
-  Some (record { listed = listed.0; relation = relation.0; join = join.0; conditions = conditions.0 }, conditions.1)
+  joins ← joins_at relation.1
+  conditions ← where_at joins.1
+  Some (record { listed = listed.0; relation = relation.0; joins = joins.0; conditions = conditions.0 }, conditions.1)
 
 -- what follows INSERT
 unfoldable pub insert_at : List Symbol → Option (tree.Insert × List Symbol)

@@ -50,12 +50,11 @@ abbrev pub listed_bytes : tree.Listed → List ℕ
 listed_bytes tree.all = codes "*"
 listed_bytes (tree.columns columns) = separated_bytes column_bytes (codes ", ") columns
 
-abbrev pub join_bytes : Option tree.Join → List ℕ
-join_bytes None = []
-join_bytes (Some j) = codes " JOIN " ++ j.relation ++ codes " ON " ++ column_bytes j.left ++ codes " = " ++ column_bytes j.right
+abbrev pub join_bytes : tree.Join → List ℕ
+join_bytes j = codes " JOIN " ++ j.relation ++ codes " ON " ++ column_bytes j.left ++ codes " = " ++ column_bytes j.right
 
 abbrev pub select_bytes : tree.Select → List ℕ
-select_bytes s = codes "SELECT " ++ listed_bytes s.listed ++ codes " FROM " ++ s.relation ++ join_bytes s.join ++ where_bytes s.conditions
+select_bytes s = codes "SELECT " ++ listed_bytes s.listed ++ codes " FROM " ++ s.relation ++ flat_map join_bytes s.joins ++ where_bytes s.conditions
 
 abbrev pub insert_bytes : tree.Insert → List ℕ
 insert_bytes i = codes "INSERT INTO " ++ i.relation ++ codes " VALUES (" ++ constants_bytes i.values ++ codes ")"

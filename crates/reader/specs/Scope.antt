@@ -1,5 +1,5 @@
 -- Scopes: the columns that a written column may mean.
-use Rattle.std.specs.Prelude.{ℕ, ◌+◌, Bool, true, false, List, [], ◌++◌, Option, Some, None, length, map, option_map, option_and_then, nat_eq, if◌then◌else◌}
+use Rattle.std.specs.Prelude.{ℕ, ◌+◌, Bool, true, false, List, [], ◌∷◌, Option, Some, None, length, map, flat_map, option_map, option_and_then, nat_eq, if◌then◌else◌}
 use Rattle.std.specs.Cmp.Lexicographic.{pointwise}
 use Rattle.std.specs.List.{position_from, slice_get}
 use Rattle.std.specs.Option.{option_copied}
@@ -8,7 +8,6 @@ use Rattle.meaning.specs.declared.schema.Column as schema
 use Rattle.meaning.specs.declared.schema.RelationSchema.{RelationSchema}
 use Rattle.reader.specs.declared.scope.Found.{Found}
 use Rattle.reader.specs.declared.scope.Table as code_table
-use Rattle.reader.specs.declared.scope.Scope as code_scope
 use Rattle.reader.specs.Tree as tree
 
 -- The answer of one step handed to the next, if it has one.
@@ -21,18 +20,13 @@ pub record Table : Type 0 where
   pub name : Option (List ℕ)
   pub columns : List schema.Column
 
--- The columns of one table, or of two that are joined.
-pub record Scope : Type 0 where
-  pub first : Table
-  pub joined : Option Table
+-- The tables whose columns are meant, in their order.
+abbrev pub Scope : Type 0
+Scope = List Table
 
--- The scope of the code.
-
+-- The table of the code.
 abbrev pub table_of : code_table.Table → Table
 table_of t = record { name = option_copied t.name; columns = t.columns.now }
-
-abbrev pub scope_of : code_scope.Scope → Scope
-scope_of s = record { first = table_of s.first; joined = option_map table_of s.joined }
 
 -- The scopes of statements and of conditions alone.
 
@@ -40,25 +34,18 @@ abbrev pub relation_table : RelationSchema → Table
 relation_table relation = record { name = Some relation.name; columns = relation.columns }
 
 abbrev pub one_relation : RelationSchema → Scope
-one_relation relation = record { first = relation_table relation; joined = None }
-
-abbrev pub two_relations : RelationSchema → RelationSchema → Scope
-two_relations relation other = record { first = relation_table relation; joined = Some (relation_table other) }
+one_relation relation = relation_table relation ∷ []
 
 abbrev pub columns_alone : List schema.Column → Scope
-columns_alone columns = record { first = record { name = None; columns = columns }; joined = None }
+columns_alone columns = record { name = None; columns = columns } ∷ []
 
 -- the types of columns
 abbrev pub types : List schema.Column → List Kind
 types columns = map (λ column. column.kind) columns
 
-abbrev pub joined_types : Option Table → List Kind
-joined_types None = []
-joined_types (Some table) = types table.columns
-
 -- the types of all columns of a scope
 abbrev pub types_in : Scope → List Kind
-types_in scope = types scope.first.columns ++ joined_types scope.joined
+types_in scope = flat_map (λ table. types table.columns) scope
 
 -- the first column of a name: its place, and its type
 abbrev pub column_named : List schema.Column → List ℕ → Option Found
@@ -81,16 +68,23 @@ found_in_table table column = if is_qualifier table.name column.relation then co
 abbrev pub counted_on : ℕ → Found → Found
 counted_on count found = record { place = count + found.place; kind = found.kind }
 
-abbrev pub found_in_joined : ℕ → Option Table → tree.Column → Option Found
-found_in_joined count None column = None
-found_in_joined count (Some table) column = option_map (counted_on count) (found_in_table table column)
+-- what is there, if it is, and the others
+abbrev pub and_others : {A : Type 0} → Option A → List A → List A
+and_others None others = others
+and_others (Some x) others = x ∷ others
 
--- the only one of two, if just one is there
-abbrev pub only_one : {A : Type 0} → Option A → Option A → Option A
-only_one None other = other
-only_one (Some x) None = Some x
-only_one (Some x) (Some y) = None
+-- the columns of tables that a written one may mean: those of each are counted on from all before them
+abbrev pub all_found : ℕ → List Table → tree.Column → List Found
+all_found count [] column = []
+all_found count (table ∷ tables) column =
+    and_others (option_map (counted_on count) (found_in_table table column)) (all_found (count + length table.columns) tables column)
 
--- the column that a written one means: one table has it, and the other has none such
+-- the only one of a list, if just one is there
+abbrev pub only_one : {A : Type 0} → List A → Option A
+only_one [] = None
+only_one (x ∷ []) = Some x
+only_one (x ∷ y ∷ others) = None
+
+-- the column that a written one means: one table has it, and no other has one such
 abbrev pub found_in : Scope → tree.Column → Option Found
-found_in scope column = only_one (found_in_table scope.first column) (found_in_joined (length scope.first.columns) scope.joined column)
+found_in scope column = only_one (all_found 0 scope column)

@@ -1,5 +1,5 @@
 -- The tree of a command as it is written.
-use Rattle.std.specs.Prelude.{ℕ, Bool, List, Option, map, option_map}
+use Rattle.std.specs.Prelude.{ℕ, Bool, List, Option, map}
 use Rattle.std.specs.Option.{option_copied}
 use Rattle.std.specs.Global.{Vec}
 use Rattle.reader.specs.declared.tree.Column as code_column
@@ -41,7 +41,7 @@ pub record Condition : Type 0 where
   pub comparison : Cmp
   pub constant : Constant
 
--- The other relation, and the columns on both sides of the sign after ON.
+-- A further relation, and the columns on both sides of the sign after its ON.
 pub record Join : Type 0 where
   pub relation : List ℕ
   pub left : Column
@@ -51,7 +51,7 @@ pub record Join : Type 0 where
 pub record Select : Type 0 where
   pub listed : Listed
   pub relation : List ℕ
-  pub join : Option Join
+  pub joins : List Join
   pub conditions : List Condition
 
 pub record Insert : Type 0 where
@@ -114,8 +114,11 @@ conditions_tree cs = map condition_tree cs.items
 abbrev pub join_tree : code_join.Join → Join
 join_tree j = record { relation = j.relation.name.now; left = column_tree j.left; right = column_tree j.right }
 
+abbrev pub joins_tree : Vec code_join.Join → List Join
+joins_tree js = map join_tree js.items
+
 abbrev pub select_tree : code_select.Select → Select
-select_tree s = record { listed = listed_tree s.listed; relation = s.relation.name.now; join = option_map join_tree s.join; conditions = conditions_tree s.conditions }
+select_tree s = record { listed = listed_tree s.listed; relation = s.relation.name.now; joins = joins_tree s.joins; conditions = conditions_tree s.conditions }
 
 abbrev pub insert_tree : code_insert.Insert → Insert
 insert_tree i = record { relation = i.relation.name.now; values = constants_tree i.values }

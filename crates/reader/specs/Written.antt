@@ -1,5 +1,5 @@
 -- How a statement is written: the tree whose text it is printed as.
-use Rattle.std.specs.Prelude.{ℕ, suc, pos, negsuc, ◌-◌, nat_lt, if◌then◌else◌, true, false, List, [], Option, Some, None, length, map, option_map}
+use Rattle.std.specs.Prelude.{ℕ, suc, pos, negsuc, ◌-◌, nat_lt, if◌then◌else◌, true, false, List, [], ◌∷◌, Option, Some, None, length, map}
 use Rattle.std.specs.List.{slice_get}
 use Rattle.terms.specs.declared.cond.Cond.{Cond}
 use Rattle.terms.specs.declared.value.Value.{Value}
@@ -33,15 +33,16 @@ plain_column names place = record { relation = None; name = name_in names place 
 abbrev pub qualified_column : Source → ℕ → tree.Column
 qualified_column source place = record { relation = Some source.name; name = name_in source.columns place }
 
--- a column of two relations: those of the second are counted on from those of the first
-abbrev pub column_of_two : Source → Source → ℕ → tree.Column
-column_of_two from joined place =
-    if nat_lt place (length from.columns) then qualified_column from place else qualified_column joined (place - length from.columns)
+-- a column of a relation and of those that are joined: those of each are counted on from all before them
+abbrev pub column_of_joined : Source → List Join → ℕ → tree.Column
+column_of_joined from [] place = qualified_column from place
+column_of_joined from (join ∷ joins) place =
+    if nat_lt place (length from.columns) then qualified_column from place else column_of_joined join.relation joins (place - length from.columns)
 
 -- a column of a select: qualified exactly in a join
-abbrev pub column_in : Source → Option Join → ℕ → tree.Column
-column_in from None place = plain_column from.columns place
-column_in from (Some join) place = column_of_two from join.relation place
+abbrev pub column_in : Source → List Join → ℕ → tree.Column
+column_in from [] place = plain_column from.columns place
+column_in from (join ∷ joins) place = column_of_joined from (join ∷ joins) place
 
 abbrev pub constant_as : Value → tree.Constant
 constant_as (values.Int (pos n)) = tree.integer false n
@@ -54,16 +55,16 @@ condition_as column cond = record { column = column cond.col; comparison = cond.
 abbrev pub conditions_as : (ℕ → tree.Column) → List Cond → List tree.Condition
 conditions_as column conds = map (condition_as column) conds
 
--- a join: the column of the relation after FROM first, then the key of the joined one
-abbrev pub join_as : Source → Join → tree.Join
-join_as from join = record { relation = join.relation.name; left = qualified_column from join.col; right = qualified_column join.relation 0 }
+-- a join: the column of the relations before it first, then the key of the joined one
+abbrev pub join_as : (ℕ → tree.Column) → Join → tree.Join
+join_as column join = record { relation = join.relation.name; left = column join.col; right = qualified_column join.relation 0 }
 
 abbrev pub select_as : Select → tree.Select
 select_as select = record {
-  listed = tree.columns (map (column_in select.from select.join) select.columns);
+  listed = tree.columns (map (column_in select.from select.joins) select.columns);
   relation = select.from.name;
-  join = option_map (join_as select.from) select.join;
-  conditions = conditions_as (column_in select.from select.join) select.conds;
+  joins = map (join_as (column_in select.from select.joins)) select.joins;
+  conditions = conditions_as (column_in select.from select.joins) select.conds;
 }
 
 abbrev pub insert_as : Insert → tree.Insert

@@ -6,12 +6,11 @@ ghost use Rattle.reader.specs.declared.fault.Rule.TheVariants as rules;
 ghost use Rattle.reader.specs.Breaks.{Refuses, ListedBreaks, ComparedBreaks, ConditionsBreak};
 ghost use Rattle.reader.specs.Names.{all_of, place_in, places_of, cond_on, conds_of};
 ghost use Rattle.reader.specs.Resolving.{Resolves};
-ghost use Rattle.reader.specs.Scope.{scope_of, types_in};
 ghost use Rattle.reader.specs.Tree.{columns as these_columns, column_tree, condition_tree, listed_tree};
 
 use crate::constants::compared;
 use crate::fault::{ReadFault, Rule};
-use crate::scope::{Found, Scope, find};
+use crate::scope::{Found, Scope, find, width};
 use crate::tree::{Column, Condition, Listed};
 use std::alloc::Global;
 use terms::cond::Cond;
@@ -28,29 +27,18 @@ pub fn places(
     scope: &Scope<'_>,
     listed: &Listed<'_>,
 ) -> Result<Vec<usize>, ReadFault>
-    ensures exact { Resolves (λ places. places.items) result (places_of (scope_of scope.now) (listed_tree listed.now)) }
-    ensures rule { Refuses result (λ rule. ListedBreaks rule (scope_of scope.now) (listed_tree listed.now)) }
+    ensures exact { Resolves (λ places. places.items) result (places_of scope.now (listed_tree listed.now)) }
+    ensures rule { Refuses result (λ rule. ListedBreaks rule scope.now (listed_tree listed.now)) }
 {
     match listed {
         Listed::All { offset } => {
-            let count = column_count(scope);
+            let count = width(scope);
             if count > LIST_LIMIT {
                 return Err(ReadFault::new(Rule::Limit, *offset));
             }
             every_place(alloc, count)
         }
         Listed::Columns(columns) => listed_places(alloc, scope, columns.as_slice()),
-    }
-}
-
-/// The number of all columns of a scope.
-fn column_count(scope: &Scope<'_>) -> usize
-    ensures { result ≡ length (types_in (scope_of scope.now)) }
-{
-    let first = scope.first.columns.len();
-    match &scope.joined {
-        Some(table) => first + table.columns.len(),
-        None => first,
     }
 }
 
@@ -70,8 +58,8 @@ fn listed_places(
     scope: &Scope<'_>,
     columns: &[Column<'_>],
 ) -> Result<Vec<usize>, ReadFault>
-    ensures exact { Resolves (λ places. places.items) result (if nat_le (length columns.now) 32 then all_of (place_in (scope_of scope.now)) (map column_tree columns.now) else None) }
-    ensures rule { Refuses result (λ rule. ListedBreaks rule (scope_of scope.now) (these_columns (map column_tree columns.now))) }
+    ensures exact { Resolves (λ places. places.items) result (if nat_le (length columns.now) 32 then all_of (place_in scope.now) (map column_tree columns.now) else None) }
+    ensures rule { Refuses result (λ rule. ListedBreaks rule scope.now (these_columns (map column_tree columns.now))) }
 {
     let mut places = Vec::new(alloc);
     for column in columns {
@@ -90,8 +78,8 @@ pub fn conds(
     scope: &Scope<'_>,
     conditions: &[Condition<'_>],
 ) -> Result<Vec<Cond>, ReadFault>
-    ensures exact { Resolves (λ conds. conds.items) result (conds_of (scope_of scope.now) (map condition_tree conditions.now)) }
-    ensures rule { Refuses result (λ rule. ConditionsBreak rule (scope_of scope.now) (map condition_tree conditions.now)) }
+    ensures exact { Resolves (λ conds. conds.items) result (conds_of scope.now (map condition_tree conditions.now)) }
+    ensures rule { Refuses result (λ rule. ConditionsBreak rule scope.now (map condition_tree conditions.now)) }
 {
     let mut conds = Vec::new(alloc);
     for condition in conditions {

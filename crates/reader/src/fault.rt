@@ -27,7 +27,7 @@ pub enum Rule {
     WrongType,
     /// An update would change a key.
     KeyColumn,
-    /// A join does not go by the key of the joined relation.
+    /// A join does not go by the key of the joined relation and a column before it.
     JoinNotKey,
     /// A row has another number of values than the relation has columns.
     Count,

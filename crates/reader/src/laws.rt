@@ -2,12 +2,12 @@
 
 ghost use Rattle.reader.specs.Laws.{StarListsAll, SidesMayTurn};
 
-/// `*` lists the columns of the relation after FROM, then those of the joined one.
+/// `*` lists the columns of all relations, in their order.
 pub fn star_lists_all()
     ensures { StarListsAll }
 {}
 
-/// `ON a.x = b.y` and `ON b.y = a.x` are the same.
+/// `ON a.x = b.y` and `ON b.y = a.x` are the same, in each join.
 pub fn sides_may_turn()
     ensures { SidesMayTurn }
 {}

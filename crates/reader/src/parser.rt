@@ -1,15 +1,15 @@
 //! The grammar of commands. Each production is a function, which reads as far as it goes and refuses the first token
 //! with which no command goes on.
 
-ghost use Rattle.std.specs.Prelude.{◌≡◌, ◌≢◌, ◌⊎◌, List, IfOk, IfErr, option_map};
+ghost use Rattle.std.specs.Prelude.{◌≡◌, ◌≢◌, ◌⊎◌, List, IfOk, IfErr};
 ghost use Rattle.reader.specs.declared.fault.Rule.TheVariants as rules;
 ghost use Rattle.reader.specs.declared.sign.Sign.TheVariants as mark;
 ghost use Rattle.reader.specs.declared.keyword.Keyword.TheVariants as word;
 ghost use Rattle.reader.specs.Symbol.{symbols_of, key, sign};
-ghost use Rattle.reader.specs.Tree.{column_tree, columns_tree, constant_tree, constants_tree, listed_tree, condition_tree, conditions_tree, join_tree, select_tree, insert_tree, assigned_tree, assignment_tree, assignments_tree, update_tree, delete_tree, written_tree};
+ghost use Rattle.reader.specs.Tree.{column_tree, columns_tree, constant_tree, constants_tree, listed_tree, condition_tree, conditions_tree, join_tree, joins_tree, select_tree, insert_tree, assigned_tree, assignment_tree, assignments_tree, update_tree, delete_tree, written_tree};
 ghost use Rattle.reader.specs.Tree as tree;
 ghost use Rattle.reader.specs.Grammar.{Writes, WriteOneCommand, WritesConditions, WriteOneListOfConditions};
-ghost use Rattle.reader.specs.Parsing.{Reads, Gives, items_at, column_at, constant_at, listed_at, condition_at, where_at, joined_at, join_at, select_at, insert_at, sum_at, assigned_at, assignment_at, update_at, delete_at, bare_at, written_at, command_at, conditions_alone_at};
+ghost use Rattle.reader.specs.Parsing.{Reads, Gives, items_at, column_at, constant_at, listed_at, condition_at, where_at, joined_at, joins_from, joins_at, select_at, insert_at, sum_at, assigned_at, assignment_at, update_at, delete_at, bare_at, written_at, command_at, conditions_alone_at};
 
 use crate::cursor::Cursor;
 use crate::fault::ReadFault;
@@ -160,19 +160,32 @@ fn joined<'a>(cursor: &mut Cursor<'a>) -> Result<Join<'a>, ReadFault>
     })
 }
 
-/// `[ JOIN joined ]`
-#[tactic(auto, unfolding(crate::specs::Parsing::join_at, crate::specs::Parsing::and_then, crate::specs::Parsing::given))]
-fn join<'a>(cursor: &mut Cursor<'a>) -> Result<Option<Join<'a>>, ReadFault>
-    ensures { Reads (option_map join_tree) result cursor.new (join_at cursor.old) }
+/// `joined [ JOIN joined ]`, which follows JOIN.
+#[tactic(auto, unfolding(crate::specs::Parsing::joins_from, crate::specs::Parsing::and_then, crate::specs::Parsing::given))]
+fn joins_from<'a>(alloc: Global, cursor: &mut Cursor<'a>) -> Result<Vec<Join<'a>>, ReadFault>
+    ensures { Reads joins_tree result cursor.new (joins_from cursor.old) }
+{
+    let mut joins = Vec::new(alloc);
+    joins.push(joined(cursor)?)?;
+    if cursor.eat_keyword(Keyword::Join) {
+        joins.push(joined(cursor)?)?;
+    }
+    Ok(joins)
+}
+
+/// `joins = [ JOIN joined [ JOIN joined ] ]`
+#[tactic(auto, unfolding(crate::specs::Parsing::joins_at, crate::specs::Parsing::given))]
+fn joins<'a>(alloc: Global, cursor: &mut Cursor<'a>) -> Result<Vec<Join<'a>>, ReadFault>
+    ensures { Reads joins_tree result cursor.new (joins_at cursor.old) }
 {
     if cursor.eat_keyword(Keyword::Join) {
-        Ok(Some(joined(cursor)?))
+        joins_from(alloc, cursor)
     } else {
-        Ok(None)
+        Ok(Vec::new(alloc))
     }
 }
 
-/// `select = list FROM name [ JOIN joined ] [ WHERE conditions ]`, which follows SELECT.
+/// `select = list FROM name joins [ WHERE conditions ]`, which follows SELECT.
 #[tactic(auto, unfolding(crate::specs::Parsing::select_at, crate::specs::Parsing::and_then))]
 fn select<'a>(alloc: Global, cursor: &mut Cursor<'a>) -> Result<Select<'a>, ReadFault>
     ensures { Reads select_tree result cursor.new (select_at cursor.old) }
@@ -180,12 +193,12 @@ fn select<'a>(alloc: Global, cursor: &mut Cursor<'a>) -> Result<Select<'a>, Read
     let listed = listed(alloc, cursor)?;
     cursor.expect_keyword(Keyword::From)?;
     let relation = cursor.named()?;
-    let join = join(cursor)?;
+    let joins = joins(alloc, cursor)?;
     let conditions = where_clause(alloc, cursor)?;
     Ok(Select {
         listed,
         relation,
-        join,
+        joins,
         conditions,
     })
 }

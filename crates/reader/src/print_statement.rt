@@ -1,11 +1,11 @@
 //! The text of statements: as `read` takes it, with keywords in capitals.
 
-ghost use Rattle.std.specs.Prelude.{◌≡◌, ◌++◌, codes, map, option_map, IfOk, OnOk, string_bytes};
+ghost use Rattle.std.specs.Prelude.{◌≡◌, ◌++◌, codes, map, flat_map, IfOk, OnOk, string_bytes};
 ghost use Rattle.meaning.specs.declared.statement.Assigned.TheVariants.{Sum};
 ghost use Rattle.reader.specs.Columns.{column_at};
 ghost use Rattle.reader.specs.Grammar.{comparison_sign};
 ghost use Rattle.reader.specs.Sign.{sign_text};
-ghost use Rattle.reader.specs.Written.{name_in, column_in, qualified_column, constant_as, condition_as, conditions_as, join_as, select_as, insert_as, assigned_as, assignment_as, update_as, delete_as};
+ghost use Rattle.reader.specs.Written.{name_in, column_in, column_of_joined, qualified_column, constant_as, condition_as, conditions_as, join_as, select_as, insert_as, assigned_as, assignment_as, update_as, delete_as};
 ghost use Rattle.reader.specs.PrintStatement.{separated_bytes, column_bytes, constant_bytes, constants_bytes, condition_bytes, conditions_bytes, where_bytes, join_bytes, select_bytes, insert_bytes, assigned_bytes, assignment_bytes, update_bytes, delete_bytes, statement_bytes, conds_bytes, part_bytes};
 
 use crate::print_constant::PrintedConstant;
@@ -62,18 +62,21 @@ enum Columns<'a> {
     OfSchema(&'a [Column]),
     /// Those of one relation, by their plain names.
     OfOne(&'a Source),
-    /// Those of two relations, with their relations' names: the second's are counted on from the first's.
-    OfTwo(&'a Source, &'a Source),
+    /// Those of a relation and of all that are joined with it, with their relations' names: those of each are counted on
+    /// from all before them.
+    OfJoined(&'a Source, &'a [Join]),
 }
 
 impl<'a> Columns<'a> {
     /// Those of a select.
     fn of_select(select: &'a Select) -> Columns<'a>
-        ensures { column_at result ≡ column_in select.now.from select.now.join }
+        ensures { column_at result ≡ column_in select.now.from select.now.joins }
     {
-        match &select.join {
-            Some(join) => Columns::OfTwo(&select.from, &join.relation),
-            None => Columns::OfOne(&select.from),
+        let joins = select.joins.as_slice();
+        if joins.is_empty() {
+            Columns::OfOne(&select.from)
+        } else {
+            Columns::OfJoined(&select.from, joins)
         }
     }
 
@@ -89,10 +92,10 @@ impl<'a> Columns<'a> {
                 Ok(())
             }
             Columns::OfOne(source) => put_name(out, source.columns.as_slice(), place),
-            Columns::OfTwo(from, joined) => match place.checked_sub(from.columns.as_slice().len()) {
-                None => put_qualified(out, from, place),
-                Some(place) => put_qualified(out, joined, place),
-            },
+            Columns::OfJoined(from, joins) => {
+                let (source, place) = relation_at(from, joins, place);
+                put_qualified(out, source, place)
+            }
         }
     }
 }
@@ -160,6 +163,22 @@ fn put_qualified(out: &mut String, source: &Source, place: usize) -> Result<(), 
     put_name(out, source.columns.as_slice(), place)
 }
 
+/// The relation of a column, among one and those that are joined with it, and its place there.
+fn relation_at<'a>(from: &'a Source, joins: &'a [Join], place: usize) -> (&'a Source, usize)
+    ensures { qualified_column result.0.now result.1 ≡ column_of_joined from.now joins.now place }
+{
+    let mut source = from;
+    let mut place = place;
+    for join in joins {
+        let Some(behind) = place.checked_sub(source.columns.as_slice().len()) else {
+            return (source, place);
+        };
+        source = &join.relation;
+        place = behind;
+    }
+    (source, place)
+}
+
 fn put_select(out: &mut String, select: &Select) -> Result<(), Memory>
     ensures { OnOk result (string_bytes out.new ≡ string_bytes out.old ++ select_bytes (select_as select.now)) }
 {
@@ -167,7 +186,7 @@ fn put_select(out: &mut String, select: &Select) -> Result<(), Memory>
     out.push_str("SELECT ")?;
     put_list(out, &columns, select.columns.as_slice())?;
     write!(out, " FROM {}", select.from.name)?;
-    put_join(out, &select.from, &select.join)?;
+    put_joins(out, &columns, select.joins.as_slice())?;
     put_where(out, &columns, select.conds.as_slice())
 }
 
@@ -177,15 +196,21 @@ fn put_list(out: &mut String, columns: &Columns<'_>, places: &[usize]) -> Result
     put_separated(out, columns, SEPARATOR, places)
 }
 
-/// A JOIN, if there is one.
-fn put_join(out: &mut String, from: &Source, join: &Option<Join>) -> Result<(), Memory>
-    ensures { OnOk result (string_bytes out.new ≡ string_bytes out.old ++ join_bytes (option_map (join_as from.now) join.now)) }
+/// The JOINs, if there are some.
+fn put_joins(out: &mut String, columns: &Columns<'_>, joins: &[Join]) -> Result<(), Memory>
+    ensures { OnOk result (string_bytes out.new ≡ string_bytes out.old ++ flat_map join_bytes (map (join_as (column_at columns.now)) joins.now)) }
 {
-    let Some(join) = join else {
-        return Ok(());
-    };
+    for join in joins {
+        put_join(out, columns, join)?;
+    }
+    Ok(())
+}
+
+fn put_join(out: &mut String, columns: &Columns<'_>, join: &Join) -> Result<(), Memory>
+    ensures { OnOk result (string_bytes out.new ≡ string_bytes out.old ++ join_bytes (join_as (column_at columns.now) join.now)) }
+{
     write!(out, " JOIN {} ON ", join.relation.name)?;
-    put_qualified(out, from, join.col)?;
+    columns.put_column(out, join.col)?;
     out.push_str(" = ")?;
     put_qualified(out, &join.relation, 0)
 }

@@ -1,17 +1,20 @@
 //! Scopes: the columns that a written column may mean.
 
-ghost use Rattle.std.specs.Prelude.{◌≡◌, length, nat_eq, IfErr};
+ghost use Rattle.std.specs.Prelude.{◌≡◌, ◌≤◌, ◌^◌, ◌-◌, [], ◌∷◌, ◌++◌, length, map, nat_eq, IfOk, IfErr};
 ghost use Rattle.std.specs.Cmp.Lexicographic.{pointwise};
 ghost use Rattle.std.specs.List.{position_from};
 ghost use Rattle.reader.specs.Breaks.{ColumnBreaks};
 ghost use Rattle.reader.specs.Resolving.{Resolves};
-ghost use Rattle.reader.specs.Scope.{table_of, scope_of, relation_table, one_relation, two_relations, columns_alone, is_qualifier, column_named, found_in_table, found_in_joined, found_in};
+ghost use Rattle.reader.specs.Scope.{table_of, relation_table, one_relation, columns_alone, types_in, is_qualifier, column_named, found_in_table, found_in};
 ghost use Rattle.reader.specs.Tree.{column_tree};
 
 use crate::fault::{ReadFault, Rule};
 use crate::tree::Column;
 use meaning::schema;
 use meaning::schema::RelationSchema;
+use std::alloc::Global;
+use std::marker::Model;
+use terms::memory::Memory;
 use terms::value::Kind;
 
 /// A column that a name means.
@@ -30,11 +33,24 @@ pub struct Table<'a> {
     pub columns: &'a [schema::Column],
 }
 
-/// The columns of one table, or of two that are joined.
-#[derive(Clone, Copy)]
+/// The tables whose columns a written column may mean.
+#[derive(Drop)]
 pub struct Scope<'a> {
-    pub first: Table<'a>,
-    pub joined: Option<Table<'a>>,
+    first: Table<'a>,
+    others: Vec<Table<'a>>,
+    /// The number of all columns.
+    width: usize,
+}
+
+impl<'a> Model for Scope<'a> {
+    ghost use Rattle.std.specs.Prelude.{◌≡◌, ◌≤◌, ◌^◌, ◌-◌, ◌∷◌, length, map};
+    ghost use Rattle.reader.specs.Scope.{Scope, table_of, types_in};
+
+    ghost Value = { Scope };
+
+    ghost view = { λ s. table_of s.first ∷ map table_of s.others.items };
+
+    ghost invariant = { λ s. (s.width ≡ length (types_in (table_of s.first ∷ map table_of s.others.items))) × (s.width ≤ 2 ^ 64 - 1) };
 }
 
 /// The columns of a relation.
@@ -48,36 +64,60 @@ fn relation_columns(relation: &RelationSchema) -> Table<'_>
 }
 
 /// The scope of a statement of one relation.
-pub fn of_one(relation: &RelationSchema) -> Scope<'_>
-    ensures { scope_of result ≡ one_relation relation.now }
+pub fn of_one(alloc: Global, relation: &RelationSchema) -> Scope<'_>
+    ensures { result ≡ one_relation relation.now }
 {
-    Scope {
-        first: relation_columns(relation),
-        joined: None,
-    }
-}
-
-/// The scope of a join.
-pub fn of_two<'a>(relation: &'a RelationSchema, other: &'a RelationSchema) -> Scope<'a>
-    ensures { scope_of result ≡ two_relations relation.now other.now }
-{
-    Scope {
-        first: relation_columns(relation),
-        joined: Some(relation_columns(other)),
-    }
+    of_table(alloc, relation_columns(relation))
 }
 
 /// The scope of conditions that stand alone: their columns have plain names.
-pub fn of_columns(columns: &[schema::Column]) -> Scope<'_>
-    ensures { scope_of result ≡ columns_alone columns.now }
+pub fn of_columns(alloc: Global, columns: &[schema::Column]) -> Scope<'_>
+    ensures { result ≡ columns_alone columns.now }
 {
-    Scope {
-        first: Table {
+    of_table(
+        alloc,
+        Table {
             name: None,
             columns,
         },
-        joined: None,
+    )
+}
+
+fn of_table(alloc: Global, table: Table<'_>) -> Scope<'_>
+    ensures { result ≡ table_of table.entry ∷ [] }
+{
+    Scope {
+        first: table,
+        others: Vec::new(alloc),
+        width: table.columns.len(),
     }
+}
+
+/// The scope with one relation more, unless no memory holds as many columns.
+pub fn with_relation<'a>(
+    scope: Scope<'a>,
+    relation: &'a RelationSchema,
+) -> Result<Scope<'a>, Memory>
+    ensures { IfOk result (λ wider. wider ≡ scope.entry ++ relation_table relation.now ∷ []) }
+{
+    let table = relation_columns(relation);
+    let Some(width) = scope.width.checked_add(table.columns.len()) else {
+        return Err(Memory);
+    };
+    let mut others = scope.others;
+    others.push(table)?;
+    Ok(Scope {
+        first: scope.first,
+        others,
+        width,
+    })
+}
+
+/// The number of all columns of a scope.
+pub fn width(scope: &Scope<'_>) -> usize
+    ensures { result ≡ length (types_in scope.now) }
+{
+    scope.width
 }
 
 fn first_named(columns: &[schema::Column], name: &[u8]) -> Option<usize>
@@ -127,36 +167,39 @@ fn find_in_table(table: &Table<'_>, column: &Column<'_>) -> Option<Found>
     }
 }
 
-/// A column of the joined table, counted on from those of the first.
-fn find_in_joined(scope: &Scope<'_>, column: &Column<'_>) -> Option<Found>
-    ensures { result ≡ found_in_joined (length scope.now.first.columns.now) (scope_of scope.now).joined (column_tree column.now) }
-{
-    match &scope.joined {
-        Some(table) => match find_in_table(table, column) {
-            Some(found) => {
-                prove!(found.place < table.columns.len());
-                Some(Found {
-                    place: scope.first.columns.len() + found.place,
-                    kind: found.kind,
-                })
-            }
-            None => None,
-        },
-        None => None,
-    }
-}
-
 /// The column that a written one means.
 pub fn find(scope: &Scope<'_>, column: &Column<'_>) -> Result<Found, ReadFault>
-    ensures exact { Resolves (λ found. found) result (found_in (scope_of scope.now) (column_tree column.now)) }
-    ensures rule { IfErr result (λ fault. ColumnBreaks fault.rule (scope_of scope.now) (column_tree column.now)) }
+    ensures exact { Resolves (λ found. found) result (found_in scope.now (column_tree column.now)) }
+    ensures rule { IfErr result (λ fault. ColumnBreaks fault.rule scope.now (column_tree column.now)) }
 {
-    let first = find_in_table(&scope.first, column);
-    let joined = find_in_joined(scope, column);
-    match (first, joined) {
-        (Some(_), Some(_)) => Err(ReadFault::new(Rule::Ambiguous, column.offset)),
-        (Some(found), None) => Ok(found),
-        (None, Some(found)) => Ok(found),
-        (None, None) => Err(ReadFault::new(Rule::NoColumn, column.offset)),
+    find_among(&scope.first, scope.others.as_slice(), column)
+}
+
+fn find_among(
+    first: &Table<'_>,
+    others: &[Table<'_>],
+    column: &Column<'_>,
+) -> Result<Found, ReadFault>
+    requires { length (types_in (table_of first.now ∷ map table_of others.now)) ≤ 2 ^ 64 - 1 }
+    ensures exact { Resolves (λ found. found) result (found_in (table_of first.now ∷ map table_of others.now) (column_tree column.now)) }
+    ensures rule { IfErr result (λ fault. ColumnBreaks fault.rule (table_of first.now ∷ map table_of others.now) (column_tree column.now)) }
+{
+    let mut only = find_in_table(first, column);
+    let mut before = first.columns.len();
+    for table in others {
+        if let Some(found) = find_in_table(table, column) {
+            if only.is_some() {
+                return Err(ReadFault::new(Rule::Ambiguous, column.offset));
+            }
+            only = Some(Found {
+                place: before + found.place,
+                kind: found.kind,
+            });
+        }
+        before += table.columns.len();
+    }
+    match only {
+        Some(found) => Ok(found),
+        None => Err(ReadFault::new(Rule::NoColumn, column.offset)),
     }
 }

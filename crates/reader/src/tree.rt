@@ -65,12 +65,13 @@ pub struct Join<'a> {
     pub right: Column<'a>,
 }
 
-/// `SELECT .. FROM .. [JOIN ..] [WHERE ..]`
+/// `SELECT .. FROM .. [JOIN ..]* [WHERE ..]`
 #[derive(Debug, Drop)]
 pub struct Select<'a> {
     pub listed: Listed<'a>,
     pub relation: Named<'a>,
-    pub join: Option<Join<'a>>,
+    /// Two at most.
+    pub joins: Vec<Join<'a>>,
     /// None where there is no WHERE.
     pub conditions: Vec<Condition<'a>>,
 }
