@@ -1,5 +1,5 @@
 -- What lists of rows with ascending keys have at a key, after a map that keeps the keys.
-use Rattle.std.proofs.Common.{◌≡◌, ℕ, ℤ, ◌<ℤ◌, Bool, true, false, cond, ◌&&◌, List, [], ◌∷◌, map, filter, Option, Some, None, option_and_then, refl, ap, sym, ◌∙◌, arith}
+use Rattle.std.proofs.Common.{◌≡◌, ℕ, ℤ, ◌<ℤ◌, Bool, true, false, cond, ◌&&◌, List, [], ◌∷◌, map, filter, Option, Some, None, option_and_then, refl, ap, sym, ◌∙◌, subst, arith}
 use Rattle.std.specs.List.{AllByRecursion, cons_option, filter_map}
 use Rattle.std.specs.Ordering.{int_eq}
 use Rattle.std.proofs.lemmas.Int.{ints}
@@ -40,6 +40,24 @@ pub at_mapped : (f : List Value → Option (List Value)) (key : ℤ) (rows : Lis
 at_mapped f key [] keeps order = refl
 at_mapped f key (row ∷ rows) keeps order =
     one_at f key row (filter_map f rows) (row_at key rows) (f row) (int_eq (key_of row) key) refl refl (keeps row) (at_mapped f key rows keeps order.1) (λ same. none_after key row rows same order.0)
+
+-- and it ascends
+after_mapped : (f : List Value → Option (List Value)) (key : ℤ) (rows : List (List Value)) → KeepsKeys f → AllByRecursion (λ later. key <ℤ key_of later) rows → AllByRecursion (λ later. key <ℤ key_of later) (filter_map f rows)
+after_mapped f key [] keeps later = tt
+after_mapped f key (row ∷ rows) keeps later = step (f row) refl (after_mapped f key rows keeps later.1)
+  where
+    step : (made : Option (List Value)) → f row ≡ made → AllByRecursion (λ later. key <ℤ key_of later) (filter_map f rows) → AllByRecursion (λ later. key <ℤ key_of later) (cons_option made (filter_map f rows))
+    step None is more = more
+    step (Some made) is more = (subst (λ k. key <ℤ k) (sym (keeps row made is)) later.0, more)
+
+pub ascends_mapped : (f : List Value → Option (List Value)) (rows : List (List Value)) → KeepsKeys f → Ascends rows → Ascends (filter_map f rows)
+ascends_mapped f [] keeps order = tt
+ascends_mapped f (row ∷ rows) keeps order = step (f row) refl (ascends_mapped f rows keeps order.1)
+  where
+    step : (made : Option (List Value)) → f row ≡ made → Ascends (filter_map f rows) → Ascends (cons_option made (filter_map f rows))
+    step None is more = more
+    step (Some made) is more =
+        (subst (λ k. AllByRecursion (λ later. k <ℤ key_of later) (filter_map f rows)) (sym (keeps row made is)) (after_mapped f (key_of row) rows keeps order.0), more)
 
 -- parts that pass a test, of rows that pass a test
 abbrev pub passed_part : (List Value → Bool) → (List Value → List Value) → (List Value → Bool) → List Value → Option (List Value)

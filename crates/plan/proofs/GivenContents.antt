@@ -9,7 +9,6 @@ use Rattle.catalog.specs.declared.fragment_leaf.FragmentLeaf.{FragmentLeaf}
 use Rattle.catalog.specs.Fragment.{content}
 use Rattle.catalog.specs.FragmentLeaf.{unnamed}
 use Rattle.plan.specs.declared.need.Need.{Need}
-use Rattle.plan.specs.declared.need.Needs.TheVariants.{One, Joined}
 use Rattle.plan.specs.Fetch.{placed}
 use Rattle.plan.specs.Given.{ContentsGive, ReadsGive}
 use Rattle.plan.specs.Rows.{met}
@@ -37,15 +36,11 @@ from_reads passes contents need all (leaf ∷ leaves) h =
     (λ fetched. ap (met (placed leaf.columns need.conds)) (h.0 fetched) ∙ twice (conds_hold (placed leaf.columns need.conds)) (content (unnamed leaf) all), from_reads passes contents need all leaves h.1)
 
 pub contents_give : ContentsGive
-contents_give catalogue whole passes contents (One need) are = from_contents passes contents need (rows_of whole need.relation) (leaves_of catalogue need.relation) (are need.relation)
-contents_give catalogue whole passes contents (Joined col need other) are = (
-  from_contents passes contents need (rows_of whole need.relation) (leaves_of catalogue need.relation) (are need.relation),
-  from_contents passes contents other (rows_of whole other.relation) (leaves_of catalogue other.relation) (are other.relation),
-)
+contents_give catalogue whole passes contents [] are = tt
+contents_give catalogue whole passes contents (need ∷ needs) are =
+    (from_contents passes contents need (rows_of whole need.relation) (leaves_of catalogue need.relation) (are need.relation), contents_give catalogue whole passes contents needs are)
 
 pub reads_give : ReadsGive
-reads_give catalogue whole passes contents (One need) are = from_reads passes contents need (rows_of whole need.relation) (leaves_of catalogue need.relation) are
-reads_give catalogue whole passes contents (Joined col need other) are = (
-  from_reads passes contents need (rows_of whole need.relation) (leaves_of catalogue need.relation) are.0,
-  from_reads passes contents other (rows_of whole other.relation) (leaves_of catalogue other.relation) are.1,
-)
+reads_give catalogue whole passes contents [] are = tt
+reads_give catalogue whole passes contents (need ∷ needs) are =
+    (from_reads passes contents need (rows_of whole need.relation) (leaves_of catalogue need.relation) are.0, reads_give catalogue whole passes contents needs are.1)

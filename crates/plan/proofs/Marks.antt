@@ -1,14 +1,16 @@
 -- The leaves that are stated are fetched.
-use Rattle.std.proofs.Common.{◌≡◌, inl, inr, ℕ, Bool, true, false, ◌||◌, ◌==◌, List, [], ◌∷◌, ◌++◌, nat_eq, refl, ap, ◌∙◌, arith}
+use Rattle.std.proofs.Common.{◌≡◌, inl, inr, ℕ, suc, Bool, true, false, ◌||◌, ◌==◌, List, [], ◌∷◌, ◌++◌, nat_eq, refl, ap, ◌∙◌, arith}
 use Rattle.std.specs.Cmp.Lexicographic.{pointwise}
 use Rattle.std.proofs.lemmas.Bool.Decides.{nat_tests}
 use Rattle.terms.specs.declared.leaf.Leaf.{Leaf}
 use Rattle.catalog.specs.declared.fragment_leaf.FragmentLeaf.{FragmentLeaf}
 use Rattle.plan.specs.declared.fetch.Fetch.{Fetch}
 use Rattle.plan.specs.declared.need.Need.{Need}
+use Rattle.plan.specs.declared.need.Needs.{Needs}
+use Rattle.catalog.specs.Catalogue.{Catalogue}
 use Rattle.plan.specs.Fetch.{fetch_of}
 use Rattle.plan.specs.Reduced.{is_fetched, same_leaf}
-use Rattle.plan.specs.Stated.{AreFetches}
+use Rattle.plan.specs.Stated.{AreFetches, AreFetchesFrom, IsStatedBy, leaves_of, ties_of}
 use Rattle.plan.proofs.CarriedConds.{and_true}
 use Rattle.plan.proofs.Covered.{or_second}
 use Rattle.plan.proofs.OneFound.{AreMarked}
@@ -62,3 +64,22 @@ marks_first Stated leaves fetches first second is marks =
 pub marks_second : (Stated : FragmentLeaf → Type 0) (leaves : List FragmentLeaf) (fetches first second : List Fetch) → fetches ≡ first ++ second → AreMarked Stated (is_fetched second) leaves → AreMarked Stated (is_fetched fetches) leaves
 marks_second Stated leaves fetches first second is marks =
     marks_more Stated (is_fetched second) (is_fetched fetches) leaves (λ leaf h. ap (λ (all : List Fetch). is_fetched all leaf) is ∙ in_back first second leaf h) marks
+
+abbrev pub AreMarkedFrom : Catalogue → Needs → ℕ → List Need → (Leaf → Bool) → Type 0
+AreMarkedFrom catalogue needs number [] passes = Unit {0}
+AreMarkedFrom catalogue needs number (need ∷ later) passes = AreMarked (IsStatedBy catalogue need (ties_of needs number)) passes (leaves_of catalogue need.relation) × AreMarkedFrom catalogue needs (suc number) later passes
+
+marked_more : (catalogue : Catalogue) (needs : Needs) (number : ℕ) (later : List Need) (one other : Leaf → Bool) → ((leaf : Leaf) → one leaf ≡ true → other leaf ≡ true) → AreMarkedFrom catalogue needs number later one → AreMarkedFrom catalogue needs number later other
+marked_more catalogue needs number [] one other more marks = tt
+marked_more catalogue needs number (need ∷ later) one other more marks =
+    (marks_more (IsStatedBy catalogue need (ties_of needs number)) one other (leaves_of catalogue need.relation) more marks.0, marked_more catalogue needs (suc number) later one other more marks.1)
+
+pub marked_from : (catalogue : Catalogue) (needs : Needs) (number : ℕ) (later : List Need) (fetches : List Fetch) → AreFetchesFrom catalogue needs number later fetches → AreMarkedFrom catalogue needs number later (is_fetched fetches)
+marked_from catalogue needs number [] fetches are = tt
+marked_from catalogue needs number (need ∷ later) fetches are =
+    let Stated : FragmentLeaf → Type 0 = IsStatedBy catalogue need (ties_of needs number) in
+    let leaves = leaves_of catalogue need.relation in (
+      marks_first Stated leaves fetches are.first are.second are.both (fetched_marks Stated need leaves are.first are.front),
+      marked_more catalogue needs (suc number) later (is_fetched are.second) (is_fetched fetches) (λ leaf h. ap (λ (all : List Fetch). is_fetched all leaf) are.both ∙ in_back are.first are.second leaf h)
+          (marked_from catalogue needs (suc number) later are.second are.rest),
+    )

@@ -1,6 +1,7 @@
 -- Lemmas on places of columns.
-use Rattle.std.proofs.Common.{◌≡◌, ℕ, zero, suc, ◌+◌, ◌++◌, [], ◌∷◌, ap, ◌∙◌, arith}
+use Rattle.std.proofs.Common.{◌≡◌, ℕ, zero, suc, ◌+◌, List, ◌++◌, [], ◌∷◌, ap, ◌∙◌, arith}
 use Rattle.std.specs.List.{range_with_len}
+use Rattle.plan.specs.Need.{width_of}
 
 -- one place more
 range_more : (a n : ℕ) → range_with_len a (n + 1) ≡ range_with_len a n ++ (a + n) ∷ []
@@ -12,3 +13,8 @@ range_more a (suc n) =
 
 pub places_more : (n : ℕ) → range_with_len 0 (n + 1) ≡ range_with_len 0 n ++ n ∷ []
 places_more n = let e : 0 + n ≡ n = omega arith in range_more 0 n ∙ ap (λ place. range_with_len 0 n ++ place ∷ []) e
+
+-- one relation more
+pub width_more : (widths : List ℕ) (width : ℕ) → width_of (widths ++ width ∷ []) ≡ width_of widths + width
+width_more [] width = omega arith
+width_more (first ∷ widths) width = let rest = width_more widths width in omega (arith, rest)

@@ -1,13 +1,12 @@
 -- The places that a statement reads are places of its relations' columns.
-use Rattle.std.proofs.Common.{◌≡◌, ℕ, zero, suc, ◌+◌, ◌-◌, ◌<◌, ◌≤◌, true, false, not, cond, nat_lt, List, [], ◌∷◌, ◌++◌, length, filter, map, refl, arith}
+use Rattle.std.proofs.Common.{ℕ, zero, suc, ◌+◌, ◌<◌, ◌≤◌, List, [], ◌∷◌, ◌++◌, length, arith}
 use Rattle.std.specs.List.{AllByRecursion, range_with_len}
-use Rattle.std.proofs.lemmas.Bool.Decides.{nat_tests}
 use Rattle.std.proofs.lemmas.Option.{slice_get_within}
 use Rattle.terms.specs.declared.cond.Cond.{Cond}
 use Rattle.terms.specs.declared.value.Kind.{Kind}
 use Rattle.terms.specs.Cond.{IsCondOf}
 use Rattle.terms.specs.Value.{kind_of}
-use Rattle.plan.specs.Need.{columns_of, places_below, places_past, places_to}
+use Rattle.plan.specs.Need.{columns_of, places_to}
 use Rattle.plan.proofs.NeedsFit.{all_both}
 
 abbrev pub AreBelow : ℕ → List ℕ → Type 0
@@ -23,27 +22,6 @@ columns_below n (c ∷ conds) all = (all.0, columns_below n conds all.1)
 
 pub read_below : (types : List Kind) (columns : List ℕ) (conds : List Cond) → AreBelow (length types) columns → AllByRecursion (IsCondOf types) conds → AreBelow (length types) (columns ++ columns_of conds)
 read_below types columns conds here all = all_both (λ place. place < length types) columns (columns_of conds) here (columns_below (length types) conds (conds_below types conds all))
-
-pub below_fit : (width : ℕ) (places : List ℕ) → AreBelow width (places_below width places)
-below_fit width [] = tt
-below_fit width (place ∷ places) =
-    elim (nat_lt place width) as (λ t. nat_lt place width ≡ t → AreBelow width (cond t (place ∷ places_below width places) (places_below width places))) [
-      | true ↦ λ is. (grind (arith, nat_tests), below_fit width places)
-      | false ↦ λ is. below_fit width places
-    ] refl
-
-pub past_fit : (width n all : ℕ) (places : List ℕ) → all ≡ width + n → AreBelow all places → AreBelow n (places_past width places)
-past_fit width n all [] is below = tt
-past_fit width n all (place ∷ places) is below =
-    let others = filter (λ p. not (nat_lt p width)) places in
-    elim (nat_lt place width) as (λ t. nat_lt place width ≡ t → AreBelow n (map (λ p. p - width) (cond (not t) (place ∷ others) others))) [
-      | true ↦ λ past. past_fit width n all places is below.1
-      | false ↦ λ past.
-          let behind : width ≤ place = grind (arith, nat_tests) in
-          let within : place < all = below.0 in
-          let sum : all ≡ width + n = is in
-          (omega arith, past_fit width n all places is below.1)
-    ] refl
 
 range_below : (a n limit : ℕ) → a + n ≤ limit → AreBelow limit (range_with_len a n)
 range_below a zero limit fits = tt

@@ -13,7 +13,7 @@ use Rattle.terms.specs.Row.{FitsKinds, key_of}
 use Rattle.terms.specs.Value.{kind_of}
 use Rattle.plan.specs.declared.stated.Places.{Places}
 use Rattle.plan.specs.Need.{on_column}
-use Rattle.plan.specs.Picked.{IsPutOn, joined_places, own_places, place_of, put_on}
+use Rattle.plan.specs.Picked.{AreJoined, IsPutOn, joined_places, own_places, place_of, put_on}
 use Rattle.plan.proofs.Columns.{fits_at, fits_set}
 use Rattle.plan.proofs.JoinFound.{fits_long}
 use Rattle.plan.proofs.Meeting.{first_of, integer, rest_of}
@@ -75,11 +75,7 @@ own_is_put types others conds few fit =
     let Fit : List Cond → Type 0 = λ cs. AllByRecursion (IsCondOf (types ++ others)) cs in
     record { fit = subst Fit (sym (put_own conds)) (front_fit types others conds fit); within = within_some types 0 conds (omega (arith, few)) fit }
 
--- the columns of two relations of a join
-pub record AreJoined (types others : List Kind) (col : ℕ) : Type 0 where
-  pub column : slice_get types col ≡ Some kinds.Int
-  pub key : slice_get others 0 ≡ Some kinds.Int
-
+-- a joined relation's columns are of the same types on their places
 kinds_placed : (types others : List Kind) (col : ℕ) → AreJoined types others col → (place : ℕ) → slice_get (types ++ others) (place_of (joined_places col (length types)) place) ≡ slice_get others place
 kinds_placed types others col joined place =
     let At : List Kind → Type 0 = λ all. slice_get (types ++ others) (place_of (joined_places col (length types)) place) ≡ slice_get all place in

@@ -15,18 +15,15 @@ use Rattle.catalog.specs.Formed.{IsLeafOver}
 use Rattle.catalog.specs.FragmentLeaf.{schemas_of}
 use Rattle.catalog.specs.Keyed.{row_at}
 use Rattle.catalog.specs.Valid.{IsValid}
-use Rattle.plan.specs.declared.fetch.Fetch.{Fetch}
 use Rattle.plan.specs.declared.need.Need.{Need}
-use Rattle.plan.specs.declared.need.Needs.TheVariants.{One}
 use Rattle.plan.specs.Found.{found_of}
 use Rattle.plan.specs.Located.{IsByColumns, IsOfNeed, once}
-use Rattle.plan.specs.Reduced.{GivesNeed, is_fetched, reduced}
+use Rattle.plan.specs.Reduced.{GivesNeed, reduced}
 use Rattle.plan.specs.Rows.{rows}
 use Rattle.plan.specs.Shape.{Shape, Filter}
-use Rattle.plan.specs.Stated.{AreFetchesFor, IsStated, kinds_in, leaves_of}
+use Rattle.plan.specs.Stated.{IsStated, IsStatedBy, kinds_in, leaves_of}
 use Rattle.plan.proofs.InCatalogue.{IsIn, kinds_are, leaves_are}
 use Rattle.plan.proofs.LeafReads.{GivesLeaf}
-use Rattle.plan.proofs.Marks.{fetched_marks}
 use Rattle.plan.proofs.OneFound.{AreMarked, one_found}
 use Rattle.plan.proofs.OneSide.{AreSeen, IsSide, side_leaves}
 
@@ -59,16 +56,20 @@ side_of catalogue schema need found passes contents whole fit there needed given
       given = subst Given (leaves_same catalogue need.relation schema found) given;
     }
 
-pub one_need : (catalogue : Catalogue) (schema : RelationSchema) (need : Need) (found : IsIn catalogue need.relation schema) (fetches : List Fetch) (contents : Leaf → List (List Value)) (whole : Relations) (key : ℤ) (plan : Shape) → SomeServes → OneServes →
+-- a need without ONs
+alone_marks : (catalogue : Catalogue) (need : Need) (passes : Leaf → Bool) (leaves : List FragmentLeaf) → AreMarked (IsStatedBy catalogue need []) passes leaves → AreMarked (IsStated (kinds_in catalogue need.relation) need) passes leaves
+alone_marks catalogue need passes [] marks = tt
+alone_marks catalogue need passes (leaf ∷ leaves) marks = (λ stated. marks.0 (record { serves = stated; meets = tt }), alone_marks catalogue need passes leaves marks.1)
+
+pub one_need : (catalogue : Catalogue) (schema : RelationSchema) (need : Need) (found : IsIn catalogue need.relation schema) (passes : Leaf → Bool) (contents : Leaf → List (List Value)) (whole : Relations) (key : ℤ) (plan : Shape) → SomeServes → OneServes →
     IsOfNeed catalogue need plan → FitsSchema (schemas_of catalogue) whole → meaning.relation_named need.relation (schemas_of catalogue) ≡ Some schema → AllByRecursion (λ col. col < length (kinds_of schema)) need.columns → AreSeen need.columns need.conds →
-    AreFetchesFor catalogue (One need) fetches → GivesNeed catalogue whole (is_fetched fetches) contents need →
-    rows (reduced (is_fetched fetches) (Filter need.conds plan)) contents key ≡ option_and_then (found_of need.conds need.columns) (row_at key (rows_of whole need.relation))
-one_need catalogue schema need found fetches contents whole key plan cover one is fit there needed seen are given =
-    let passes = is_fetched fetches in
+    AreMarked (IsStatedBy catalogue need []) passes (leaves_of catalogue need.relation) → GivesNeed catalogue whole passes contents need →
+    rows (reduced passes (Filter need.conds plan)) contents key ≡ option_and_then (found_of need.conds need.columns) (row_at key (rows_of whole need.relation))
+one_need catalogue schema need found passes contents whole key plan cover one is fit there needed seen marks given =
     let Marks : List Kind → List FragmentLeaf → Type 0 = λ types leaves. AreMarked (IsStated types need) passes leaves in
     let same = leaves_same catalogue need.relation schema found in
-    let marks = fetched_marks (IsStated (kinds_in catalogue need.relation) need) need (leaves_of catalogue need.relation) fetches are in
-    let marks_here = subst (λ types. Marks types (leaves_at catalogue need.relation schema found)) (kinds_are catalogue need.relation schema found) (subst (λ leaves. Marks (kinds_in catalogue need.relation) leaves) same marks) in
+    let own_marks = alone_marks catalogue need passes (leaves_of catalogue need.relation) marks in
+    let marks_here = subst (λ types. Marks types (leaves_at catalogue need.relation schema found)) (kinds_are catalogue need.relation schema found) (subst (λ leaves. Marks (kinds_in catalogue need.relation) leaves) same own_marks) in
     let Plans : List FragmentLeaf → Type 0 = λ leaves. IsByColumns need leaves (once need.columns) plan in
     one_found (kinds_of schema) found.relation.tree need found.relation.schema.name passes contents (rows_of whole need.relation) key plan cover one (subst Plans same is)
     (side_of catalogue schema need found passes contents whole fit there needed given) seen marks_here

@@ -1,14 +1,18 @@
 -- A plan of a statement without the reads of other leaves is uniform, and reads the fetches alone.
-use Rattle.std.proofs.Common.{◌≡◌, ◌≤◌, ◌<◌, ℕ, ◌+◌, Bool, true, false, not, cond, List, [], ◌∷◌, ◌++◌, filter, length, map, Option, Some, None, refl, ap, sym, ◌∙◌, subst, arith}
+use Rattle.std.proofs.Common.{◌≡◌, ◌≤◌, ◌<◌, ℕ, ◌+◌, ◌*◌, Bool, true, false, not, cond, List, [], ◌∷◌, ◌++◌, filter, length, map, Option, Some, None, refl, ap, sym, ◌∙◌, subst, arith}
 use Rattle.std.specs.List.{AllByRecursion, Contains, list_all, slice_get}
 use Rattle.std.specs.Option.{option_or}
 use Rattle.std.proofs.lemmas.List.{length-map}
 use Rattle.terms.specs.declared.leaf.Leaf.{Leaf}
 use Rattle.terms.specs.declared.value.Kind.{Kind}
 use Rattle.meaning.specs.declared.schema.RelationSchema.{RelationSchema}
+use Rattle.meaning.specs.declared.statement.Join.{Join}
+use Rattle.meaning.specs.declared.statement.Source.{Source}
 use Rattle.meaning.specs.declared.statement.Statement.{Statement}
 use Rattle.meaning.specs.declared.statement.Statement.TheVariants as statement
-use Rattle.meaning.specs.Statement.{IsStatementOf}
+use Rattle.meaning.specs.Schema as meaning
+use Rattle.meaning.specs.Schema.{kinds_of, names_of}
+use Rattle.meaning.specs.Statement.{AreJoinsOf, IsStatementOf}
 use Rattle.catalog.specs.declared.fragment_leaf.FragmentLeaf.{FragmentLeaf}
 use Rattle.catalog.specs.Catalogue.{Catalogue, IsValidCatalogue}
 use Rattle.catalog.specs.Counts.{has}
@@ -16,12 +20,11 @@ use Rattle.catalog.specs.Formed.{IsFormed, IsLeafOver}
 use Rattle.catalog.specs.FragmentLeaf.{schemas_of}
 use Rattle.catalog.specs.Path.{wanted}
 use Rattle.plan.specs.declared.fetch.Fetch as fetch
+use Rattle.plan.specs.declared.link.Link.{Link}
 use Rattle.plan.specs.declared.need.Need.{Need}
-use Rattle.plan.specs.declared.need.Needs.{Needs}
-use Rattle.plan.specs.declared.need.Needs.TheVariants.{One, Joined}
 use Rattle.plan.specs.Fetch.{fetch_of}
-use Rattle.plan.specs.Located.{IsByColumns, IsLocated, IsOfNeeds, covers, once, reaches, united, width_of}
-use Rattle.plan.specs.Need.{needs}
+use Rattle.plan.specs.Located.{IsByColumns, IsLocated, IsOfJoined, IsOfNeeds, covers, once, reaches, united}
+use Rattle.plan.specs.Need.{links_behind, needs, width_of}
 use Rattle.plan.specs.Reduced.{is_fetched, reduced}
 use Rattle.plan.specs.Rows.{is_seen}
 use Rattle.plan.specs.Shape.{Shape, Empty, Fetch, Filter, Project, Union, KeyJoin, Lookup}
@@ -32,6 +35,7 @@ use Rattle.plan.proofs.CarriedConds.{both}
 use Rattle.plan.proofs.CutColumns.{cut_to_key, cut_to_one, key_and, sorted_once}
 use Rattle.plan.proofs.Fetched.{IsAmong}
 use Rattle.plan.proofs.InCatalogue.{is_in, leaves_over}
+use Rattle.plan.proofs.Places.{width_more}
 
 -- the plans of a list that is put together, apart
 apart : (P : Shape → Type 0) (plans others : List Shape) → AllByRecursion P (plans ++ others) → AllByRecursion P plans × AllByRecursion P others
@@ -194,7 +198,7 @@ columns_within sites types passes need leaves (col ∷ next ∷ columns) plan ov
     subst P (sym is) (both_within (length types) (columns_had (reduced passes one)) (columns_had (reduced passes other)) (cover_within sites types passes need (col ∷ []) leaves one over here)
     (columns_within sites types passes need leaves (next ∷ columns) other over beyond))
 
-stays : (width bound : ℕ) (had : Option (List ℕ)) → width ≤ 16 → bound ≤ 16 → AreWithin bound had → StayWithin width had
+stays : (width bound : ℕ) (had : Option (List ℕ)) → width ≤ 48 → bound ≤ 16 → AreWithin bound had → StayWithin width had
 stays width bound None narrow few below = tt
 stays width bound (Some columns) narrow few below = all columns below
   where
@@ -202,36 +206,58 @@ stays width bound (Some columns) narrow few below = all columns below
     all [] h = tt
     all (col ∷ cols) h = let here = h.0 in (omega (arith, narrow, few, here), all cols h.1)
 
-needs_uniform : (catalogue : Catalogue) (width : ℕ) (wants : Needs) (passes : Leaf → Bool) (plan : Shape) → IsFormed catalogue → width ≤ 16 → IsOfNeeds catalogue width wants plan → IsUniform (reduced passes plan)
-needs_uniform catalogue width (One need) passes plan formed narrow is =
-    columns_uniform catalogue.sites (kinds_in catalogue need.relation) passes need (leaves_of catalogue need.relation) (once need.columns) plan (leaves_over catalogue need.relation formed).0 is
-needs_uniform catalogue width (Joined col need other) passes plan formed narrow (left, right, is, is_left, is_right) =
-    let here = leaves_over catalogue need.relation formed in
-    let there = leaves_over catalogue other.relation formed in
-    let P : Shape → Type 0 = λ p. IsUniform (reduced passes p) in
-    subst P (sym is) (
-      columns_uniform catalogue.sites (kinds_in catalogue need.relation) passes need (leaves_of catalogue need.relation) (once need.columns) left here.0 is_left,
-      columns_uniform catalogue.sites (kinds_in catalogue other.relation) passes other (leaves_of catalogue other.relation) (once other.columns) right there.0 is_right,
-      stays width (length (kinds_in catalogue other.relation)) (columns_had (reduced passes right)) narrow there.1
-          (columns_within catalogue.sites (kinds_in catalogue other.relation) passes other (leaves_of catalogue other.relation) (once other.columns) right there.0 is_right),
+-- further relations are looked up
+looked_uniform : (catalogue : Catalogue) (passes : Leaf → Bool) (links : List Link) (needs : List Need) (left plan : Shape) → IsFormed catalogue → AllByRecursion (λ link. link.key ≤ 48) links → IsOfJoined catalogue links needs left plan → IsUniform (reduced passes left) → IsUniform (reduced passes plan)
+looked_uniform catalogue passes [] needs left plan formed narrow is uniform = subst (λ p. IsUniform (reduced passes p)) (sym is) uniform
+looked_uniform catalogue passes (link ∷ links) [] left plan formed narrow is uniform = subst (λ p. IsUniform (reduced passes p)) (sym is) uniform
+looked_uniform catalogue passes (link ∷ links) (need ∷ needs) left plan formed narrow (right, is_right, more) uniform =
+    let there = leaves_over catalogue need.relation formed in
+    looked_uniform catalogue passes links needs (Lookup link.place link.key left right) plan formed narrow.1 more (
+      uniform,
+      columns_uniform catalogue.sites (kinds_in catalogue need.relation) passes need (leaves_of catalogue need.relation) (once need.columns) right there.0 is_right,
+      stays link.key (length (kinds_in catalogue need.relation)) (columns_had (reduced passes right)) narrow.0 there.1
+          (columns_within catalogue.sites (kinds_in catalogue need.relation) passes need (leaves_of catalogue need.relation) (once need.columns) right there.0 is_right),
     )
 
-narrow_width : (catalogue : Catalogue) (statement : Statement) → IsFormed catalogue → IsValidCatalogue catalogue → IsStatementOf (schemas_of catalogue) statement → width_of statement ≤ 16
-narrow_width catalogue (statement.Select select) formed valid of =
-    let found = is_in catalogue select.from.name of.relation formed valid of.there in
+needs_uniform : (catalogue : Catalogue) (links : List Link) (wants : List Need) (passes : Leaf → Bool) (plan : Shape) → IsFormed catalogue → AllByRecursion (λ link. link.key ≤ 48) links → IsOfNeeds catalogue links wants plan → IsUniform (reduced passes plan)
+needs_uniform catalogue links [] passes plan formed narrow is = subst (λ p. IsUniform (reduced passes p)) (sym is) tt
+needs_uniform catalogue links (need ∷ needs) passes plan formed narrow (left, is_left, is) =
+    looked_uniform catalogue passes links needs left plan formed narrow is
+    (columns_uniform catalogue.sites (kinds_in catalogue need.relation) passes need (leaves_of catalogue need.relation) (once need.columns) left (leaves_over catalogue need.relation formed).0 is_left)
+
+-- few columns stand before a joined relation
+few_columns : (catalogue : Catalogue) (source : Source) (schema : RelationSchema) → IsFormed catalogue → IsValidCatalogue catalogue → meaning.relation_named source.name (schemas_of catalogue) ≡ Some schema → source.columns ≡ names_of schema → length source.columns ≤ 16
+few_columns catalogue source schema formed valid there names =
+    let found = is_in catalogue source.name schema formed valid there in
     let few = found.formed.few in
-    let same : length found.relation.schema.columns ≡ length of.relation.columns = ap (λ (s : RelationSchema). length s.columns) found.same in
-    let wide : length select.from.columns ≡ length of.relation.columns = ap length of.names ∙ length-map of.relation.columns (λ c. c.name) in
+    let same : length found.relation.schema.columns ≡ length schema.columns = ap (λ (s : RelationSchema). length s.columns) found.same in
+    let wide : length source.columns ≡ length schema.columns = ap length names ∙ length-map schema.columns (λ c. c.name) in
     omega (arith, few, same, wide)
-narrow_width catalogue (statement.Insert insert) formed valid of = omega arith
-narrow_width catalogue (statement.Update update) formed valid of = omega arith
-narrow_width catalogue (statement.Delete delete) formed valid of = omega arith
+
+narrow_behind : (catalogue : Catalogue) (earlier : List (List ℕ)) (before : List Kind) (joins : List Join) (types : List Kind) (widths : List ℕ) (limit : ℕ) → IsFormed catalogue → IsValidCatalogue catalogue → AreJoinsOf (schemas_of catalogue) earlier before joins types → width_of widths + 16 * length joins ≤ limit →
+    AllByRecursion (λ link. link.key ≤ limit) (links_behind widths joins)
+narrow_behind catalogue earlier before [] types widths limit formed valid is few = tt
+narrow_behind catalogue earlier before (join ∷ joins) types widths limit formed valid (other, join_is, more) few =
+    let wide = few_columns catalogue join.relation other formed valid join_is.there join_is.names in
+    let sum = width_more widths (length join.relation.columns) in (
+      omega (arith, few),
+      narrow_behind catalogue (earlier ++ other.name ∷ []) (before ++ kinds_of other) joins types (widths ++ length join.relation.columns ∷ []) limit formed valid more (omega (arith, few, wide, sum)),
+    )
+
+narrow_links : (catalogue : Catalogue) (statement : Statement) → IsFormed catalogue → IsValidCatalogue catalogue → IsStatementOf (schemas_of catalogue) statement → AllByRecursion (λ link. link.key ≤ 48) (needs statement).links
+narrow_links catalogue (statement.Select select) formed valid of =
+    let wide = few_columns catalogue select.from of.relation formed valid of.there of.names in
+    let joins = of.few_joins in
+    narrow_behind catalogue (of.relation.name ∷ []) (kinds_of of.relation) select.joins of.types (length select.from.columns ∷ []) 48 formed valid of.joins (omega (arith, wide, joins))
+narrow_links catalogue (statement.Insert insert) formed valid of = tt
+narrow_links catalogue (statement.Update update) formed valid of = tt
+narrow_links catalogue (statement.Delete delete) formed valid of = tt
 
 pub plan_uniform : (catalogue : Catalogue) (statement : Statement) (passes : Leaf → Bool) (plan : Shape) → IsFormed catalogue → IsValidCatalogue catalogue → IsStatementOf (schemas_of catalogue) statement → IsLocated catalogue statement plan →
     IsUniform (reduced passes plan)
 plan_uniform catalogue statement passes plan formed valid of (below, is, is_below) =
     let P : Shape → Type 0 = λ p. IsUniform (reduced passes p) in
-    subst P (sym is) (needs_uniform catalogue (width_of statement) (needs statement) passes below formed (narrow_width catalogue statement formed valid of) is_below)
+    subst P (sym is) (needs_uniform catalogue (needs statement).links (needs statement).relations passes below formed (narrow_links catalogue statement formed valid of) is_below)
 
 -- each read of the plan is one of the fetches
 
@@ -276,13 +302,19 @@ columns_read_all fetches need leaves (col ∷ next ∷ columns) plan there (one,
     let P : Shape → Type 0 = Reads fetches in
     subst P (sym is) (cover_reads fetches need (col ∷ []) leaves one there here, columns_read_all fetches need leaves (next ∷ columns) other there beyond)
 
-needs_read : (catalogue : Catalogue) (width : ℕ) (wants : Needs) (fetches : List fetch.Fetch) (plan : Shape) → AreAmong catalogue fetches wants → IsOfNeeds catalogue width wants plan → Reads fetches plan
-needs_read catalogue width (One need) fetches plan there is = columns_read_all fetches need (leaves_of catalogue need.relation) (once need.columns) plan there is
-needs_read catalogue width (Joined col need other) fetches plan there (left, right, is, is_left, is_right) =
-    let P : Shape → Type 0 = Reads fetches in
-    subst P (sym is) (columns_read_all fetches need (leaves_of catalogue need.relation) (once need.columns) left there.0 is_left, columns_read_all fetches other (leaves_of catalogue other.relation) (once other.columns) right there.1 is_right)
+looked_read : (catalogue : Catalogue) (links : List Link) (needs : List Need) (fetches : List fetch.Fetch) (left plan : Shape) → AreAmong catalogue fetches needs → IsOfJoined catalogue links needs left plan → Reads fetches left → Reads fetches plan
+looked_read catalogue [] needs fetches left plan there is reads = subst (Reads fetches) (sym is) reads
+looked_read catalogue (link ∷ links) [] fetches left plan there is reads = subst (Reads fetches) (sym is) reads
+looked_read catalogue (link ∷ links) (need ∷ needs) fetches left plan there (right, is_right, more) reads =
+    looked_read catalogue links needs fetches (Lookup link.place link.key left right) plan there.1 more
+    (reads, columns_read_all fetches need (leaves_of catalogue need.relation) (once need.columns) right there.0 is_right)
 
-pub plan_reads : (catalogue : Catalogue) (statement : Statement) (fetches : List fetch.Fetch) (plan : Shape) → AreAmong catalogue fetches (needs statement) → IsLocated catalogue statement plan → Reads fetches plan
+needs_read : (catalogue : Catalogue) (links : List Link) (wants : List Need) (fetches : List fetch.Fetch) (plan : Shape) → AreAmong catalogue fetches wants → IsOfNeeds catalogue links wants plan → Reads fetches plan
+needs_read catalogue links [] fetches plan there is = subst (Reads fetches) (sym is) tt
+needs_read catalogue links (need ∷ needs) fetches plan there (left, is_left, is) =
+    looked_read catalogue links needs fetches left plan there.1 is (columns_read_all fetches need (leaves_of catalogue need.relation) (once need.columns) left there.0 is_left)
+
+pub plan_reads : (catalogue : Catalogue) (statement : Statement) (fetches : List fetch.Fetch) (plan : Shape) → AreAmong catalogue fetches (needs statement).relations → IsLocated catalogue statement plan → Reads fetches plan
 plan_reads catalogue statement fetches plan there (below, is, is_below) =
     let P : Shape → Type 0 = Reads fetches in
-    subst P (sym is) (needs_read catalogue (width_of statement) (needs statement) fetches below there is_below)
+    subst P (sym is) (needs_read catalogue (needs statement).links (needs statement).relations fetches below there is_below)

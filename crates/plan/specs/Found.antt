@@ -3,14 +3,12 @@ use Rattle.std.specs.Prelude.{ℕ, ℤ, if◌then◌else◌, List, [], ◌∷◌
 use Rattle.terms.specs.declared.cond.Cond.{Cond}
 use Rattle.terms.specs.declared.value.Value.{Value}
 use Rattle.terms.specs.Cond.{conds_hold}
-use Rattle.meaning.specs.declared.statement.Join.{Join}
-use Rattle.meaning.specs.declared.statement.Select.{Select}
 use Rattle.meaning.specs.declared.statement.Statement.{Statement}
 use Rattle.meaning.specs.declared.statement.Statement.TheVariants as statement
 use Rattle.meaning.specs.Selected.{rows_read}
 use Rattle.meaning.specs.Whole.{Relations, rows_of}
 use Rattle.catalog.specs.Keyed.{row_at}
-use Rattle.plan.specs.Need.{columns_read, key_is, places_to}
+use Rattle.plan.specs.Need.{columns_read, key_is, links_of, places_to}
 use Rattle.plan.specs.Rows.{Seen, seen_of}
 
 -- the conditions of a statement; an INSERT asks for its key
@@ -22,19 +20,14 @@ asked (statement.Delete delete) = delete.conds
 
 -- the whole rows that a statement reads or may change
 abbrev pub rows_asked : Statement → Relations → List (List Value)
-rows_asked (statement.Select select) whole = rows_read select.from select.join whole
+rows_asked (statement.Select select) whole = rows_read select.from select.joins whole
 rows_asked (statement.Insert insert) whole = rows_of whole insert.into
 rows_asked (statement.Update update) whole = rows_of whole update.relation.name
 rows_asked (statement.Delete delete) whole = rows_of whole delete.relation.name
 
--- the columns that a SELECT is to see, besides the key: in a join the column of ON and the joined key too
-abbrev pub columns_joined : Select → Option Join → List ℕ
-columns_joined select None = columns_read select
-columns_joined select (Some join) = join.col ∷ length select.from.columns ∷ columns_read select
-
--- the columns that a statement is to see; a change sees all
+-- the columns that a statement is to see, besides the key; a change sees all
 abbrev pub columns_asked : Statement → List ℕ
-columns_asked (statement.Select select) = columns_joined select select.join
+columns_asked (statement.Select select) = columns_read (links_of select) select
 columns_asked (statement.Insert insert) = []
 columns_asked (statement.Update update) = places_to (length update.relation.columns)
 columns_asked (statement.Delete delete) = places_to (length delete.relation.columns)

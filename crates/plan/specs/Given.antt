@@ -13,8 +13,6 @@ use Rattle.catalog.specs.Fragment.{content}
 use Rattle.catalog.specs.FragmentLeaf.{catalogue_leaves, leaf_named, schemas_of, unnamed}
 use Rattle.plan.specs.declared.fetch.Fetch.{Fetch}
 use Rattle.plan.specs.declared.need.Need.{Need}
-use Rattle.plan.specs.declared.need.Needs.{Needs}
-use Rattle.plan.specs.declared.need.Needs.TheVariants.{One, Joined}
 use Rattle.plan.specs.Fetch.{fetch_of}
 use Rattle.plan.specs.Need.{needs}
 use Rattle.plan.specs.Reduced.{GivesNeeds, is_fetched}
@@ -30,16 +28,15 @@ abbrev pub AreRead : Catalogue → Relations → (Leaf → Bool) → (Leaf → L
 AreRead catalogue whole passes contents need =
     AllByRecursion (λ leaf. passes leaf.name ≡ true → contents leaf.name ≡ met (fetch_of need leaf).conds (content (unnamed leaf) (rows_of whole need.relation))) (leaves_of catalogue need.relation)
 
-abbrev pub AreReads : Catalogue → Relations → (Leaf → Bool) → (Leaf → List (List Value)) → Needs → Type 0
-AreReads catalogue whole passes contents (One need) = AreRead catalogue whole passes contents need
-AreReads catalogue whole passes contents (Joined col need other) = AreRead catalogue whole passes contents need × AreRead catalogue whole passes contents other
+abbrev pub AreReads : Catalogue → Relations → (Leaf → Bool) → (Leaf → List (List Value)) → List Need → Type 0
+AreReads catalogue whole passes contents needs = AllByRecursion (AreRead catalogue whole passes contents) needs
 
 -- whole contents give it, and so does what the reads leave of them
 abbrev pub ContentsGive : Type 0
-ContentsGive = (catalogue : Catalogue) (whole : Relations) (passes : Leaf → Bool) (contents : Leaf → List (List Value)) (needs : Needs) → AreContents catalogue whole contents → GivesNeeds catalogue whole passes contents needs
+ContentsGive = (catalogue : Catalogue) (whole : Relations) (passes : Leaf → Bool) (contents : Leaf → List (List Value)) (needs : List Need) → AreContents catalogue whole contents → GivesNeeds catalogue whole passes contents needs
 
 abbrev pub ReadsGive : Type 0
-ReadsGive = (catalogue : Catalogue) (whole : Relations) (passes : Leaf → Bool) (contents : Leaf → List (List Value)) (needs : Needs) → AreReads catalogue whole passes contents needs → GivesNeeds catalogue whole passes contents needs
+ReadsGive = (catalogue : Catalogue) (whole : Relations) (passes : Leaf → Bool) (contents : Leaf → List (List Value)) (needs : List Need) → AreReads catalogue whole passes contents needs → GivesNeeds catalogue whole passes contents needs
 
 -- what a read brings of a whole database: those parts of its leaf that meet its conditions
 abbrev pub brought : Relations → Fetch → Option FragmentLeaf → List (List Value)
@@ -53,4 +50,4 @@ AreBrought catalogue whole fetches contents = AllByRecursion (λ read. contents 
 -- what the fetches of a statement bring is what the reads of its needs leave
 abbrev pub BroughtIsRead : Type 0
 BroughtIsRead = (catalogue : Catalogue) (statement : Statement) (fetches : List Fetch) (whole : Relations) (contents : Leaf → List (List Value)) → IsFormed catalogue → IsStatementOf (schemas_of catalogue) statement → AreFetchesOf catalogue statement fetches →
-    AreBrought catalogue whole fetches contents → AreReads catalogue whole (is_fetched fetches) contents (needs statement)
+    AreBrought catalogue whole fetches contents → AreReads catalogue whole (is_fetched fetches) contents (needs statement).relations

@@ -1,15 +1,13 @@
 -- The words of the code's own steps, which a reader may skip: the plan of a statement, column by column.
-use Rattle.std.specs.Prelude.{◌≡◌, ℕ, ◌&&◌, Bool, if◌then◌else◌, List, [], ◌∷◌, ◌++◌, filter, length, map}
+use Rattle.std.specs.Prelude.{◌≡◌, ℕ, ◌&&◌, Bool, if◌then◌else◌, List, [], ◌∷◌, ◌++◌, filter, map}
 use Rattle.std.specs.List.{list_all}
 use Rattle.meaning.specs.declared.statement.Statement.{Statement}
-use Rattle.meaning.specs.declared.statement.Statement.TheVariants as statement
 use Rattle.catalog.specs.declared.fragment_leaf.FragmentLeaf.{FragmentLeaf}
 use Rattle.catalog.specs.Catalogue.{Catalogue}
 use Rattle.catalog.specs.Counts.{has}
 use Rattle.catalog.specs.Path.{wanted}
+use Rattle.plan.specs.declared.link.Link.{Link}
 use Rattle.plan.specs.declared.need.Need.{Need}
-use Rattle.plan.specs.declared.need.Needs.{Needs}
-use Rattle.plan.specs.declared.need.Needs.TheVariants.{One, Joined}
 use Rattle.plan.specs.Fetch.{fetch_of}
 use Rattle.plan.specs.Found.{asked}
 use Rattle.plan.specs.Need.{needs}
@@ -55,16 +53,16 @@ IsByColumns need leaves (col ∷ next ∷ columns) plan =
 abbrev pub IsOfNeed : Catalogue → Need → Shape → Type 0
 IsOfNeed catalogue need plan = IsByColumns need (leaves_of catalogue need.relation) (once need.columns) plan
 
--- of one relation, or of two, where the first has so many columns
-abbrev pub IsOfNeeds : Catalogue → ℕ → Needs → Shape → Type 0
-IsOfNeeds catalogue width (One need) plan = IsOfNeed catalogue need plan
-IsOfNeeds catalogue width (Joined col need other) plan = (left : Shape) × (right : Shape) × (plan ≡ Lookup col width left right) × IsOfNeed catalogue need left × IsOfNeed catalogue other right
+-- of the rows of the relations before, which have so many columns, and a plan for each further need: the rows that have a partner, one relation after another
+abbrev pub IsOfJoined : Catalogue → List Link → List Need → Shape → Shape → Type 0
+IsOfJoined catalogue [] needs left plan = plan ≡ left
+IsOfJoined catalogue (link ∷ links) [] left plan = plan ≡ left
+IsOfJoined catalogue (link ∷ links) (need ∷ needs) left plan = (right : Shape) × IsOfNeed catalogue need right × IsOfJoined catalogue links needs (Lookup link.place link.key left right) plan
 
--- how many columns the relation after FROM has
-abbrev pub width_of : Statement → ℕ
-width_of (statement.Select select) = length select.from.columns
-width_of _ = 0
+abbrev pub IsOfNeeds : Catalogue → List Link → List Need → Shape → Type 0
+IsOfNeeds catalogue links [] plan = plan ≡ Empty
+IsOfNeeds catalogue links (need ∷ needs) plan = (left : Shape) × IsOfNeed catalogue need left × IsOfJoined catalogue links needs left plan
 
 -- of the rows of its needs those that meet its conditions
 abbrev pub IsLocated : Catalogue → Statement → Shape → Type 0
-IsLocated catalogue statement plan = (below : Shape) × (plan ≡ Filter (asked statement) below) × IsOfNeeds catalogue (width_of statement) (needs statement) below
+IsLocated catalogue statement plan = (below : Shape) × (plan ≡ Filter (asked statement) below) × IsOfNeeds catalogue (needs statement).links (needs statement).relations below

@@ -1,8 +1,9 @@
--- The fetches of a statement as a function: those of the leaves that one test picks. Of a join it is a test over the rows of both relations, in which the two columns of ON are one.
-use Rattle.std.specs.Prelude.{◌≡◌, ℕ, suc, ◌+◌, ◌<◌, ◌==◌, ◌&&◌, Bool, true, if◌then◌else◌, List, [], ◌∷◌, ◌++◌, map, filter, length}
-use Rattle.std.specs.List.{AllByRecursion, list_any}
+-- The fetches of a statement as a function: those of the leaves that tests pick. For an ON it is a test over the rows of both relations, in which its two columns are one.
+use Rattle.std.specs.Prelude.{◌≡◌, ℕ, suc, ◌+◌, ◌<◌, ◌==◌, ◌&&◌, Bool, true, if◌then◌else◌, List, [], ◌∷◌, ◌++◌, Some, map, filter, length}
+use Rattle.std.specs.List.{AllByRecursion, list_all, list_any, slice_get}
 use Rattle.terms.specs.declared.cond.Cond.{Cond}
 use Rattle.terms.specs.declared.value.Kind.{Kind}
+use Rattle.terms.specs.declared.value.Kind.TheVariants.{Int}
 use Rattle.terms.specs.Cond.{IsCondOf}
 use Rattle.terms.specs.TestValues.{column_holds, constants, test_values}
 use Rattle.meaning.specs.declared.statement.Statement.{Statement}
@@ -15,11 +16,11 @@ use Rattle.catalog.specs.Path.{wanted}
 use Rattle.plan.specs.declared.fetch.Fetch.{Fetch}
 use Rattle.plan.specs.declared.need.Need.{Need}
 use Rattle.plan.specs.declared.need.Needs.{Needs}
-use Rattle.plan.specs.declared.need.Needs.TheVariants.{One, Joined}
 use Rattle.plan.specs.declared.stated.Places.{Places}
+use Rattle.plan.specs.declared.stated.Trial.{Trial}
 use Rattle.plan.specs.Fetch.{fetch_of}
 use Rattle.plan.specs.Need.{needs, on_column}
-use Rattle.plan.specs.Stated.{AreFetchesOf, kinds_in, leaves_of}
+use Rattle.plan.specs.Stated.{AreFetchesOf, Tie, ByColumn, ByKey, kinds_in, leaves_of, ties_of}
 
 -- whether in each column, from this one on, some test value meets the conditions
 abbrev pub columns_met : List Cond → ℕ → List Kind → Bool
@@ -51,24 +52,58 @@ pub record IsPutOn (kinds : List Kind) (places : Places) (conds : List Cond) : T
   pub fit : AllByRecursion (IsCondOf kinds) (put_on places conds)
   pub within : AllByRecursion (λ cond. places.past + cond.col < 18446744073709551616) conds
 
--- a leaf is picked where it is wanted, and some row meets its conditions and all those that are asked
-abbrev pub picks : List Kind → List Cond → Places → Need → FragmentLeaf → Bool
-picks kinds asked places need leaf = wanted need.columns leaf.steps && can_be_met kinds (put_on places leaf.conds ++ asked)
+-- two relations are joined by an integer column of the one and the key of the other
+pub record AreJoined (kinds others : List Kind) (col : ℕ) : Type 0 where
+  pub column : slice_get kinds col ≡ Some Int
+  pub key : slice_get others 0 ≡ Some Int
 
-abbrev pub picked : List Kind → List Cond → Places → Need → List FragmentLeaf → List Fetch
-picked kinds asked places need leaves = map (fetch_of need) (filter (picks kinds asked places need) leaves)
+-- an ON of a need joins its relation with the other, and the other's conditions fit its columns
+abbrev pub TieFits : Catalogue → Need → Tie → Type 0
+TieFits catalogue need (ByColumn col other) = AreJoined (kinds_in catalogue need.relation) (kinds_in catalogue other.relation) col × AllByRecursion (IsCondOf (kinds_in catalogue other.relation)) other.conds
+TieFits catalogue need (ByKey col other) = AreJoined (kinds_in catalogue other.relation) (kinds_in catalogue need.relation) col × AllByRecursion (IsCondOf (kinds_in catalogue other.relation)) other.conds
 
--- of both relations of a join one row is asked that meets the conditions of both needs
-abbrev pub picked_of_both : List Kind → List Kind → ℕ → Need → Need → List FragmentLeaf → List FragmentLeaf → List Fetch
-picked_of_both kinds others col need other leaves others_leaves =
-    let asked = need.conds ++ put_on (joined_places col (length kinds)) other.conds in
-    picked (kinds ++ others) asked own_places need leaves ++ picked (kinds ++ others) asked (joined_places col (length kinds)) other others_leaves
+-- what rows are tried for a need alone, and what pairs of rows for an ON: of these types, with the need's columns on these places, and all that is asked of them beside a leaf's conditions
+abbrev pub own_trial : Catalogue → Need → Trial
+own_trial catalogue need = record { kinds = kinds_in catalogue need.relation; places = own_places; asked = need.conds }
 
--- the fetches of a statement's needs
+abbrev pub asked_of_both : List Kind → ℕ → Need → Need → List Cond
+asked_of_both kinds col need other = need.conds ++ put_on (joined_places col (length kinds)) other.conds
+
+abbrev pub tie_trial : Catalogue → Need → Tie → Trial
+tie_trial catalogue need (ByColumn col other) =
+    let kinds = kinds_in catalogue need.relation in
+    record { kinds = kinds ++ kinds_in catalogue other.relation; places = own_places; asked = asked_of_both kinds col need other }
+tie_trial catalogue need (ByKey col other) =
+    let kinds = kinds_in catalogue other.relation in
+    record { kinds = kinds ++ kinds_in catalogue need.relation; places = joined_places col (length kinds); asked = asked_of_both kinds col other need }
+
+abbrev pub trials_of : Catalogue → Need → List Tie → List Trial
+trials_of catalogue need ties = own_trial catalogue need ∷ map (tie_trial catalogue need) ties
+
+-- whether some row meets a leaf's conditions and all those that are asked
+abbrev pub succeeds : FragmentLeaf → Trial → Bool
+succeeds leaf trial = can_be_met trial.kinds (put_on trial.places leaf.conds ++ trial.asked)
+
+-- a leaf may be tried so: what is asked, and its conditions on their places, fit the rows
+pub record IsTriedOn (trial : Trial) (leaf : FragmentLeaf) : Type 0 where
+  pub asked : AllByRecursion (IsCondOf trial.kinds) trial.asked
+  pub leaf_conds : IsPutOn trial.kinds trial.places leaf.conds
+
+-- a leaf is picked where it is wanted, and each trial succeeds
+abbrev pub picks : List Trial → Need → FragmentLeaf → Bool
+picks trials need leaf = wanted need.columns leaf.steps && list_all (succeeds leaf) trials
+
+abbrev pub picked : List Trial → Need → List FragmentLeaf → List Fetch
+picked trials need leaves = map (fetch_of need) (filter (picks trials need) leaves)
+
+-- the fetches of some of the needs, from the one of a number on
+abbrev pub fetches_from : Catalogue → Needs → ℕ → List Need → List Fetch
+fetches_from catalogue needs number [] = []
+fetches_from catalogue needs number (need ∷ later) =
+    picked (trials_of catalogue need (ties_of needs number)) need (leaves_of catalogue need.relation) ++ fetches_from catalogue needs (suc number) later
+
 abbrev pub fetches_for : Catalogue → Needs → List Fetch
-fetches_for catalogue (One need) = picked (kinds_in catalogue need.relation) need.conds own_places need (leaves_of catalogue need.relation)
-fetches_for catalogue (Joined col need other) =
-    picked_of_both (kinds_in catalogue need.relation) (kinds_in catalogue other.relation) col need other (leaves_of catalogue need.relation) (leaves_of catalogue other.relation)
+fetches_for catalogue needs = fetches_from catalogue needs 0 needs.relations
 
 -- the fetches of a statement
 abbrev pub fetches_by : Catalogue → Statement → List Fetch

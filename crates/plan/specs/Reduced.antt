@@ -11,8 +11,6 @@ use Rattle.catalog.specs.Fragment.{content}
 use Rattle.catalog.specs.FragmentLeaf.{schemas_of, unnamed}
 use Rattle.plan.specs.declared.fetch.Fetch as fetch
 use Rattle.plan.specs.declared.need.Need.{Need}
-use Rattle.plan.specs.declared.need.Needs.{Needs}
-use Rattle.plan.specs.declared.need.Needs.TheVariants.{One, Joined}
 use Rattle.plan.specs.Fetch.{fetch_of}
 use Rattle.plan.specs.Found.{found}
 use Rattle.plan.specs.Need.{needs}
@@ -43,11 +41,10 @@ abbrev pub GivesNeed : Catalogue → Relations → (Leaf → Bool) → (Leaf →
 GivesNeed catalogue whole passes contents need =
     AllByRecursion (λ leaf. passes leaf.name ≡ true → met (fetch_of need leaf).conds (contents leaf.name) ≡ met (fetch_of need leaf).conds (content (unnamed leaf) (rows_of whole need.relation))) (leaves_of catalogue need.relation)
 
-abbrev pub GivesNeeds : Catalogue → Relations → (Leaf → Bool) → (Leaf → List (List Value)) → Needs → Type 0
-GivesNeeds catalogue whole passes contents (One need) = GivesNeed catalogue whole passes contents need
-GivesNeeds catalogue whole passes contents (Joined col need other) = GivesNeed catalogue whole passes contents need × GivesNeed catalogue whole passes contents other
+abbrev pub GivesNeeds : Catalogue → Relations → (Leaf → Bool) → (Leaf → List (List Value)) → List Need → Type 0
+GivesNeeds catalogue whole passes contents needs = AllByRecursion (GivesNeed catalogue whole passes contents) needs
 
 -- a plan over contents of the fetched leaves has at each key what its statement is to find in the whole database
 abbrev pub FindsAll : Catalogue → Statement → List fetch.Fetch → Shape → Type 0
 FindsAll catalogue statement fetches plan =
-    (whole : Relations) (contents : Leaf → List (List Value)) (key : ℤ) → FitsSchema (schemas_of catalogue) whole → GivesNeeds catalogue whole (is_fetched fetches) contents (needs statement) → rows plan contents key ≡ found statement whole key
+    (whole : Relations) (contents : Leaf → List (List Value)) (key : ℤ) → FitsSchema (schemas_of catalogue) whole → GivesNeeds catalogue whole (is_fetched fetches) contents (needs statement).relations → rows plan contents key ≡ found statement whole key

@@ -1,30 +1,31 @@
 //! The fetches of a statement.
 
-ghost use Rattle.std.specs.Prelude.{◌≡◌, Some, IfOk, map};
-ghost use Rattle.std.specs.List.{AllByRecursion, slice_get};
-ghost use Rattle.terms.specs.declared.value.Kind.TheVariants.{Int};
+ghost use Rattle.std.specs.Prelude.{◌≡◌, ◌++◌, ◌+◌, ◌<◌, IfOk, IfSome, map, option_map};
+ghost use Rattle.std.specs.List.{AllByRecursion};
 ghost use Rattle.terms.specs.Cond.{IsCondOf};
 ghost use Rattle.meaning.specs.Statement.{IsStatementOf};
 ghost use Rattle.catalog.specs.FragmentLeaf.{schemas_of};
 ghost use Rattle.catalog.specs.Relation.{catalogue_of};
-ghost use Rattle.plan.specs.declared.need.Needs.TheVariants.{One, Joined};
-ghost use Rattle.plan.specs.Picked.{fetches_for};
-ghost use Rattle.plan.specs.Stated.{AreFetchesOf, kinds_in};
+ghost use Rattle.plan.specs.Picked.{TieFits, own_trial, picked, put_on, tie_trial, trials_of};
+ghost use Rattle.plan.specs.Stated.{AreFetchesOf, ByColumn, ByKey, kinds_in, leaves_of, tie_of, ties_of};
 
 use crate::fetch::Fetch;
+use crate::link::Link;
 use crate::need::{Need, Needs, statement_needs};
-use crate::stated::{Places, own_places, picked, put_on};
+use crate::stated::{Places, Trial, own_places, picked, put_on};
 use catalog::catalogue::Catalog;
 use catalog::laws::some_leaf_serves;
 use meaning::schema::Column;
 use meaning::statement::Statement;
 use std::alloc::Global;
-use terms::copy::copy_all;
+use terms::cond::Conds;
+use terms::copy::{TryCopy, copy_all};
 use terms::memory::Memory;
+use terms::seq::Seq;
 use terms::value::Kind;
 
 /// The leaves that a statement of the catalogue's schema fetches, and with which conditions: exactly those
-/// that it may need, in the order of the relation after FROM and then of the joined one, each by number.
+/// that it may need, in the order of the relation after FROM and then of the joined ones, each by number.
 pub fn statement_fetches(
     alloc: Global,
     catalog: &Catalog,
@@ -35,54 +36,155 @@ pub fn statement_fetches(
 {
     some_leaf_serves();
     let _relations = catalog.relations();
-    match statement_needs(alloc, statement)? {
-        Needs::One(need) => one_side(alloc, catalog, &need),
-        Needs::Joined { col, first, second } => both_sides(alloc, catalog, col, &first, &second),
+    let needs = statement_needs(alloc, statement)?;
+    let mut fetches = Vec::new(alloc);
+    for (number, need) in needs.relations.as_slice().iter().enumerate() {
+        let mut found = need_fetches(alloc, catalog, &needs, number, need)?;
+        fetches.append(&mut found)?;
     }
+    Ok(fetches)
 }
 
-/// The fetches of one need alone.
-fn one_side(alloc: Global, catalog: &Catalog, need: &Need) -> Result<Vec<Fetch>, Memory>
-    requires { AllByRecursion (IsCondOf (kinds_in (catalogue_of catalog.now) need.now.relation)) need.now.conds }
-    ensures { IfOk result (λ fetches. fetches.items ≡ fetches_for (catalogue_of catalog.now) (One need.now)) }
+/// The fetches of the need of a number.
+fn need_fetches(
+    alloc: Global,
+    catalog: &Catalog,
+    needs: &Needs,
+    number: usize,
+    need: &Need,
+) -> Result<Vec<Fetch>, Memory>
+    requires need { AllByRecursion (IsCondOf (kinds_in (catalogue_of catalog.now) need.now.relation)) need.now.conds }
+    requires ties { AllByRecursion (TieFits (catalogue_of catalog.now) need.now) (ties_of needs.now number) }
+    ensures { IfOk result (λ fetches. fetches.items ≡ picked (trials_of (catalogue_of catalog.now) need.now (ties_of needs.now number)) need.now (leaves_of (catalogue_of catalog.now) need.now.relation)) }
 {
     let _relations = catalog.relations();
-    let name = need.relation.as_str();
-    let kinds = relation_kinds(alloc, catalog, name)?;
-    let (asked, leaves) = (need.conds.as_slice(), catalog.leaves_of(name));
-    picked(alloc, kinds.as_slice(), asked, own_places(), need, leaves)
+    let trials = trials_of(alloc, catalog, needs, number, need)?;
+    let leaves = catalog.leaves_of(need.relation.as_str());
+    picked(alloc, trials.as_slice(), need, leaves)
 }
 
-/// The fetches of both sides of a join, one after the other: a leaf of either is tried over the columns of
-/// both, of which the joined key is the column of ON.
-fn both_sides(
+/// The rows that are tried for the need of a number: of its relation alone, and for each of its ONs those
+/// of both relations.
+fn trials_of(
+    alloc: Global,
+    catalog: &Catalog,
+    needs: &Needs,
+    number: usize,
+    need: &Need,
+) -> Result<Vec<Trial>, Memory>
+    requires need { AllByRecursion (IsCondOf (kinds_in (catalogue_of catalog.now) need.now.relation)) need.now.conds }
+    requires ties { AllByRecursion (TieFits (catalogue_of catalog.now) need.now) (ties_of needs.now number) }
+    ensures { IfOk result (λ trials. trials.items ≡ trials_of (catalogue_of catalog.now) need.now (ties_of needs.now number)) }
+{
+    let mut trials = Vec::new(alloc);
+    trials.push(own_trial(alloc, catalog, need)?)?;
+    let relations = needs.relations.as_slice();
+    for link in needs.links.as_slice() {
+        if let Some(trial) = link_trial(alloc, catalog, relations, number, need, link)? {
+            trials.push(trial)?;
+        }
+    }
+    Ok(trials)
+}
+
+/// The rows that are tried for an ON, if the need of the number takes part in it.
+fn link_trial(
+    alloc: Global,
+    catalog: &Catalog,
+    needs: &[Need],
+    number: usize,
+    need: &Need,
+    link: &Link,
+) -> Result<Option<Trial>, Memory>
+    requires need { AllByRecursion (IsCondOf (kinds_in (catalogue_of catalog.now) need.now.relation)) need.now.conds }
+    requires tie { IfSome (tie_of needs.now number link.now) (TieFits (catalogue_of catalog.now) need.now) }
+    ensures { IfOk result (λ trial. trial ≡ option_map (tie_trial (catalogue_of catalog.now) need.now) (tie_of needs.now number link.now)) }
+{
+    if link.from == number {
+        let Some(other) = needs.get(link.joined) else {
+            return Ok(None);
+        };
+        return Ok(Some(column_trial(alloc, catalog, link.col, need, other)?));
+    }
+    if link.joined == number {
+        let Some(other) = needs.get(link.from) else {
+            return Ok(None);
+        };
+        return Ok(Some(key_trial(alloc, catalog, link.col, other, need)?));
+    }
+    Ok(None)
+}
+
+/// The rows of a need's relation.
+fn own_trial(alloc: Global, catalog: &Catalog, need: &Need) -> Result<Trial, Memory>
+    ensures { IfOk result (λ trial. trial ≡ own_trial (catalogue_of catalog.now) need.now) }
+{
+    let kinds = relation_kinds(alloc, catalog, need.relation.as_str())?;
+    Ok(Trial {
+        kinds: Seq::new(kinds),
+        places: own_places(),
+        asked: need.conds.copy()?,
+    })
+}
+
+/// The rows of two relations, of which the second has as its key a column of the first, for leaves of the first.
+fn column_trial(
     alloc: Global,
     catalog: &Catalog,
     col: usize,
-    first: &Need,
-    second: &Need,
-) -> Result<Vec<Fetch>, Memory>
-    requires first { AllByRecursion (IsCondOf (kinds_in (catalogue_of catalog.now) first.now.relation)) first.now.conds }
-    requires second { AllByRecursion (IsCondOf (kinds_in (catalogue_of catalog.now) second.now.relation)) second.now.conds }
-    requires column { slice_get (kinds_in (catalogue_of catalog.now) first.now.relation) col ≡ Some Int }
-    requires key { slice_get (kinds_in (catalogue_of catalog.now) second.now.relation) 0 ≡ Some Int }
-    ensures { IfOk result (λ fetches. fetches.items ≡ fetches_for (catalogue_of catalog.now) (Joined col first.now second.now)) }
+    need: &Need,
+    other: &Need,
+) -> Result<Trial, Memory>
+    requires { TieFits (catalogue_of catalog.now) need.now (ByColumn col other.now) }
+    ensures { IfOk result (λ trial. trial ≡ tie_trial (catalogue_of catalog.now) need.now (ByColumn col other.now)) }
 {
     let _relations = catalog.relations();
-    let (name, other) = (first.relation.as_str(), second.relation.as_str());
-    let mut kinds = relation_kinds(alloc, catalog, name)?;
-    let joined = Places {
+    let mut kinds = relation_kinds(alloc, catalog, need.relation.as_str())?;
+    let places = Places {
         key: col,
         past: kinds.len(),
     };
-    kinds.append(&mut relation_kinds(alloc, catalog, other)?)?;
-    let mut asked = copy_all(alloc, first.conds.as_slice())?;
-    put_on(&mut asked, joined, second.conds.as_slice())?;
-    let (kinds, asked) = (kinds.as_slice(), asked.as_slice());
-    let (leaves, others) = (catalog.leaves_of(name), catalog.leaves_of(other));
-    let mut fetches = picked(alloc, kinds, asked, own_places(), first, leaves)?;
-    fetches.append(&mut picked(alloc, kinds, asked, joined, second, others)?)?;
-    Ok(fetches)
+    kinds.append(&mut relation_kinds(alloc, catalog, other.relation.as_str())?)?;
+    Ok(Trial {
+        kinds: Seq::new(kinds),
+        places: own_places(),
+        asked: asked_of_both(alloc, places, need, other)?,
+    })
+}
+
+/// The same rows, for leaves of the second.
+fn key_trial(
+    alloc: Global,
+    catalog: &Catalog,
+    col: usize,
+    other: &Need,
+    need: &Need,
+) -> Result<Trial, Memory>
+    requires conds { AllByRecursion (IsCondOf (kinds_in (catalogue_of catalog.now) need.now.relation)) need.now.conds }
+    ensures { IfOk result (λ trial. trial ≡ tie_trial (catalogue_of catalog.now) need.now (ByKey col other.now)) }
+{
+    let _relations = catalog.relations();
+    let mut kinds = relation_kinds(alloc, catalog, other.relation.as_str())?;
+    let places = Places {
+        key: col,
+        past: kinds.len(),
+    };
+    kinds.append(&mut relation_kinds(alloc, catalog, need.relation.as_str())?)?;
+    Ok(Trial {
+        kinds: Seq::new(kinds),
+        places,
+        asked: asked_of_both(alloc, places, other, need)?,
+    })
+}
+
+/// What both needs ask of the rows, the second on these places.
+fn asked_of_both(alloc: Global, places: Places, need: &Need, other: &Need) -> Result<Conds, Memory>
+    requires { AllByRecursion (λ cond. places.past + cond.col < 18446744073709551616) other.now.conds }
+    ensures { IfOk result (λ asked. asked ≡ need.now.conds ++ put_on places other.now.conds) }
+{
+    let mut asked = copy_all(alloc, need.conds.as_slice())?;
+    put_on(&mut asked, places, other.conds.as_slice())?;
+    Ok(Conds::new(asked))
 }
 
 /// The types of the columns of a relation of the catalogue; none where it is not there.

@@ -9,6 +9,7 @@
 pub mod fetch;
 pub mod fetches;
 pub mod laws;
+pub mod link;
 pub mod localize;
 pub mod need;
 pub mod plan;

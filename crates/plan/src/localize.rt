@@ -6,12 +6,13 @@ ghost use Rattle.catalog.specs.Counts.{has};
 ghost use Rattle.catalog.specs.Relation.{catalogue_of};
 ghost use Rattle.plan.specs.Fetch as spec;
 ghost use Rattle.plan.specs.Found.{asked};
-ghost use Rattle.plan.specs.Located.{IsByColumns, IsLocated, IsOfNeed, IsOfNeeds, covers, once, reaches, united, width_of};
+ghost use Rattle.plan.specs.Located.{IsByColumns, IsLocated, IsOfJoined, IsOfNeed, IsOfNeeds, covers, once, reaches, united};
 ghost use Rattle.plan.specs.Located as located;
 ghost use Rattle.plan.specs.PlanOf.{IsPlanOf};
 ghost use Rattle.plan.specs.Shape.{Fetch, Project, shape};
 
 use crate::fetch::fetch_of;
+use crate::link::Link;
 use crate::need::{Need, Needs, statement_needs};
 use crate::plan::Plan;
 use catalog::catalogue::Catalog;
@@ -46,37 +47,44 @@ fn located(alloc: Global, catalog: &Catalog, statement: &Statement) -> Result<Pl
 {
     let conds = conds_asked(alloc, statement)?;
     let needs = statement_needs(alloc, statement)?;
-    let below = sides(alloc, catalog, width_of(statement), &needs)?;
+    let below = joined(alloc, catalog, &needs)?;
     Ok(Plan::Filter(conds, Box::new(alloc, below)?))
 }
 
-/// The rows of the needs, of which the first relation has so many columns.
-fn sides(alloc: Global, catalog: &Catalog, width: usize, needs: &Needs) -> Result<Plan, Memory>
-    ensures { IfOk result (λ plan. IsOfNeeds (catalogue_of catalog.now) width needs.now (shape plan)) }
+/// The rows of the needs: those of the first, each with its partners in the others.
+fn joined(alloc: Global, catalog: &Catalog, needs: &Needs) -> Result<Plan, Memory>
+    ensures { IfOk result (λ plan. IsOfNeeds (catalogue_of catalog.now) needs.now.links needs.now.relations (shape plan)) }
 {
-    match needs {
-        Needs::One(need) => side(alloc, catalog, need),
-        Needs::Joined { col, first, second } => {
-            let left = Box::new(alloc, side(alloc, catalog, first)?)?;
-            let right = Box::new(alloc, side(alloc, catalog, second)?)?;
-            Ok(Plan::Lookup {
-                col: *col,
-                width,
-                left,
-                right,
-            })
-        }
-    }
+    let Some((first, others)) = needs.relations.as_slice().split_first() else {
+        return Ok(Plan::Empty);
+    };
+    let plan = side(alloc, catalog, first)?;
+    looked_up(alloc, catalog, needs.links.as_slice(), others, plan)
 }
 
-/// How many columns the relation after FROM has.
-fn width_of(statement: &Statement) -> usize
-    ensures { result ≡ width_of statement.now }
+/// Each row of a plan with its partners in the relations of the needs.
+fn looked_up(
+    alloc: Global,
+    catalog: &Catalog,
+    links: &[Link],
+    needs: &[Need],
+    plan: Plan,
+) -> Result<Plan, Memory>
+    ensures { IfOk result (λ all. IsOfJoined (catalogue_of catalog.now) links.now needs.now (shape plan) (shape all)) }
 {
-    match statement {
-        Statement::Select(select) => select.from.columns.as_slice().len(),
-        _ => 0,
-    }
+    let (Some((link, links)), Some((need, needs))) = (links.split_first(), needs.split_first())
+    else {
+        return Ok(plan);
+    };
+    let left = Box::new(alloc, plan)?;
+    let right = Box::new(alloc, side(alloc, catalog, need)?)?;
+    let plan = Plan::Lookup {
+        col: link.place,
+        width: link.key,
+        left,
+        right,
+    };
+    looked_up(alloc, catalog, links, needs, plan)
 }
 
 /// The conditions of a statement; an INSERT asks for its key.

@@ -2,19 +2,20 @@
 
 ghost use Rattle.std.specs.Prelude.{◌≡◌, ◌++◌, ◌∷◌, [], length, IfOk, OnOk};
 ghost use Rattle.plan.specs.Need as spec;
-ghost use Rattle.plan.specs.Need.{key_is, need_from, need_joined, needs_of_select, places_to};
+ghost use Rattle.plan.specs.Need.{carried, conds_of, key_is, needs_behind, needs_of_select, places_of, places_to};
 
+use crate::link::{Link, equal_of, is_of, links_of};
 use meaning::statement::{Insert, Join, Select, Source, Statement};
 use std::alloc::Global;
 use terms::cond::{Cmp, Cond, Conds};
-use terms::copy::{TryCopy, copy_all};
+use terms::copy::TryCopy;
 use terms::memory::Memory;
 use terms::seq::Seq;
 use terms::text::Text;
 use terms::value::Value;
 
 /// A relation by its name, the columns that are needed of it, and the conditions on it: its own first,
-/// and after them those that a join carries over.
+/// and after them those that joins carry over.
 #[derive(Debug, Drop)]
 pub struct Need {
     pub relation: Text,
@@ -22,16 +23,12 @@ pub struct Need {
     pub conds: Conds,
 }
 
-/// The needs of a statement: of one relation, or of two that are joined by a column of the first and
-/// the key of the second.
+/// The needs of a statement, that of the relation after FROM first, and the ONs that join the others to
+/// those before them, one for each.
 #[derive(Debug, Drop)]
-pub enum Needs {
-    One(Need),
-    Joined {
-        col: usize,
-        first: Need,
-        second: Need,
-    },
+pub struct Needs {
+    pub relations: Seq<Need>,
+    pub links: Seq<Link>,
 }
 
 /// What a statement needs.
@@ -40,61 +37,78 @@ pub fn statement_needs(alloc: Global, statement: &Statement) -> Result<Needs, Me
 {
     match statement {
         Statement::Select(select) => select_needs(alloc, select),
-        Statement::Insert(insert) => Ok(Needs::One(need_of_insert(alloc, insert)?)),
+        Statement::Insert(insert) => alone(alloc, need_of_insert(alloc, insert)?),
         Statement::Update(update) => {
-            Ok(Needs::One(need_of_all(alloc, &update.relation, &update.conds)?))
+            let need = need_of_all(alloc, &update.relation, &update.conds)?;
+            alone(alloc, need)
         }
         Statement::Delete(delete) => {
-            Ok(Needs::One(need_of_all(alloc, &delete.relation, &delete.conds)?))
+            let need = need_of_all(alloc, &delete.relation, &delete.conds)?;
+            alone(alloc, need)
         }
     }
 }
 
-fn select_needs(alloc: Global, select: &Select) -> Result<Needs, Memory>
-    ensures { IfOk result (λ needs. needs ≡ needs_of_select select.now select.now.join) }
+/// The needs of a statement of one relation.
+fn alone(alloc: Global, need: Need) -> Result<Needs, Memory>
+    ensures { IfOk result (λ needs. needs ≡ spec.alone need) }
 {
-    match &select.join {
-        None => Ok(Needs::One(Need {
-            relation: select.from.name.copy()?,
-            columns: Seq::new(columns_read(alloc, select)?),
-            conds: select.conds.copy()?,
-        })),
-        Some(join) => Ok(Needs::Joined {
-            col: join.col,
-            first: first_need(alloc, select, join)?,
-            second: second_need(alloc, select, join)?,
-        }),
-    }
-}
-
-fn first_need(alloc: Global, select: &Select, join: &Join) -> Result<Need, Memory>
-    ensures { IfOk result (λ need. need ≡ need_from select.now join.now) }
-{
-    let width = select.from.columns.as_slice().len();
-    let read = columns_read(alloc, select)?;
-    let mut columns = Vec::new(alloc);
-    columns.push(join.col)?;
-    put_places_below(&mut columns, width, read.as_slice())?;
-    let mut conds = Vec::new(alloc);
-    put_conds_below(&mut conds, width, select.conds.as_slice())?;
-    put_carried(&mut conds, width, join.col, select.conds.as_slice())?;
-    Ok(Need {
-        relation: select.from.name.copy()?,
-        columns: Seq::new(columns),
-        conds: Conds::new(conds),
+    let mut relations = Vec::new(alloc);
+    relations.push(need)?;
+    Ok(Needs {
+        relations: Seq::new(relations),
+        links: Seq::new(Vec::new(alloc)),
     })
 }
 
-fn second_need(alloc: Global, select: &Select, join: &Join) -> Result<Need, Memory>
-    ensures { IfOk result (λ need. need ≡ need_joined select.now join.now) }
+fn select_needs(alloc: Global, select: &Select) -> Result<Needs, Memory>
+    ensures { IfOk result (λ needs. needs ≡ needs_of_select select.now (spec.links_of select.now)) }
 {
-    let width = select.from.columns.as_slice().len();
-    let read = columns_read(alloc, select)?;
-    let columns = places_past(alloc, width, read.as_slice())?;
-    let mut conds = conds_past(alloc, width, select.conds.as_slice())?;
-    put_carried(&mut conds, join.col, 0, select.conds.as_slice())?;
+    let links = links_of(alloc, select)?;
+    let mut relations = Vec::new(alloc);
+    relations.push(need_of(alloc, select, links.as_slice(), 0, &select.from)?)?;
+    put_needs(alloc, &mut relations, select, links.as_slice())?;
+    Ok(Needs {
+        relations: Seq::new(relations),
+        links: Seq::new(links),
+    })
+}
+
+/// Puts out the needs of the joined relations.
+fn put_needs(
+    alloc: Global,
+    out: &mut Vec<Need>,
+    select: &Select,
+    links: &[Link],
+) -> Result<(), Memory>
+    ensures { OnOk result (out.new.items ≡ out.old.items ++ needs_behind select.now links.now (length select.now.from.columns) select.now.joins) }
+{
+    let mut before = select.from.columns.as_slice().len();
+    for join in select.joins.as_slice() {
+        out.push(need_of(alloc, select, links, before, &join.relation)?)?;
+        let width = join.relation.columns.as_slice().len();
+        before = before.checked_add(width).ok_or(Memory)?;
+    }
+    Ok(())
+}
+
+/// What a SELECT needs of a relation that stands behind so many columns.
+fn need_of(
+    alloc: Global,
+    select: &Select,
+    links: &[Link],
+    before: usize,
+    source: &Source,
+) -> Result<Need, Memory>
+    ensures { IfOk result (λ need. need ≡ spec.need_of select.now links.now before source.now) }
+{
+    let width = source.columns.as_slice().len();
+    let read = columns_read(alloc, links, select)?;
+    let columns = places_of(alloc, before, width, read.as_slice())?;
+    let mut conds = conds_of(alloc, before, width, select.conds.as_slice())?;
+    put_carried(&mut conds, links, before, width, select.conds.as_slice())?;
     Ok(Need {
-        relation: join.relation.name.copy()?,
+        relation: source.name.copy()?,
         columns: Seq::new(columns),
         conds: Conds::new(conds),
     })
@@ -135,11 +149,16 @@ fn need_of_all(alloc: Global, source: &Source, conds: &Conds) -> Result<Need, Me
     })
 }
 
-/// The columns that a SELECT reads: those listed, and after them those in WHERE.
-fn columns_read(alloc: Global, select: &Select) -> Result<Vec<usize>, Memory>
-    ensures { IfOk result (λ columns. columns.items ≡ spec.columns_read select.now) }
+/// The columns that a SELECT reads: those in ON, those listed, and after them those in WHERE.
+fn columns_read(alloc: Global, links: &[Link], select: &Select) -> Result<Vec<usize>, Memory>
+    ensures { IfOk result (λ columns. columns.items ≡ spec.columns_read links.now select.now) }
 {
-    let mut columns = copy_all(alloc, select.columns.as_slice())?;
+    let mut columns = Vec::new(alloc);
+    for link in links {
+        columns.push(link.place)?;
+        columns.push(link.key)?;
+    }
+    columns.extend_from_slice(select.columns.as_slice())?;
     put_columns_of(&mut columns, select.conds.as_slice())?;
     Ok(columns)
 }
@@ -153,59 +172,53 @@ fn put_columns_of(out: &mut Vec<usize>, conds: &[Cond]) -> Result<(), Memory>
     Ok(())
 }
 
-fn put_places_below(out: &mut Vec<usize>, width: usize, places: &[usize]) -> Result<(), Memory>
-    ensures { OnOk result (out.new.items ≡ out.old.items ++ spec.places_below width places.now) }
+/// Those of the places that are of a relation, as its columns.
+fn places_of(
+    alloc: Global,
+    before: usize,
+    width: usize,
+    places: &[usize],
+) -> Result<Vec<usize>, Memory>
+    ensures { IfOk result (λ found. found.items ≡ places_of before width places.now) }
 {
+    let mut found = Vec::new(alloc);
     for place in places {
-        if *place < width {
-            out.push(*place)?;
+        if is_of(before, width, *place) {
+            found.push(*place - before)?;
         }
     }
-    Ok(())
+    Ok(found)
 }
 
-fn places_past(alloc: Global, width: usize, places: &[usize]) -> Result<Vec<usize>, Memory>
-    ensures { IfOk result (λ past. past.items ≡ spec.places_past width places.now) }
+/// Those of the conditions that are on a relation's places, on its columns.
+fn conds_of(alloc: Global, before: usize, width: usize, conds: &[Cond]) -> Result<Vec<Cond>, Memory>
+    ensures { IfOk result (λ found. found.items ≡ conds_of before width conds.now) }
 {
-    let mut past = Vec::new(alloc);
-    for place in places {
-        if *place >= width {
-            past.push(*place - width)?;
+    let mut found = Vec::new(alloc);
+    for cond in conds {
+        if is_of(before, width, cond.col) {
+            found.push(on_column(cond.col - before, cond)?)?;
         }
     }
-    Ok(past)
+    Ok(found)
 }
 
-fn put_conds_below(out: &mut Vec<Cond>, width: usize, conds: &[Cond]) -> Result<(), Memory>
-    ensures { OnOk result (out.new.items ≡ out.old.items ++ spec.conds_below width conds.now) }
+/// Puts out the conditions on other relations' columns, each on the column that has the value of its own.
+fn put_carried(
+    out: &mut Vec<Cond>,
+    links: &[Link],
+    before: usize,
+    width: usize,
+    conds: &[Cond],
+) -> Result<(), Memory>
+    ensures { OnOk result (out.new.items ≡ out.old.items ++ carried links.now before width conds.now) }
 {
     for cond in conds {
-        if cond.col < width {
-            out.push(cond.copy()?)?;
+        if is_of(before, width, cond.col) {
+            continue;
         }
-    }
-    Ok(())
-}
-
-fn conds_past(alloc: Global, width: usize, conds: &[Cond]) -> Result<Vec<Cond>, Memory>
-    ensures { IfOk result (λ past. past.items ≡ spec.conds_past width conds.now) }
-{
-    let mut past = Vec::new(alloc);
-    for cond in conds {
-        if cond.col >= width {
-            past.push(on_column(cond.col - width, cond)?)?;
-        }
-    }
-    Ok(past)
-}
-
-/// Puts out the conditions on one column as conditions on another.
-fn put_carried(out: &mut Vec<Cond>, from: usize, to: usize, conds: &[Cond]) -> Result<(), Memory>
-    ensures { OnOk result (out.new.items ≡ out.old.items ++ spec.carried from to conds.now) }
-{
-    for cond in conds {
-        if cond.col == from {
-            out.push(on_column(to, cond)?)?;
+        if let Some(place) = equal_of(links, before, width, cond.col) {
+            out.push(on_column(place - before, cond)?)?;
         }
     }
     Ok(())

@@ -3,7 +3,7 @@
 ghost use Rattle.std.specs.Prelude.{◌≡◌, ◌++◌, ◌+◌, ◌<◌, IfOk, OnOk};
 ghost use Rattle.std.specs.List.{AllByRecursion};
 ghost use Rattle.terms.specs.Cond.{IsCondOf};
-ghost use Rattle.plan.specs.Picked.{IsPutOn, can_be_met, own_places, picked, picks};
+ghost use Rattle.plan.specs.Picked.{IsTriedOn, can_be_met, own_places, picked, picks};
 ghost use Rattle.plan.specs.Picked as spec;
 
 use crate::fetch::{Fetch, fetch_of};
@@ -14,6 +14,7 @@ use std::alloc::Global;
 use terms::cond::{Cond, Conds};
 use terms::copy::TryCopy;
 use terms::memory::Memory;
+use terms::seq::Seq;
 use terms::value::Kind;
 
 /// Where a relation's columns stand in the rows that are tried: its key at one place, its other columns
@@ -22,6 +23,15 @@ use terms::value::Kind;
 pub struct Places {
     pub key: usize,
     pub past: usize,
+}
+
+/// Rows that are tried for the leaves of a need: of these types, with the need's columns on these places,
+/// and with all that is asked of them beside a leaf's conditions.
+#[derive(Debug, Drop)]
+pub struct Trial {
+    pub kinds: Seq<Kind>,
+    pub places: Places,
+    pub asked: Conds,
 }
 
 /// The places of a relation whose columns stand first.
@@ -64,44 +74,46 @@ fn put_conds(out: &mut Vec<Cond>, conds: &[Cond]) -> Result<(), Memory>
     Ok(())
 }
 
-/// Whether a leaf is wanted for a need, and some row meets the leaf's conditions and those that are asked.
-fn picks(
-    alloc: Global,
-    kinds: &[Kind],
-    asked: &[Cond],
-    places: Places,
-    need: &Need,
-    leaf: &FragmentLeaf,
-) -> Result<bool, Memory>
-    requires asked { AllByRecursion (IsCondOf kinds.now) asked.now }
-    requires leaf { IsPutOn kinds.now places leaf.now.conds }
-    ensures { IfOk result (λ picked. picked ≡ picks kinds.now asked.now places need.now leaf.now) }
+/// Whether some row meets a leaf's conditions and all those that a trial asks.
+fn succeeds(alloc: Global, trial: &Trial, leaf: &FragmentLeaf) -> Result<bool, Memory>
+    requires { IsTriedOn trial.now leaf.now }
+    ensures { IfOk result (λ met. met ≡ spec.succeeds leaf.now trial.now) }
+{
+    let mut conds = Vec::new(alloc);
+    put_on(&mut conds, trial.places, leaf.conds.as_slice())?;
+    put_conds(&mut conds, trial.asked.as_slice())?;
+    can_be_met(trial.kinds.as_slice(), conds)
+}
+
+/// Whether a leaf is wanted for a need, and each trial succeeds.
+fn picks(alloc: Global, trials: &[Trial], need: &Need, leaf: &FragmentLeaf) -> Result<bool, Memory>
+    requires { AllByRecursion (λ trial. IsTriedOn trial leaf.now) trials.now }
+    ensures { IfOk result (λ picked. picked ≡ picks trials.now need.now leaf.now) }
 {
     if !wanted(need.columns.as_slice(), leaf.steps.as_slice()) {
         return Ok(false);
     }
-    let mut conds = Vec::new(alloc);
-    put_on(&mut conds, places, leaf.conds.as_slice())?;
-    put_conds(&mut conds, asked)?;
-    can_be_met(kinds, conds)
+    for trial in trials {
+        if !succeeds(alloc, trial, leaf)? {
+            return Ok(false);
+        }
+    }
+    Ok(true)
 }
 
-/// The fetches of those of the leaves of which some row meets their conditions and those that are asked.
+/// The fetches of those of the leaves that are wanted for a need and of which each trial succeeds.
 pub fn picked(
     alloc: Global,
-    kinds: &[Kind],
-    asked: &[Cond],
-    places: Places,
+    trials: &[Trial],
     need: &Need,
     leaves: &[FragmentLeaf],
 ) -> Result<Vec<Fetch>, Memory>
-    requires asked { AllByRecursion (IsCondOf kinds.now) asked.now }
-    requires leaves { AllByRecursion (λ leaf. IsPutOn kinds.now places leaf.conds) leaves.now }
-    ensures { IfOk result (λ fetches. fetches.items ≡ picked kinds.now asked.now places need.now leaves.now) }
+    requires { AllByRecursion (λ leaf. AllByRecursion (λ trial. IsTriedOn trial leaf) trials.now) leaves.now }
+    ensures { IfOk result (λ fetches. fetches.items ≡ picked trials.now need.now leaves.now) }
 {
     let mut fetches = Vec::new(alloc);
     for leaf in leaves {
-        if !picks(alloc, kinds, asked, places, need, leaf)? {
+        if !picks(alloc, trials, need, leaf)? {
             continue;
         }
         fetches.push(fetch_of(alloc, need, leaf)?)?;

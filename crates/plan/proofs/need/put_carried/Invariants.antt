@@ -5,4 +5,4 @@ use Rattle.plan.proofs.need.put_carried.Given as goal
 
 -- what was put out, and what the rest gives, is what all give
 abbrev pub invariant-loop-cond : goal.invariant-loop-cond
-invariant-loop-cond l = l.out.items ++ carried l.from l.to (drop l.cond-index l.conds) ≡ l.initial.out.items ++ carried l.from l.to l.conds
+invariant-loop-cond l = l.out.items ++ carried l.links l.before l.width (drop l.cond-index l.conds) ≡ l.initial.out.items ++ carried l.links l.before l.width l.conds

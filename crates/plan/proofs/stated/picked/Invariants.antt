@@ -5,4 +5,4 @@ use Rattle.plan.proofs.stated.picked.Given as goal
 
 -- the fetches found, and those that the rest gives, are those that all give
 abbrev pub invariant-loop-leaf : goal.invariant-loop-leaf
-invariant-loop-leaf l = l.fetches.items ++ picked l.kinds l.asked l.places l.need (drop l.leaf-index l.leaves) ≡ picked l.kinds l.asked l.places l.need l.leaves
+invariant-loop-leaf l = l.fetches.items ++ picked l.trials l.need (drop l.leaf-index l.leaves) ≡ picked l.trials l.need l.leaves
