@@ -7,7 +7,7 @@ use Rattle.terms.specs.declared.value.Kind.TheVariants as kinds
 use Rattle.terms.specs.declared.value.Value.{Value}
 use Rattle.terms.specs.declared.value.Value.TheVariants.{Int}
 use Rattle.terms.specs.Cond.{conds_hold, holds_of}
-use Rattle.terms.specs.Row.{key_of}
+use Rattle.terms.specs.Row.{FitsKinds, key_of}
 use Rattle.meaning.specs.declared.statement.Insert.{Insert}
 use Rattle.meaning.specs.declared.statement.Statement.TheVariants as statement
 use Rattle.meaning.specs.Meaning.{after_insert}
@@ -26,6 +26,7 @@ use Rattle.plan.specs.Rows.{Seen, seen_of, seen_part}
 use Rattle.plan.proofs.CarriedConds.{both}
 use Rattle.plan.proofs.InCatalogue.{IsIn, is_in}
 use Rattle.plan.proofs.JoinRows.{key_there}
+use Rattle.plan.proofs.OneSide.{all_at}
 use Rattle.answers.specs.declared.table.Table.{Table}
 use Rattle.answers.specs.Outcome.{added, insert_outcome}
 use Rattle.answers.specs.Table.{IsTableOf, seen_rows}
@@ -120,7 +121,7 @@ insert_right catalogue insert whole table formed valid of fit is = at table.rows
     first_kind = ap (λ schema. slice_get (kinds_of schema) 0) (sym found.same) ∙ found.formed.key
 
     at_key : (n : ℤ) (row : List Value) → row_at n rows ≡ Some row → conds_hold (key_is insert.row ∷ []) row ≡ (int_eq n key && true)
-    at_key n row there = asked_is insert row n (key_there (kinds_of of.relation) n rows row first_kind relation.fit there)
+    at_key n row there = asked_is insert row n (key_there (kinds_of of.relation) n rows row first_kind (all_at (FitsKinds (kinds_of of.relation)) n rows row relation.fit there) there).1
 
     absent : (there : Option (List Value)) → row_at key rows ≡ there → ◌≡◌ {A = Option Seen} None (option_and_then (found_of (key_is insert.row ∷ []) []) there) → row_at key rows ≡ None
     absent None is_there none = is_there

@@ -21,7 +21,7 @@ use Rattle.meaning.specs.Matched.{unmatched}
 use Rattle.meaning.specs.Meaning.{after_delete, after_update, select_answer, with_changed}
 use Rattle.meaning.specs.Relation.{Ascends, IsRelation}
 use Rattle.meaning.specs.Schema.{kinds_of, names_of}
-use Rattle.meaning.specs.Selected.{names_read, rows_read}
+use Rattle.meaning.specs.Selected.{joined, names_read, rows_joined, rows_read}
 use Rattle.meaning.specs.Statement.{IsDeleteOf, IsSelectOf, IsUpdateOf}
 use Rattle.meaning.specs.Updated.{assign, updated, updated_row}
 use Rattle.meaning.specs.Whole.{FitsSchema, Relations, rows_of}
@@ -31,8 +31,8 @@ use Rattle.meaning.proofs.Rows.{All-passed, Ascends-passed}
 use Rattle.catalog.specs.Catalogue.{Catalogue}
 use Rattle.catalog.specs.Counts.{has}
 use Rattle.catalog.specs.FragmentLeaf.{catalogue_leaves, schemas_of}
-use Rattle.plan.specs.Found.{columns_joined}
-use Rattle.plan.specs.Need.{columns_of, places_to}
+use Rattle.plan.specs.declared.link.Link.{Link}
+use Rattle.plan.specs.Need.{columns_of, columns_read, links_of, places_on, places_to}
 use Rattle.plan.specs.Rows.{is_seen}
 use Rattle.plan.proofs.Covered.{or_second}
 use Rattle.plan.proofs.JoinFound.{fits_long}
@@ -63,26 +63,31 @@ has_front (first ∷ front) more col h = step (first == col) (has front col) (ha
     step true rest longer more h = refl
     step false rest longer more h = more h
 
-seen_joined : (select : Select) (join : Option Join) (col : ℕ) → has select.columns col ≡ true → is_seen (columns_joined select join) col ≡ true
-seen_joined select None col h = or_second (col == 0) (has (select.columns ++ columns_of select.conds) col) (has_front select.columns (columns_of select.conds) col h)
-seen_joined select (Some join) col h =
-    let read = select.columns ++ columns_of select.conds in
-    let width = length select.from.columns in
-    or_second (col == 0) (has (join.col ∷ width ∷ read) col) (or_second (join.col == col) (has (width ∷ read) col) (or_second (width == col) (has read col) (has_front select.columns (columns_of select.conds) col h)))
+has_back : (front more : List ℕ) (col : ℕ) → has more col ≡ true → has (front ++ more) col ≡ true
+has_back [] more col h = h
+has_back (first ∷ front) more col h = or_second (first == col) (has (front ++ more) col) (has_back front more col h)
 
-read_ascends : (from : Source) (join : Option Join) (whole : Relations) → Ascends (rows_of whole from.name) → Ascends (rows_read from join whole)
-read_ascends from None whole order = order
-read_ascends from (Some join) whole order = joined_ascends join.col (rows_of whole join.relation.name) (rows_of whole from.name) order
+seen_listed : (links : List Link) (select : Select) (col : ℕ) → has select.columns col ≡ true → is_seen (columns_read links select) col ≡ true
+seen_listed links select col h =
+    let front = places_on links ++ select.columns in
+    or_second (col == 0) (has (columns_read links select) col) (has_front front (columns_of select.conds) col (has_back (places_on links) select.columns col h))
+
+read_ascends : (whole : Relations) (joins : List Join) (rows : List (List Value)) → Ascends rows → Ascends (rows_joined whole joins rows)
+read_ascends whole [] rows order = order
+read_ascends whole (join ∷ joins) rows order =
+    let others = rows_of whole join.relation.name in
+    read_ascends whole joins (joined join.col others rows) (joined_ascends join.col others rows order)
 
 pub select_right : (catalogue : Catalogue) (select : Select) (whole : Relations) (table : Table) → IsSelectOf (schemas_of catalogue) select → FitsSchema (schemas_of catalogue) whole → IsTableOf (statement.Select select) whole table →
     IsRight catalogue whole (select_answer select whole, whole) (select_outcome select table)
 select_right catalogue select whole table of fit is =
-    let asked = columns_joined select select.join in
+    let links = links_of select in
+    let asked = columns_read links select in
     let order = (fit.fit select.from.name of.relation of.there).ascends in
     record {
       answered =
-          ap (answer.Rows (listed select.columns (names_read select.from select.join)))
-          (shown_found select.conds asked select.columns table.columns table.rows (rows_read select.from select.join whole) is.order (read_ascends select.from select.join whole order) (all_seen asked select.columns (seen_joined select select.join)) is.seen);
+          ap (answer.Rows (listed select.columns (names_read select.from select.joins)))
+          (shown_found select.conds asked select.columns table.columns table.rows (rows_read select.from select.joins whole) is.order (read_ascends whole select.joins (rows_of whole select.from.name) order) (all_seen asked select.columns (seen_listed links select)) is.seen);
       wrote = sym (nothing_between catalogue whole);
     }
 

@@ -37,7 +37,7 @@ pub table_of : (catalogue : Catalogue) (statement : Statement) (fetches : List f
     FindsAll catalogue statement fetches plan → HasRows plan contents table → (whole : Relations) → FitsSchema (schemas_of catalogue) whole → AreBrought catalogue whole fetches contents → IsTableOf statement whole table
 table_of catalogue statement fetches plan contents table brought gives formed of are finds made whole fit given = record {
   order = made.order;
-  seen = λ key. made.seen key ∙ finds whole contents key fit (gives catalogue whole (is_fetched fetches) contents (needs statement) (brought catalogue statement fetches whole contents formed of are given));
+  seen = λ key. made.seen key ∙ finds whole contents key fit (gives catalogue whole (is_fetched fetches) contents (needs statement).relations (brought catalogue statement fetches whole contents formed of are given));
 }
 
 -- what holds of an outcome over each whole database of which it has a table holds over each of which the fetches bring it

@@ -69,7 +69,7 @@ changes_of sets (row ∷ rows) = option_and_then (λ new. option_map (λ rest. r
 
 abbrev pub select_outcome : Select → Table → Outcome
 select_outcome select table =
-    record { answer = answer.Rows (listed select.columns (names_read select.from select.join)) (shown select.columns table.columns table.rows); writes = [] }
+    record { answer = answer.Rows (listed select.columns (names_read select.from select.joins)) (shown select.columns table.columns table.rows); writes = [] }
 
 abbrev pub insert_outcome : List FragmentLeaf → Insert → List (List Value) → Outcome
 insert_outcome leaves insert [] = record { answer = answer.Changed 1; writes = writes_of insert.into (added insert.row ∷ []) leaves }

@@ -28,7 +28,7 @@ use Rattle.desk.specs.Send.{AsksAtHome, UnsentAtHome}
 use Rattle.desk.specs.Participants.{is_at, sites_of}
 use Rattle.desk.specs.Transaction.{ask_of, write_of}
 use Rattle.desk.specs.Statement.{ask_sites, write_sites}
-use Rattle.desk.proofs.Located.{IsEither, located}
+use Rattle.desk.proofs.Located.{IsOfSome, located}
 use Rattle.desk.proofs.Participants.{text_self}
 
 -- what holds of all holds of the one that is found, and the test too
@@ -91,20 +91,20 @@ module _ (db : Database) (of : IsOfCatalogue db) (n : ℕ) where
     at_participant name leaf is = participant_there participants leaf.site (home_in in_force name) (ap (λ (ss : List (List ℕ)). slice_get ss leaf.site) (those ∙ of.sites n) ∙ site_is name leaf is)
 
     -- each fetch has a participant
-    pub asks_participants : (need other : Need) (fetches : List Fetch) → AllByRecursion (IsEither all need other) fetches → HaveParticipants participants (ask_sites (map (ask_from in_force) fetches))
-    asks_participants need other [] each = tt
-    asks_participants need other (fetch ∷ fetches) each = let there = located all need other fetch each.0 in (at_participant fetch.leaf there.0 there.1, asks_participants need other fetches each.1)
+    pub asks_participants : (needs : List Need) (fetches : List Fetch) → AllByRecursion (IsOfSome all needs) fetches → HaveParticipants participants (ask_sites (map (ask_from in_force) fetches))
+    asks_participants needs [] each = tt
+    asks_participants needs (fetch ∷ fetches) each = let there = located all needs fetch each.0 in (at_participant fetch.leaf there.0 there.1, asks_participants needs fetches each.1)
 
     pub writes_participants : (list : List Write) → AllByRecursion (λ write. is_leaf_in all (answers.leaf_of write) ≡ true) list → HaveParticipants participants (write_sites (map (unsent_from in_force) list))
     writes_participants [] each = tt
     writes_participants (write ∷ list) each = let there = named write each.0 in (at_participant (leaf_of write) there.0 there.1, writes_participants list each.1)
 
   -- each is of a leaf at its site
-  pub asks_home : (need other : Need) (fetches : List Fetch) → AllByRecursion (IsEither all need other) fetches → AsksAtHome db (map (ask_from in_force) fetches)
-  asks_home need other [] each = tt
-  asks_home need other (fetch ∷ fetches) each =
-      let there = located all need other fetch each.0 in
-      (record { version = n; there = home_is fetch.leaf there.0 there.1 }, asks_home need other fetches each.1)
+  pub asks_home : (needs : List Need) (fetches : List Fetch) → AllByRecursion (IsOfSome all needs) fetches → AsksAtHome db (map (ask_from in_force) fetches)
+  asks_home needs [] each = tt
+  asks_home needs (fetch ∷ fetches) each =
+      let there = located all needs fetch each.0 in
+      (record { version = n; there = home_is fetch.leaf there.0 there.1 }, asks_home needs fetches each.1)
 
   pub writes_home : (list : List Write) → AllByRecursion (λ write. is_leaf_in all (answers.leaf_of write) ≡ true) list → UnsentAtHome db (map (unsent_from in_force) list)
   writes_home [] each = tt

@@ -208,7 +208,7 @@ module _ (db : Database) (n : ℕ) (txn : Txn) (u : Undecided) (site : List ℕ)
         let all = known db of n unique reading.statement reading.plan reading.asks.items planned in
         rowed_is choice true (stage.Reading reading) first here
         ∙ ap (λ (m : ℕ). desk.on_rows {L = language db} (txn_name txn) (undecided_of db u) site rows.op rows.parts choice (desk.Reading (m, reading.statement) (map (ask_of db) reading.asks.items))) of_reading.0
-        ∙ ap (λ (list : List (desk.Ask (language db))). desk.rows_go {L = language db} (txn_name txn) (undecided_of db u) (n, reading.statement) list choice) (sym (rows_are db of n reading.statement site rows.op rows.parts all.need all.other reading.asks.items reading.plan.fetches planned.in_order all.each))
+        ∙ ap (λ (list : List (desk.Ask (language db))). desk.rows_go {L = language db} (txn_name txn) (undecided_of db u) (n, reading.statement) list choice) (sym (rows_are db of n reading.statement site rows.op rows.parts all.needs reading.asks.items reading.plan.fetches planned.in_order all.each))
 
     abbrev go_if : desk.Choice (language db) → Bool → desk.Transition (language db)
     go_if choice b = if b then desk.works {L = language db} (txn_name txn) (undecided_of db u) (n, reading.statement) (map (ask_of db) given) choice else desk.stays (desk.Known (record (undecided_of db u) { stage = desk.Reading (n, reading.statement) (map (ask_of db) given) }))
@@ -341,10 +341,10 @@ plan_made db of n catalogue same stated plan those is are finds list = record {
 
 module _ (db : Database) (of : IsOfCatalogue db) (n : ℕ) (unique : LeafNamesAreUnique) (stated : Statement) (plan : ReducedPlan) (list : List Ask) (of_plan : IsOfPlan db n stated plan list) (same : list ≡ map (ask_from (db.catalogue n)) plan.fetches) where
   pub ready_home : AsksAtHome db list
-  ready_home = let all = known db of n unique stated plan list of_plan in subst (AsksAtHome db) (sym same) (asks_home db of n all.need all.other plan.fetches all.each)
+  ready_home = let all = known db of n unique stated plan list of_plan in subst (AsksAtHome db) (sym same) (asks_home db of n all.needs plan.fetches all.each)
 
   pub ready_participants : (participants : List Participant) → sites_of participants ≡ db.sites → HaveParticipants participants (ask_sites list)
-  ready_participants participants those = let all = known db of n unique stated plan list of_plan in subst (λ (l : List Ask). HaveParticipants participants (ask_sites l)) (sym same) (asks_participants db of n participants those all.need all.other plan.fetches all.each)
+  ready_participants participants those = let all = known db of n unique stated plan list of_plan in subst (λ (l : List Ask). HaveParticipants participants (ask_sites l)) (sym same) (asks_participants db of n participants those all.needs plan.fetches all.each)
 
 -- ---- an idle transaction
 pub idle_there : (o : Option TxnState) → option_map (λ found. found.stage) (open_in o) ≡ Some stage.Idle → (u : Undecided) × (o ≡ Some (standing.Undecided u)) × (u.stage ≡ stage.Idle)

@@ -39,7 +39,7 @@ use Rattle.desk.specs.Planned.{IsOfPlan, asked, unsent_from}
 use Rattle.desk.specs.ReducedPlan.{ReducedPlan, plan_in}
 use Rattle.desk.specs.Transaction.{ask_of, write_of}
 use Rattle.desk.proofs.AtHomes.{found_so, site_is, writes_are}
-use Rattle.desk.proofs.Located.{AreOf, IsEither, are_of, located, same_fetch}
+use Rattle.desk.proofs.Located.{AreOf, IsOfSome, are_of, located, same_fetch}
 
 each_in : {A : Type 0} (Q : A → Type 0) (xs : List A) → ((x : A) → In x xs → Q x) → AllByRecursion Q xs
 each_in Q [] each = tt
@@ -81,9 +81,9 @@ module _ (db : Database) (of : IsOfCatalogue db) (n : ℕ) (unique : LeafNamesAr
 
   module _ (whole : Relations) (fits : FitsSchema db.schemas whole) (gives : Gives {L = language db} (n, whole) (map (ask_of db) asks)) where
     -- what a fetch is to bring
-    of_whole : (fetch : Fetch) → IsEither all known.need known.other fetch → parts fetch.conds (db.content n (placed_in in_force fetch.leaf) whole) ≡ plan.brought whole fetch (leaf_named fetch.leaf all)
+    of_whole : (fetch : Fetch) → IsOfSome all known.needs fetch → parts fetch.conds (db.content n (placed_in in_force fetch.leaf) whole) ≡ plan.brought whole fetch (leaf_named fetch.leaf all)
     of_whole fetch is =
-        let there = located all known.need known.other fetch is in
+        let there = located all known.needs fetch is in
         let leaf = there.0 in
         let found = found_so (HasContent db n whole) (is_name_of fetch.leaf) all leaf (of.content n whole fits) there.1 in
         let home = home_in in_force fetch.leaf in
@@ -92,8 +92,8 @@ module _ (db : Database) (of : IsOfCatalogue db) (n : ℕ) (unique : LeafNamesAr
         ∙ sym (ap (plan.brought whole fetch) there.1)
 
     -- what was brought of a leaf that is among these
-    given_at : (asks : List Ask) (list : List Fetch) → map asked asks ≡ map (fetch_in in_force) list → AllByRecursion (IsEither all known.need known.other) list → Gives {L = language db} (n, whole) (map (ask_of db) asks) →
-        (fetch : Fetch) → IsEither all known.need known.other fetch → is_fetched list fetch.leaf ≡ true → given (brought asks) fetch.leaf ≡ parts fetch.conds (db.content n (placed_in in_force fetch.leaf) whole)
+    given_at : (asks : List Ask) (list : List Fetch) → map asked asks ≡ map (fetch_in in_force) list → AllByRecursion (IsOfSome all known.needs) list → Gives {L = language db} (n, whole) (map (ask_of db) asks) →
+        (fetch : Fetch) → IsOfSome all known.needs fetch → is_fetched list fetch.leaf ≡ true → given (brought asks) fetch.leaf ≡ parts fetch.conds (db.content n (placed_in in_force fetch.leaf) whole)
     given_at [] [] same each gives fetch is there = cc
     given_at [] (first ∷ list) same each gives fetch is there = cc
     given_at (ask ∷ asks) [] same each gives fetch is there = cc
@@ -110,7 +110,7 @@ module _ (db : Database) (of : IsOfCatalogue db) (n : ℕ) (unique : LeafNamesAr
         go None is_rows place conds b e there more = cc
         go (Some rows) is_rows place conds true e there more =
             let name : ask.leaf ≡ fetch.leaf = one_name ask.leaf fetch.leaf e in
-            let one : first ≡ fetch = same_fetch all known.need known.other first fetch known.apart each.0 is (sym (ap (λ (p : Place). p.1) place) ∙ name) in
+            let one : first ≡ fetch = same_fetch all known.needs first fetch known.apart each.0 is (sym (ap (λ (p : Place). p.1) place) ∙ name) in
             let rows_are : rows ≡ parts ask.conds (db.content n (ask.site, ask.leaf) whole) = cc in
             ap (λ b. if b then rows else given (brought asks) fetch.leaf) e
             ∙ rows_are ∙ (λ i. parts (conds i) (db.content n (place i) whole)) ∙ ap (λ (f : Fetch). parts f.conds (db.content n (placed_in in_force f.leaf) whole)) one
@@ -121,7 +121,7 @@ module _ (db : Database) (of : IsOfCatalogue db) (n : ℕ) (unique : LeafNamesAr
     pub are_brought : AreBrought in_force whole fetches (given (brought asks))
     are_brought = each_in (λ read. given (brought asks) read.leaf ≡ plan.brought whole read (leaf_named read.leaf all)) fetches
         (λ fetch there.
-        let is = of_in (IsEither all known.need known.other) fetches fetch known.each there in
+        let is = of_in (IsOfSome all known.needs) fetches fetch known.each there in
         given_at asks fetches planned.in_order known.each gives fetch is (fetched_in fetches fetch there) ∙ of_whole fetch is)
 
   -- the deed of the evaluation is explained

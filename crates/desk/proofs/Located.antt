@@ -1,13 +1,9 @@
 -- The fetches of a statement are of leaves of its catalogue, and of one leaf there is one fetch.
-use Rattle.std.proofs.Common.{◌≡◌, ◌≢◌, ◌⊎◌, inl, inr, ℕ, List, [], ◌∷◌, ◌++◌, length, Option, Some, None, refl, sym, ap, ◌∙◌, subst}
+use Rattle.std.proofs.Common.{◌≡◌, ◌≢◌, inl, inr, ℕ, suc, List, [], ◌∷◌, ◌++◌, Some, refl, sym, ap, ◌∙◌, subst}
 use Rattle.std.specs.List.{AllByRecursion}
 use Rattle.terms.specs.declared.leaf.Leaf.{Leaf}
-use Rattle.meaning.specs.declared.schema.RelationSchema.{RelationSchema}
-use Rattle.meaning.specs.declared.statement.Join.{Join}
 use Rattle.meaning.specs.declared.statement.Statement.{Statement}
-use Rattle.meaning.specs.declared.statement.Statement.TheVariants as statement
-use Rattle.meaning.specs.Schema as meaning
-use Rattle.meaning.specs.Statement.{IsJoinOf, IsStatementOf, MayJoin}
+use Rattle.meaning.specs.Statement.{IsStatementOf}
 use Rattle.catalog.specs.declared.fragment_leaf.FragmentLeaf.{FragmentLeaf}
 use Rattle.catalog.specs.Catalogue.{Catalogue}
 use Rattle.catalog.specs.Formed.{IsFormed}
@@ -15,10 +11,13 @@ use Rattle.catalog.specs.FragmentLeaf.{catalogue_leaves, leaf_named, schemas_of}
 use Rattle.catalog.specs.Laws.{LeafNamesAreUnique}
 use Rattle.plan.specs.declared.fetch.Fetch.{Fetch}
 use Rattle.plan.specs.declared.need.Need.{Need}
+use Rattle.plan.specs.declared.need.Needs.{Needs}
 use Rattle.plan.specs.Fetch.{fetch_of}
-use Rattle.plan.specs.Need.{key_is, need_from, need_joined, need_of_select, needs_of_select, places_to}
-use Rattle.plan.specs.Stated.{AreFetches, AreFetchesFor, AreFetchesOf, AreJoinFetches, IsStated, IsStatedFrom, IsStatedJoined, kinds_in, leaves_of}
+use Rattle.plan.specs.Need.{needs}
+use Rattle.plan.specs.Stated.{AreFetches, AreFetchesFrom, AreFetchesOf, IsStatedBy, leaves_of, ties_of}
 use Rattle.plan.proofs.Fetched.{IsLeafOf, leaves_named, one_leaf}
+use Rattle.plan.proofs.StatementFits.{AreApart, needs_apart}
+use Rattle.protocol.specs.Parts.{In}
 
 -- a fetch of a need's leaf
 pub record IsFetchOf (all : List FragmentLeaf) (need : Need) (fetch : Fetch) : Type 0 where
@@ -26,16 +25,17 @@ pub record IsFetchOf (all : List FragmentLeaf) (need : Need) (fetch : Fetch) : T
   pub here : IsLeafOf all need.relation leaf
   pub is : fetch ≡ fetch_of need leaf
 
--- a fetch of one of two needs
-abbrev pub IsEither : List FragmentLeaf → Need → Need → Fetch → Type 0
-IsEither all need other fetch = IsFetchOf all need fetch ⊎ IsFetchOf all other fetch
-
--- what is known of a statement's fetches
-pub record AreOf (all : List FragmentLeaf) (fetches : List Fetch) : Type 0 where
+-- a fetch of one of the needs
+pub record IsOfSome (all : List FragmentLeaf) (needs : List Need) (fetch : Fetch) : Type 0 where
   pub need : Need
-  pub other : Need
-  pub apart : need.relation ≡ other.relation → need ≡ other
-  pub each : AllByRecursion (IsEither all need other) fetches
+  pub there : In need needs
+  pub of : IsFetchOf all need fetch
+
+-- what is known of a statement's fetches: no two needs are of one relation
+pub record AreOf (all : List FragmentLeaf) (fetches : List Fetch) : Type 0 where
+  pub needs : List Need
+  pub apart : AreApart needs
+  pub each : AllByRecursion (IsOfSome all needs) fetches
 
 fetches_of : (all : List FragmentLeaf) (Stated : FragmentLeaf → Type 0) (need : Need) (leaves : List FragmentLeaf) (fetches : List Fetch) → AllByRecursion (IsLeafOf all need.relation) leaves → AreFetches Stated need leaves fetches → AllByRecursion (IsFetchOf all need) fetches
 fetches_of all Stated need [] fetches good are = subst (AllByRecursion (IsFetchOf all need)) (sym are) tt
@@ -51,49 +51,32 @@ both_all : {A : Type 0} (P : A → Type 0) (one other : List A) → AllByRecursi
 both_all P [] other first second = second
 both_all P (x ∷ one) other first second = (first.0, both_all P one other first.1 second)
 
+later : (all : List FragmentLeaf) (need : Need) (needs : List Need) (fetch : Fetch) → IsOfSome all needs fetch → IsOfSome all (need ∷ needs) fetch
+later all need needs fetch is = record { need = is.need; there = inr is.there; of = is.of }
+
 module _ (catalogue : Catalogue) (unique : LeafNamesAreUnique) (formed : IsFormed catalogue) where
   abbrev all : List FragmentLeaf
   all = catalogue_leaves catalogue
 
-  one_of : (need : Need) (fetches : List Fetch) → AreFetches (IsStated (kinds_in catalogue need.relation) need) need (leaves_of catalogue need.relation) fetches → AreOf all fetches
-  one_of need fetches are = record {
-    need = need;
-    other = need;
-    apart = λ same. refl;
-    each = every (IsFetchOf all need) (IsEither all need need) fetches (λ fetch is. inl is) (fetches_of all (IsStated (kinds_in catalogue need.relation) need) need (leaves_of catalogue need.relation) fetches (leaves_named catalogue need.relation unique formed) are);
-  }
-
-  join_of : (col : ℕ) (need other : Need) (fetches : List Fetch) → need.relation ≢ other.relation → AreJoinFetches catalogue col need other fetches → AreOf all fetches
-  join_of col need other fetches differ are = record {
-    need = need;
-    other = other;
-    apart = λ same. absurd (differ same);
-    each = subst (AllByRecursion (IsEither all need other)) (sym are.both) (both_all (IsEither all need other) are.first are.second
-        (every (IsFetchOf all need) (IsEither all need other) are.first (λ fetch is. inl is)
-        (fetches_of all (IsStatedFrom (kinds_in catalogue need.relation) (kinds_in catalogue other.relation) col need other (leaves_of catalogue other.relation)) need (leaves_of catalogue need.relation) are.first (leaves_named catalogue need.relation unique formed) are.from))
-        (every (IsFetchOf all other) (IsEither all need other) are.second (λ fetch is. inr is)
-        (fetches_of all (IsStatedJoined (kinds_in catalogue need.relation) (kinds_in catalogue other.relation) col need other (leaves_of catalogue need.relation)) other (leaves_of catalogue other.relation) are.second (leaves_named catalogue other.relation unique formed) are.joined)));
-  }
+  all_of : (stated : Needs) (number : ℕ) (needs : List Need) (fetches : List Fetch) → AreFetchesFrom catalogue stated number needs fetches → AllByRecursion (IsOfSome all needs) fetches
+  all_of stated number [] fetches are = subst (AllByRecursion (IsOfSome all [])) (sym are) tt
+  all_of stated number (need ∷ needs) fetches are =
+      let Some_of : Fetch → Type 0 = IsOfSome all (need ∷ needs) in
+      subst (AllByRecursion Some_of) (sym are.both) (both_all Some_of are.first are.second
+      (every (IsFetchOf all need) Some_of are.first (λ fetch is. record { need = need; there = inl refl; of = is })
+      (fetches_of all (IsStatedBy catalogue need (ties_of stated number)) need (leaves_of catalogue need.relation) are.first (leaves_named catalogue need.relation unique formed) are.front))
+      (every (IsOfSome all needs) Some_of are.second (later all need needs) (all_of stated (suc number) needs are.second are.rest)))
 
   pub are_of : (stated : Statement) (fetches : List Fetch) → IsStatementOf (schemas_of catalogue) stated → AreFetchesOf catalogue stated fetches → AreOf all fetches
-  are_of (statement.Select select) fetches of are = at select.join refl are
-    where
-      at : (join : Option Join) → select.join ≡ join → AreFetchesFor catalogue (needs_of_select select join) fetches → AreOf all fetches
-      at None is are = one_of (need_of_select select) fetches are
-      at (Some join) is are =
-          let Joins : Option Join → Type 0 = λ j. MayJoin (schemas_of catalogue) of.relation j of.joined in
-          let joins : IsJoinOf (schemas_of catalogue) of.relation join of.joined = subst Joins is of.joins in
-          join_of join.col (need_from select join) (need_joined select join) fetches
-          (λ same. joins.another (let one : Some joins.other ≡ Some of.relation = sym joins.there ∙ sym (ap (λ (name : List ℕ). meaning.relation_named name (schemas_of catalogue)) same) ∙ of.there in let relation : joins.other ≡ of.relation = cc in ap (λ (r : RelationSchema). r.name) relation))
-          are
-  are_of (statement.Insert insert) fetches of are = one_of (record { relation = insert.into; columns = []; conds = key_is insert.row ∷ [] }) fetches are
-  are_of (statement.Update update) fetches of are = one_of (record { relation = update.relation.name; columns = places_to (length update.relation.columns); conds = update.conds }) fetches are
-  are_of (statement.Delete delete) fetches of are = one_of (record { relation = delete.relation.name; columns = places_to (length delete.relation.columns); conds = delete.conds }) fetches are
+  are_of stated fetches of are = record {
+    needs = (needs stated).relations;
+    apart = needs_apart catalogue stated of;
+    each = all_of (needs stated) 0 (needs stated).relations fetches are;
+  }
 
 -- a fetch's leaf is there
-pub located : (all : List FragmentLeaf) (need other : Need) (fetch : Fetch) → IsEither all need other fetch → (leaf : FragmentLeaf) × (leaf_named fetch.leaf all ≡ Some leaf)
-located all need other fetch (inl is) = (is.leaf, ap (λ (f : Fetch). leaf_named f.leaf all) is.is ∙ is.here.unique)
-located all need other fetch (inr is) = (is.leaf, ap (λ (f : Fetch). leaf_named f.leaf all) is.is ∙ is.here.unique)
+pub located : (all : List FragmentLeaf) (needs : List Need) (fetch : Fetch) → IsOfSome all needs fetch → (leaf : FragmentLeaf) × (leaf_named fetch.leaf all ≡ Some leaf)
+located all needs fetch is = (is.of.leaf, ap (λ (f : Fetch). leaf_named f.leaf all) is.of.is ∙ is.of.here.unique)
 
 same_of : (all : List FragmentLeaf) (need : Need) (one two : Fetch) → IsFetchOf all need one → IsFetchOf all need two → one.leaf ≡ two.leaf → one ≡ two
 same_of all need one two a b same =
@@ -103,13 +86,21 @@ same_of all need one two a b same =
 relation_of : (all : List FragmentLeaf) (need : Need) (fetch : Fetch) → IsFetchOf all need fetch → fetch.leaf.relation ≡ need.relation
 relation_of _ need fetch is = ap (λ (f : Fetch). f.leaf.relation) is.is ∙ is.here.named
 
+-- of one relation there is one need
+other_name : (name : List ℕ) (needs : List Need) (other : Need) → AllByRecursion (λ need. name ≢ need.relation) needs → In other needs → name ≢ other.relation
+other_name name [] other apart there = absurd there
+other_name name (need ∷ needs) other apart (inl is) = subst (λ (n : Need). name ≢ n.relation) (sym is) apart.0
+other_name name (need ∷ needs) other apart (inr there) = other_name name needs other apart.1 there
+
+one_need : (needs : List Need) (one other : Need) → AreApart needs → In one needs → In other needs → one.relation ≡ other.relation → one ≡ other
+one_need [] one other apart there beyond same = absurd there
+one_need (need ∷ needs) one other apart (inl a) (inl b) same = a ∙ sym b
+one_need (need ∷ needs) one other apart (inl a) (inr b) same = absurd (other_name need.relation needs other apart.0 b (ap (λ (n : Need). n.relation) (sym a) ∙ same))
+one_need (need ∷ needs) one other apart (inr a) (inl b) same = absurd (other_name need.relation needs one apart.0 a (ap (λ (n : Need). n.relation) (sym b) ∙ sym same))
+one_need (need ∷ needs) one other apart (inr a) (inr b) same = one_need needs one other apart.1 a b same
+
 -- of one leaf there is one fetch
-pub same_fetch : (all : List FragmentLeaf) (need other : Need) (one two : Fetch) → (need.relation ≡ other.relation → need ≡ other) → IsEither all need other one → IsEither all need other two → one.leaf ≡ two.leaf → one ≡ two
-same_fetch all need other one two apart (inl a) (inl b) same = same_of all need one two a b same
-same_fetch all need other one two apart (inr a) (inr b) same = same_of all other one two a b same
-same_fetch all need other one two apart (inl a) (inr b) same =
-    let is : need ≡ other = apart (sym (relation_of all need one a) ∙ ap (λ (l : Leaf). l.relation) same ∙ relation_of all other two b) in
-    same_of all other one two (subst (λ (n : Need). IsFetchOf all n one) is a) b same
-same_fetch all need other one two apart (inr a) (inl b) same =
-    let is : need ≡ other = apart (sym (relation_of all need two b) ∙ sym (ap (λ (l : Leaf). l.relation) same) ∙ relation_of all other one a) in
-    same_of all other one two a (subst (λ (n : Need). IsFetchOf all n two) is b) same
+pub same_fetch : (all : List FragmentLeaf) (needs : List Need) (one two : Fetch) → AreApart needs → IsOfSome all needs one → IsOfSome all needs two → one.leaf ≡ two.leaf → one ≡ two
+same_fetch all needs one two apart a b same =
+    let is : a.need ≡ b.need = one_need needs a.need b.need apart a.there b.there (sym (relation_of all a.need one a.of) ∙ ap (λ (l : Leaf). l.relation) same ∙ relation_of all b.need two b.of) in
+    same_of all b.need one two (subst (λ (n : Need). IsFetchOf all n one) is a.of) b.of same

@@ -23,7 +23,7 @@ use Rattle.desk.specs.Planned.{asked}
 use Rattle.desk.specs.Transaction.{ask_of}
 use Rattle.desk.proofs.Acknowledged.{same_bool}
 use Rattle.desk.proofs.AtHomes.{found_so}
-use Rattle.desk.proofs.Located.{IsEither, located}
+use Rattle.desk.proofs.Located.{IsOfSome, located}
 
 module _ (db : Database) (of : IsOfCatalogue db) (n : ℕ) where
   abbrev all : List FragmentLeaf
@@ -51,16 +51,16 @@ module _ (db : Database) (of : IsOfCatalogue db) (n : ℕ) where
         go false = refl
 
     -- so all fetches of a plan
-    pub rows_are : (need other : Need) (asks : List Ask) (list : List Fetch) → map asked asks ≡ map (fetch_in (db.catalogue n)) list → AllByRecursion (IsEither all need other) list →
+    pub rows_are : (needs : List Need) (asks : List Ask) (list : List Fetch) → map asked asks ≡ map (fetch_in (db.catalogue n)) list → AllByRecursion (IsOfSome all needs) list →
         map (ask_of db) (map (with_rows (db.catalogue n) site number rows) asks) ≡ map (desk.with_rows {L = language db} (n, stated) site number rows) (map (ask_of db) asks)
-    rows_are need other [] list same each = refl
-    rows_are need other (ask ∷ asks) [] same each = cc
-    rows_are need other (ask ∷ asks) (fetch ∷ list) same each =
+    rows_are needs [] list same each = refl
+    rows_are needs (ask ∷ asks) [] same each = cc
+    rows_are needs (ask ∷ asks) (fetch ∷ list) same each =
         let head : asked ask ≡ fetch_in (db.catalogue n) fetch = cc in
         let leaf : ask.leaf ≡ fetch.leaf = ap (λ (p : Place × List Cond). p.0.1) head in
         let rest : map asked asks ≡ map (fetch_in (db.catalogue n)) list = cc in
-        let there = located all need other fetch each.0 in
-        ap₂ (λ x xs. x ∷ xs) (one_is ask there.0 (ap (λ (l : Leaf). leaf_named l all) leaf ∙ there.1)) (rows_are need other asks list rest each.1)
+        let there = located all needs fetch each.0 in
+        ap₂ (λ x xs. x ∷ xs) (one_is ask there.0 (ap (λ (l : Leaf). leaf_named l all) leaf ∙ there.1)) (rows_are needs asks list rest each.1)
 
 -- whether all are in
 pub all_in : (db : Database) (asks : List Ask) → list_all (λ q. is_some q.rows) (map (ask_of db) asks) ≡ are_in asks

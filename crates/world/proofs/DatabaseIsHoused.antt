@@ -1,5 +1,5 @@
 -- What statements of a catalogue's database read and write is at its sites, and keeps the parts of each leaf well formed.
-use Rattle.std.proofs.Common.{◌≡◌, refl, sym, ap, ◌∙◌, subst, T, ℕ, ℤ, ◌==◌, Bool, true, false, cond, not, if◌then◌else◌, List, [], ◌∷◌, ◌++◌, map, filter, flat_map, length, Option, Some, None, nat_eq, Ordering, Less, Equal, Greater, arith, int_lt}
+use Rattle.std.proofs.Common.{◌≡◌, refl, sym, ap, ◌∙◌, subst, T, ℕ, suc, ℤ, ◌==◌, Bool, true, false, cond, not, if◌then◌else◌, List, [], ◌∷◌, ◌++◌, map, filter, flat_map, length, Option, Some, None, nat_eq, Ordering, Less, Equal, Greater, arith, int_lt}
 use Rattle.std.proofs.lemmas.Bool.{eq-eqb}
 use Rattle.std.proofs.lemmas.Int.{ints}
 use Rattle.std.specs.Cmp.{eq_by_cmp_equiv, int_cmp_total}
@@ -28,11 +28,10 @@ use Rattle.catalog.specs.Laws.{LeafNamesAreUnique}
 use Rattle.catalog.proofs.FormedTrees.{all_both}
 use Rattle.plan.specs.declared.need.Need.{Need}
 use Rattle.plan.specs.declared.need.Needs.{Needs}
-use Rattle.plan.specs.declared.need.Needs.TheVariants.{One, Joined}
 use Rattle.plan.specs.Contents.{AreParts, ContentsAscend}
 use Rattle.plan.specs.Fetch.{fetch_of}
 use Rattle.plan.specs.Need.{needs}
-use Rattle.plan.specs.Picked.{fetches_by, fetches_for}
+use Rattle.plan.specs.Picked.{fetches_by, fetches_from}
 use Rattle.answers.specs.Evaluated.{is_above, parts_climb}
 use Rattle.answers.specs.Merged.{merged_rows}
 use Rattle.answers.specs.Writes.{leaf_of, leaf_writes, same_part, write_between, writes_between}
@@ -230,12 +229,12 @@ module _ (catalogue : Catalogue) (formed : IsFormed catalogue) (unique : LeafNam
   picked_sited : (need : Need) (test : FragmentLeaf → Bool) (name : List ℕ) → AllByRecursion (λ fetch. IsSited fetch.leaf) (map (fetch_of need) (filter test (leaves_in (relation_named name catalogue.relations))))
   picked_sited need test name = all_map (λ fetch. IsSited fetch.leaf) (fetch_of need) _ (all_filter (λ leaf. IsSited leaf.name) test _ (named_sited name catalogue.relations all_sited))
 
-  fetches_sited : (wanted : Needs) → AllByRecursion (λ fetch. IsSited fetch.leaf) (fetches_for catalogue wanted)
-  fetches_sited (One need) = picked_sited need _ need.relation
-  fetches_sited (Joined col need other) = all_both (λ fetch. IsSited fetch.leaf) _ _ (picked_sited need _ need.relation) (picked_sited other _ other.relation)
+  fetches_sited : (wanted : Needs) (number : ℕ) (later : List Need) → AllByRecursion (λ fetch. IsSited fetch.leaf) (fetches_from catalogue wanted number later)
+  fetches_sited wanted number [] = tt
+  fetches_sited wanted number (need ∷ later) = all_both (λ fetch. IsSited fetch.leaf) _ _ (picked_sited need _ need.relation) (fetches_sited wanted (suc number) later)
 
   fetched : (statement : Statement) → AtSites L (map (λ f. f.0) (map (fetch_in catalogue) (fetches_by catalogue statement)))
-  fetched statement = at_sites _ (all_map IsAtSite (λ f. f.0) _ (all_map (λ f. IsAtSite f.0) (fetch_in catalogue) (fetches_by catalogue statement) (fetches_sited (needs statement))))
+  fetched statement = at_sites _ (all_map IsAtSite (λ f. f.0) _ (all_map (λ f. IsAtSite f.0) (fetch_in catalogue) (fetches_by catalogue statement) (fetches_sited (needs statement) 0 (needs statement).relations)))
 
   -- what writes between whole databases are
   abbrev writes : Relations → Relations → FragmentLeaf → List Write

@@ -25,7 +25,7 @@ use Rattle.store.specs.Content.{parts}
 use Rattle.desk.specs.declared.refusal.Refusal.TheVariants.{Memory}
 use Rattle.desk.specs.OfCatalogue.{FormsParts, HasContent}
 use Rattle.desk.proofs.AtHomes.{found_so}
-use Rattle.desk.proofs.Located.{IsEither, IsFetchOf, are_of}
+use Rattle.desk.proofs.Located.{IsOfSome, IsFetchOf, are_of}
 use Rattle.world.specs.declared.fault.Fault.{Fault}
 use Rattle.world.specs.declared.fault.Fault.TheVariants as fault
 use Rattle.desk.specs.CatalogueDatabase.{IsBase, database}
@@ -87,15 +87,15 @@ module _ (catalogue : Catalogue) (base : IsBase (database catalogue)) (unique : 
       (subst (AreParts leaf.columns) (ap (met fetch.conds) has ∙ sym (ap (brought whole fetch) there)) ((forms (parts fetch.conds (db.content 0 place whole))).0 well))
 
   -- so of each of some fetches
-  all_fit : (need other : Need) (contents : Leaf → List (List Value)) (fetches : List Fetch) → AllByRecursion (IsEither (catalogue_leaves catalogue) need other) fetches → AreBrought catalogue whole fetches contents → AllByRecursion (λ read. AreParts read.columns (contents read.leaf)) fetches
-  all_fit need other contents [] of came = tt
-  all_fit need other contents (fetch ∷ fetches) of came = (
-    subst (AreParts fetch.columns) (sym came.0) (⊎_elim (one_fits need fetch) (one_fits other fetch) of.0),
-    all_fit need other contents fetches of.1 came.1,
+  all_fit : (needs : List Need) (contents : Leaf → List (List Value)) (fetches : List Fetch) → AllByRecursion (IsOfSome (catalogue_leaves catalogue) needs) fetches → AreBrought catalogue whole fetches contents → AllByRecursion (λ read. AreParts read.columns (contents read.leaf)) fetches
+  all_fit needs contents [] of came = tt
+  all_fit needs contents (fetch ∷ fetches) of came = (
+    subst (AreParts fetch.columns) (sym came.0) (one_fits of.0.need fetch of.0.of),
+    all_fit needs contents fetches of.1 came.1,
   )
 
   -- what the fetches of a statement bring is parts of their columns
   pub parts_come : (stated : Statement) (contents : Leaf → List (List Value)) (fetches : List Fetch) → IsStatementOf (schemas_of catalogue) stated → AreFetchesOf catalogue stated fetches → AreBrought catalogue whole fetches contents → AllByRecursion (λ read. AreParts read.columns (contents read.leaf)) fetches
   parts_come stated contents fetches of are came =
       let known = are_of catalogue unique (base.of_catalogue.formed 0) stated fetches of are in
-      all_fit known.need known.other contents fetches known.each came
+      all_fit known.needs contents fetches known.each came

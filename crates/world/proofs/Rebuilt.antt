@@ -4,7 +4,7 @@ use Rattle.std.specs.Cmp.Lexicographic.{pointwise}
 use Rattle.std.specs.FinMap as fin
 use Rattle.std.specs.List.{AllByRecursion, list_any, range_with_len, slice_get}
 use Rattle.std.specs.Option.{option_and_then}
-use Rattle.std.proofs.lemmas.List.{length-append, length-map}
+use Rattle.std.proofs.lemmas.List.{length-map}
 use Rattle.std.proofs.lemmas.List.FromFn.{length-range_with_len}
 use Rattle.terms.specs.declared.cond.Cond.{Cond}
 use Rattle.terms.specs.declared.leaf.Leaf.{Leaf}
@@ -182,13 +182,14 @@ everything_fits catalogue formed name relation there =
     let one = found_so (λ r. length r.columns ≤ 16) (λ r. pointwise nat_eq r.name name) schemas relation (all_schemas (λ r. length r.columns ≤ 16) catalogue.sites catalogue.relations (λ r is. is.few) formed.relations) there in
     let same = name_is relation.name name one.1 in
     let long = length-range_with_len 0 (length relation.columns) in
-    let wide = length-append (kinds_of relation) [] ∙ ap (λ n. n + 0) (length-map relation.columns (λ c. c.kind)) in
+    let wide : length (kinds_of relation) ≡ length relation.columns = length-map relation.columns (λ c. c.kind) in
     let few = one.0 in
     record {
       relation = relation;
-      joined = [];
+      types = kinds_of relation;
       there = subst (λ n. relation_named n schemas ≡ Some relation) (sym same) there;
       names = refl;
+      few_joins = omega arith;
       joins = refl;
       few_columns = omega (arith, long, few);
       columns = subst (λ m. AllByRecursion (λ col. col < m) (places_to (length relation.columns))) (omega (arith, wide)) (below 0 (length relation.columns));

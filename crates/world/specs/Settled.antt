@@ -1,5 +1,5 @@
 -- What sites keep of leaves, and the settled fragments: kept, with the intentions of decided transactions.
-use Rattle.std.specs.Prelude.{◌≡◌, ℕ, List, [], map, length, is_some, Option, None}
+use Rattle.std.specs.Prelude.{◌≡◌, ℕ, List, [], map, length, is_some, Option}
 use Rattle.std.specs.FinMap as fin
 use Rattle.std.specs.Option.{option_map}
 use Rattle.terms.specs.declared.leaf.Leaf.{Leaf}
@@ -55,7 +55,7 @@ brought_of db n whole fetch = record { leaf = fetch.leaf; parts = parts fetch.co
 
 -- the SELECT of all columns of a relation
 abbrev pub everything : RelationSchema → Select
-everything relation = record { from = record { name = relation.name; columns = names_of relation }; join = None; columns = places_to (length relation.columns); conds = [] }
+everything relation = record { from = record { name = relation.name; columns = names_of relation }; joins = []; columns = places_to (length relation.columns); conds = [] }
 
 -- the rows of a relation of the database, by key; none of a relation that there isn't
 abbrev pub rows_shown : Database → Relations → List ℕ → Option (List (List Value))

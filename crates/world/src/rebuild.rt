@@ -213,7 +213,7 @@ fn everything(alloc: Global, relation: &RelationSchema) -> Result<Select, Memory
             name: relation.name.copy()?,
             columns: Seq::new(names_of(alloc, columns)?),
         },
-        join: None,
+        joins: Seq::new(Vec::new(alloc)),
         columns: Seq::new(places_to(alloc, columns.len())?),
         conds: Conds::new(Vec::new(alloc)),
     })
