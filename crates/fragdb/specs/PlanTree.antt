@@ -1,5 +1,5 @@
 -- What the program shows of a statement's plan as a tree.
-use Rattle.std.specs.Prelude.{◌≡◌, ℕ, if◌then◌else◌, List, [], ◌∷◌, ◌++◌, Option, Some, None, codes, length, map}
+use Rattle.std.specs.Prelude.{◌≡◌, ℕ, if◌then◌else◌, List, [], ◌∷◌, ◌++◌, codes, flat_map, length, map}
 use Rattle.std.specs.List.{Contains}
 use Rattle.meaning.specs.declared.schema.Column.{Column}
 use Rattle.meaning.specs.declared.schema.RelationSchema.{RelationSchema}
@@ -27,13 +27,16 @@ abbrev pub qualified_all : List RelationSchema → List ℕ → List Column
 qualified_all relations name = map (qualified name) (columns_of relations name)
 
 -- the columns of a select's rows: with their relations' names exactly in a join
-abbrev pub select_columns : List RelationSchema → List ℕ → Option Join → List Column
-select_columns relations name None = columns_of relations name
-select_columns relations name (Some join) = qualified_all relations name ++ qualified_all relations join.relation.name
+abbrev pub columns_joined : List RelationSchema → List ℕ → List Join → List Column
+columns_joined relations name joins = qualified_all relations name ++ flat_map (λ join. qualified_all relations join.relation.name) joins
+
+abbrev pub select_columns : List RelationSchema → List ℕ → List Join → List Column
+select_columns relations name [] = columns_of relations name
+select_columns relations name (join ∷ joins) = columns_joined relations name (join ∷ joins)
 
 -- the columns of the rows that a statement is to find
 abbrev pub statement_columns : List RelationSchema → Statement → List Column
-statement_columns relations (statement.Select select) = select_columns relations select.from.name select.join
+statement_columns relations (statement.Select select) = select_columns relations select.from.name select.joins
 statement_columns relations (statement.Insert insert) = columns_of relations insert.into
 statement_columns relations (statement.Update update) = columns_of relations update.relation.name
 statement_columns relations (statement.Delete delete) = columns_of relations delete.relation.name

@@ -69,17 +69,18 @@ fn statement_columns(
 
 /// The columns of a select's rows: with their relations' names exactly in a join.
 fn select_columns(alloc: Global, schema: &Schema, select: &Select) -> Result<Vec<Column>, Memory>
-    ensures { IfOk result (λ columns. columns.items ≡ select_columns schema.now.relations select.now.from.name select.now.join) }
+    ensures { IfOk result (λ columns. columns.items ≡ select_columns schema.now.relations select.now.from.name select.now.joins) }
 {
-    match &select.join {
-        None => copy_all(alloc, columns_of(schema, &select.from.name)),
-        Some(join) => {
-            let mut columns = Vec::new(alloc);
-            put_qualified(&mut columns, schema, &select.from.name)?;
-            put_qualified(&mut columns, schema, &join.relation.name)?;
-            Ok(columns)
-        }
+    let joins = select.joins.as_slice();
+    if joins.is_empty() {
+        return copy_all(alloc, columns_of(schema, &select.from.name));
     }
+    let mut columns = Vec::new(alloc);
+    put_qualified(&mut columns, schema, &select.from.name)?;
+    for join in joins {
+        put_qualified(&mut columns, schema, &join.relation.name)?;
+    }
+    Ok(columns)
 }
 
 /// The columns of a relation behind others, by their names with its own.

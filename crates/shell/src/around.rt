@@ -1,6 +1,6 @@
 //! What stands around a fault: the text, its tokens, and the columns that it can speak of.
 
-use crate::tokens::{is_sign, name, name_behind};
+use crate::tokens::{is_keyword, is_sign, name, name_behind};
 use meaning::schema::{Column, RelationSchema, Schema};
 use reader::keyword::Keyword;
 use reader::sign::Sign;
@@ -32,21 +32,37 @@ pub(crate) struct Around<'a> {
     pub relations: &'a [RelationSchema],
 }
 
-/// The relations that a statement names and the schema has.
+/// The relations that a statement names and the schema has, in their order.
 pub(crate) fn tables<'a>(
     alloc: Global,
     schema: &'a Schema,
     tokens: &'a [Placed<'a>],
 ) -> Result<Vec<Table<'a>>, AllocError> {
     let mut tables = Vec::new(alloc);
-    for keyword in [Keyword::From, Keyword::Into, Keyword::Update, Keyword::Join] {
+    for keyword in [Keyword::From, Keyword::Into, Keyword::Update] {
         if let Some(name) = name_behind(tokens, keyword) {
-            if let Some(relation) = schema.relation(name.as_bytes()) {
-                tables.push(table_of(relation))?;
+            add_table(&mut tables, schema, name)?;
+        }
+    }
+    for index in 0..tokens.len() {
+        if is_keyword(tokens, index, Keyword::Join) {
+            if let Some(name) = name(tokens, index.saturating_add(1)) {
+                add_table(&mut tables, schema, name)?;
             }
         }
     }
     Ok(tables)
+}
+
+fn add_table<'a>(
+    tables: &mut Vec<Table<'a>>,
+    schema: &'a Schema,
+    name: &str,
+) -> Result<(), AllocError> {
+    if let Some(relation) = schema.relation(name.as_bytes()) {
+        tables.push(table_of(relation))?;
+    }
+    Ok(())
 }
 
 /// A relation's columns under its name.
@@ -110,6 +126,11 @@ pub(crate) fn may_be_of(table: &Table<'_>, qualifier: Option<&str>) -> bool {
         None => true,
         Some(qualifier) => qualifier == table.name,
     }
+}
+
+/// Whether a table has a column of this name.
+pub(crate) fn has_column(table: &Table<'_>, name: &str) -> bool {
+    column_named(table.columns, name).is_some()
 }
 
 fn column_named<'a>(columns: &'a [Column], name: &str) -> Option<&'a Column> {

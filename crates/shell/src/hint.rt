@@ -1,6 +1,6 @@
 //! What is told of a fault: what was found, and what could stand there.
 
-use crate::around::Table;
+use crate::around::{Table, has_column};
 use crate::found::Found;
 use crate::wanted::Wanted;
 use meaning::schema::{Column, RelationSchema};
@@ -60,14 +60,15 @@ pub(crate) enum Hint<'a> {
     Key {
         table: Table<'a>,
     },
-    /// A relation joined with itself.
-    Itself {
+    /// A join with a relation that stands before it.
+    Again {
         name: &'a str,
+        earlier: &'a [Table<'a>],
         relations: &'a [RelationSchema],
     },
-    /// A join by other columns than a key and a column of the relation after FROM.
+    /// A join by other columns than a key and a column of the relations before it.
     NotKey {
-        from: Table<'a>,
+        earlier: &'a [Table<'a>],
         joined: Table<'a>,
     },
     Count {
@@ -106,7 +107,7 @@ pub(crate) fn put_hint(out: &mut String, hint: &Hint<'_>) -> Result<(), AllocErr
             near,
         } => {
             write!(out, "no relation `{name}`; there are ")?;
-            put_relations(out, relations, "")?;
+            put_relations(out, relations, &[])?;
             put_near(out, "`", *near)
         }
         Hint::NoColumn { name, tables, near } => {
@@ -118,10 +119,7 @@ pub(crate) fn put_hint(out: &mut String, hint: &Hint<'_>) -> Result<(), AllocErr
             write!(out, "no relation `{qualifier}` in the statement")?;
             put_tables(out, tables)
         }
-        Hint::Ambiguous { name, tables } => {
-            write!(out, "each relation has a column `{name}`; write ")?;
-            put_qualified(out, tables, name)
-        }
+        Hint::Ambiguous { name, tables } => put_ambiguous(out, tables, name),
         other => put_hint_of_names(out, other),
     }
 }
@@ -135,14 +133,12 @@ fn put_hint_of_names(out: &mut String, hint: &Hint<'_>) -> Result<(), AllocError
             write!(out, "`{column}` is a text; the columns after ON are int")
         }
         Hint::Key { table } => put_key(out, table),
-        Hint::Itself { name, relations } => {
-            write!(
-                out,
-                "{name} stands after FROM; a join is with another relation: "
-            )?;
-            put_relations(out, relations, name)
-        }
-        Hint::NotKey { from, joined } => put_not_key(out, from, joined),
+        Hint::Again {
+            name,
+            earlier,
+            relations,
+        } => put_again(out, name, earlier, relations),
+        Hint::NotKey { earlier, joined } => put_not_key(out, earlier, joined),
         Hint::Count { values, table } => put_count(out, *values, table),
         Hint::TooLarge { found } => write!(
             out,
@@ -175,16 +171,16 @@ fn put_near(out: &mut String, mark: &str, near: Option<&str>) -> Result<(), Allo
     }
 }
 
-/// The names of relations but one.
+/// The names of relations but these.
 fn put_relations(
     out: &mut String,
     relations: &[RelationSchema],
-    but: &str,
+    but: &[Table<'_>],
 ) -> Result<(), AllocError> {
     let mut is_first = true;
     for relation in relations {
         let name = relation.name.as_str();
-        if name != but {
+        if !but.iter().any(|table| table.name == name) {
             put_item(out, is_first, name)?;
             is_first = false;
         }
@@ -219,13 +215,38 @@ fn put_columns(out: &mut String, columns: &[Column]) -> Result<(), AllocError> {
     Ok(())
 }
 
-/// A column's name behind that of each table.
-fn put_qualified(out: &mut String, tables: &[Table<'_>], column: &str) -> Result<(), AllocError> {
-    for (index, table) in tables.iter().enumerate() {
-        if index > 0 {
-            out.push_str(" or ")?;
+/// A column that several tables have.
+fn put_ambiguous(out: &mut String, tables: &[Table<'_>], column: &str) -> Result<(), AllocError> {
+    if tables.iter().all(|table| has_column(table, column)) {
+        out.push_str("each relation has")?;
+    } else {
+        put_having(out, tables, column)?;
+        out.push_str(" have")?;
+    }
+    write!(out, " a column `{column}`; write ")?;
+    put_qualified(out, tables, column)
+}
+
+/// The names of the tables that have a column.
+fn put_having(out: &mut String, tables: &[Table<'_>], column: &str) -> Result<(), AllocError> {
+    let mut between = "";
+    for table in tables {
+        if has_column(table, column) {
+            write!(out, "{between}{}", table.name)?;
+            between = " and ";
         }
-        write!(out, "{}.{column}", table.name)?;
+    }
+    Ok(())
+}
+
+/// A column's name behind that of each table that has it.
+fn put_qualified(out: &mut String, tables: &[Table<'_>], column: &str) -> Result<(), AllocError> {
+    let mut between = "";
+    for table in tables {
+        if has_column(table, column) {
+            write!(out, "{between}{}.{column}", table.name)?;
+            between = " or ";
+        }
     }
     Ok(())
 }
@@ -274,18 +295,38 @@ fn put_key(out: &mut String, table: &Table<'_>) -> Result<(), AllocError> {
     put_columns(out, others)
 }
 
-fn put_not_key(out: &mut String, from: &Table<'_>, joined: &Table<'_>) -> Result<(), AllocError> {
+fn put_again(
+    out: &mut String,
+    name: &str,
+    earlier: &[Table<'_>],
+    relations: &[RelationSchema],
+) -> Result<(), AllocError> {
+    let place = match earlier.first() {
+        Some(from) if from.name == name => "stands after FROM",
+        _ => "is joined already",
+    };
+    write!(out, "{name} {place}; a join is with another relation: ")?;
+    put_relations(out, relations, earlier)
+}
+
+fn put_not_key(
+    out: &mut String,
+    earlier: &[Table<'_>],
+    joined: &Table<'_>,
+) -> Result<(), AllocError> {
     let Some(key) = joined.columns.first() else {
         return Ok(());
     };
     write!(out, "a join goes by the key of {}: expected ", joined.name)?;
-    write!(
-        out,
-        "{}.{} and a column of {} (",
-        joined.name, key.name, from.name
-    )?;
-    put_columns(out, from.columns)?;
-    out.push_str(")")
+    write!(out, "{}.{} and a column of ", joined.name, key.name)?;
+    let mut between = "";
+    for table in earlier {
+        write!(out, "{between}{} (", table.name)?;
+        put_columns(out, table.columns)?;
+        out.push_str(")")?;
+        between = " or ";
+    }
+    Ok(())
 }
 
 fn put_count(out: &mut String, values: usize, table: &Table<'_>) -> Result<(), AllocError> {

@@ -6,10 +6,11 @@ use crate::hint::Hint;
 use crate::limits::limit;
 use crate::nearest::nearest;
 use crate::text::split_at;
-use crate::tokens::{commas_before, name, token_at};
+use crate::tokens::{commas_before, is_keyword, keywords_before, name, token_at};
 use crate::types::wrong_type;
 use crate::wanted::{Wanted, wanted_behind};
 use reader::fault::{ReadFault, Rule};
+use reader::keyword::Keyword;
 use std::alloc::{AllocError, Global};
 
 /// What is told of a fault of the text.
@@ -170,26 +171,33 @@ fn key_column<'a>(around: &Around<'a>) -> Hint<'a> {
 }
 
 fn join_not_key<'a>(around: &Around<'a>, at: Option<usize>) -> Hint<'a> {
-    match around.tables {
-        [from, joined, ..] => not_key(around, *from, *joined, at),
-        _ => Hint::Plain("a join goes by the key of the joined relation"),
+    match at {
+        Some(at) => join_not_key_at(around, at),
+        None => NOT_KEY,
     }
 }
 
-fn not_key<'a>(
-    around: &Around<'a>,
-    from: Table<'a>,
-    joined: Table<'a>,
-    at: Option<usize>,
-) -> Hint<'a> {
-    if from.name == joined.name {
-        Hint::Itself {
-            name: from.name,
+const NOT_KEY: Hint<'static> = Hint::Plain("a join goes by the key of the joined relation");
+
+/// A join that goes by no key, or is with a relation that stands before it.
+fn join_not_key_at<'a>(around: &Around<'a>, at: usize) -> Hint<'a> {
+    let tables = around.tables;
+    let index = keywords_before(around.tokens, at, Keyword::Join);
+    let Some(joined) = tables.get(index) else {
+        return NOT_KEY;
+    };
+    let earlier = &tables[..index];
+    if at > 0 && is_keyword(around.tokens, at - 1, Keyword::Join) {
+        Hint::Again {
+            name: joined.name,
+            earlier,
             relations: around.relations,
         }
     } else {
-        let _ = at;
-        Hint::NotKey { from, joined }
+        Hint::NotKey {
+            earlier,
+            joined: *joined,
+        }
     }
 }
 

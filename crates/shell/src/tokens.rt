@@ -59,6 +59,15 @@ pub(crate) fn name_behind<'a>(tokens: &'a [Placed<'a>], keyword: Keyword) -> Opt
     name(tokens, index.saturating_add(1))
 }
 
+/// How many tokens before one are this keyword.
+pub(crate) fn keywords_before(tokens: &[Placed<'_>], index: usize, wanted: Keyword) -> usize {
+    tokens
+        .iter()
+        .take(index)
+        .filter(|placed| is_this_keyword(&placed.token, wanted))
+        .count()
+}
+
 /// How many commas stand before a token.
 pub(crate) fn commas_before(tokens: &[Placed<'_>], index: usize) -> usize {
     tokens
