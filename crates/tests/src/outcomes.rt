@@ -1,5 +1,9 @@
 //! What statements over fragments answer and write, from parts that are given by hand.
 
+ghost use Rattle.std.specs.List.{Contains};
+ghost use Rattle.plan.specs.Shape.{shape};
+ghost use Rattle.plan.specs.Uniform.{EachRead, IsUniform};
+
 use crate::catalogues::{EMP_AND_DEPT, ITEM, PAIR};
 use answers::evaluate::{evaluate, evaluate_counted};
 use answers::finish::{Outcome, finish};
@@ -8,7 +12,7 @@ use answers::work::work;
 use catalog::catalogue::Catalog;
 use plan::fetch::Fetch;
 use plan::localize::localize;
-use plan::reduce::{fetches, reduce};
+use plan::reduce::{Reduced, fetches, reduce};
 use reader::command::Command;
 use reader::print_answer::print_answer;
 use reader::print_statement::print_part;
@@ -186,17 +190,8 @@ fn inserted(rt: HostRuntime) {
     );
 }
 
-/// The rows of two columns that are in a leaf each, and the steps that putting them together takes, where the
-/// leaves have parts at so many first keys.
-fn put_together(alloc: Global, counts: [i64; 2]) -> Result<(usize, u64), Memory> {
-    let catalog = Catalog::read(alloc, PAIR).map_err(|_| Memory)?;
-    let Ok(Command::Run(statement)) = read(alloc, "SELECT one, other FROM pair", catalog.schema())
-    else {
-        return Err(Memory);
-    };
-    let plan = localize(alloc, &catalog, &statement)?;
-    let less = reduce(alloc, &catalog, &statement, plan)?;
-    let reads = fetches(&less);
+/// Parts at so many first keys of each of two leaves.
+fn first_parts(alloc: Global, reads: &[Fetch], counts: [i64; 2]) -> Result<Vec<FetchRows>, Memory> {
     let mut rows = Vec::new(alloc);
     for (read, count) in reads.iter().zip(counts) {
         let mut parts = Vec::new(alloc);
@@ -208,6 +203,29 @@ fn put_together(alloc: Global, counts: [i64; 2]) -> Result<(usize, u64), Memory>
             parts: Seq::new(parts),
         })?;
     }
+    Ok(rows)
+}
+
+/// The rows of two columns that are in a leaf each, and the steps that putting them together takes, where the
+/// leaves have parts at so many first keys.
+fn put_together(alloc: Global, counts: [i64; 2]) -> Result<(usize, u64), Memory> {
+    let catalog = Catalog::read(alloc, PAIR).map_err(|_| Memory)?;
+    let Ok(Command::Run(statement)) = read(alloc, "SELECT one, other FROM pair", catalog.schema())
+    else {
+        return Err(Memory);
+    };
+    let plan = localize(alloc, &catalog, &statement)?;
+    let less = reduce(alloc, &catalog, &statement, plan)?;
+    steps_of(alloc, &less, counts)
+}
+
+/// The rows of a reduced plan and the steps of its evaluation, where its leaves have parts at so many first keys.
+fn steps_of(alloc: Global, less: &Reduced, counts: [i64; 2]) -> Result<(usize, u64), Memory>
+    requires fetched { EachRead (λ read. Contains less.now.fetches.items read) (shape less.now.plan) }
+    requires uniform { IsUniform (shape less.now.plan) }
+{
+    let reads = fetches(less);
+    let rows = first_parts(alloc, reads, counts)?;
     let rows = rows.as_slice();
     if !are_all_parts(reads, rows) {
         return Err(Memory);
