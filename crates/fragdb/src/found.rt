@@ -73,7 +73,8 @@ fn sort(txns: &mut Vec<Txn>) -> Result<(), AllocError> {
 }
 
 /// What a session over this folder begins with: the relations, how many rows the fragments of each site have, and what has come
-/// of the transactions that were in doubt. Nothing is told of a folder that is new, and none of one that can't be read.
+/// of the transactions that were in doubt. Nothing is told of a folder that is new, and none of one that can't be read. It is for a
+/// person's eyes, and what lies in a folder no contract can say.
 pub fn found_text<M: Alter + Drop, F: OpensFiles<M>>(
     rt: &HostRuntime,
     files: &F,
