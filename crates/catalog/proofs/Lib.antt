@@ -17,6 +17,7 @@ pub mod BranchConds
 pub mod Splits
 pub mod Ordered
 pub mod Refusals
+pub mod Chains
 pub mod Children
 pub mod Leaves
 pub mod OneTree

@@ -14,6 +14,7 @@ pub mod Describes
 pub mod Node
 pub mod FragmentLeaf
 pub mod Formed
+pub mod Chain
 pub mod Item
 pub mod Emp
 pub mod Inexact

@@ -1,6 +1,6 @@
 //! Catalogues, read from their texts.
 
-ghost use Rattle.std.specs.Prelude.{◌≡◌, ◌<◌, true, None, is_some, length, map, option_map, option_and_then, IfOk, IfErr};
+ghost use Rattle.std.specs.Prelude.{◌≡◌, ◌<◌, ℕ, List, MatchOption, true, None, is_some, length, map, option_map, option_and_then, IfOk, IfErr};
 ghost use Rattle.std.specs.List.{AllByRecursion};
 ghost use Rattle.toml.specs.Data.{as_table};
 ghost use Rattle.toml.specs.Parse.{parse_document};
@@ -14,12 +14,14 @@ ghost use Rattle.catalog.specs.Catalogue.{IsRelationIn, IsDocumentOf, IsCatalogu
 ghost use Rattle.catalog.specs.Describes.{Each, site_numbered};
 ghost use Rattle.catalog.specs.Refuses.{is_of_text};
 ghost use Rattle.catalog.specs.Relation.{relation_of, catalogue_of};
+ghost use Rattle.catalog.specs.Chain.{IsNext};
 ghost use Rattle.catalog.specs.Formed.{IsFormed};
 ghost use Rattle.catalog.specs.Fragment.{part};
 ghost use Rattle.catalog.specs.FragmentLeaf.{catalogue_leaves, leaf_named, leaves_in, names_at, relation_named, schemas_of, unnamed};
 ghost use Rattle.std.specs.Option.{option_copied};
 ghost use Rattle.catalog.specs.Document.{parts_of, RefusesDocument, RefusesRelations, RefusesRoot, RefusesText, TellsRelation, TellsRoot, TellsText, are_tables};
 
+use crate::chain::other_split;
 use crate::fault::{CatFault, Rule};
 use crate::form::some_texts;
 use crate::fragment::place;
@@ -36,6 +38,7 @@ use terms::copy::{TryCopy, copy_all};
 use terms::leaf::Leaf;
 use terms::memory::Memory;
 use terms::row::Row;
+use terms::same::same_all;
 use terms::text::Text;
 use toml::{Table, Value};
 
@@ -190,6 +193,20 @@ impl Catalog {
                 )
             }
             None => Ok(None),
+        }
+    }
+
+    /// The name of the one relation that the next catalogue splits otherwise, where all else is the same: the
+    /// sites, and each relation's name and columns.
+    pub fn changed(&self, next: &Catalog) -> Option<&str>
+        ensures { MatchOption (option_map (λ name. name.now) result) ((name : List ℕ) → ¬ (IsNext (catalogue_of self.now) (catalogue_of next.now) name)) (λ name. IsNext (catalogue_of self.now) (catalogue_of next.now) name) }
+    {
+        if !same_all(self.sites.as_slice(), next.sites.as_slice()) {
+            return None;
+        }
+        match other_split(self.relations.as_slice(), next.relations.as_slice()) {
+            Some(name) => Some(name.as_str()),
+            None => None,
         }
     }
 

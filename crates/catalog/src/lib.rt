@@ -20,6 +20,7 @@
 #![tactic(auto)]
 
 pub mod catalogue;
+pub mod chain;
 mod column_texts;
 pub mod exact;
 pub mod fault;
