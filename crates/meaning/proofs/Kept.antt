@@ -116,6 +116,7 @@ meaning_fits schema (statement.Insert insert) whole is fits =
     ] refl
 meaning_fits schema (statement.Update update) whole is fits = update_fits schema update whole is fits
 meaning_fits schema (statement.Delete delete) whole is fits = delete_fits schema delete whole fits
+meaning_fits schema (statement.Refragment refragment) whole is fits = fits
 
 -- whether the statement ran or memory ran out
 pub run_fits : (result : Result Answer Memory) (s : Statement) (old new : Relations) → OnOk result (new ≡ (meaning s old).1) → OnErr result (new ≡ old) → (schema : List RelationSchema) → IsStatementOf schema s → FitsSchema schema old → FitsSchema schema new

@@ -176,6 +176,7 @@ refusal_changes_nothing (statement.Insert insert) whole refused = refused_insert
 refusal_changes_nothing (statement.Update update) whole refused = refused_update update whole (updated update (rows_of whole update.relation.name)) refused
 refusal_changes_nothing (statement.Delete delete) whole (inl is) = cc
 refusal_changes_nothing (statement.Delete delete) whole (inr is) = cc
+refusal_changes_nothing (statement.Refragment refragment) whole refused = refl
 
 abbrev key_is : ℤ → List Cond
 key_is key = record { col = 0; cmp = Eq; value = Int key } ∷ []

@@ -1,5 +1,5 @@
 -- The serial meaning: what statements answer over whole relations, and what they leave of them.
-use Rattle.std.specs.Prelude.{List, [], ◌∷◌, Option, Some, None, if◌then◌else◌}
+use Rattle.std.specs.Prelude.{List, [], ◌∷◌, Option, Some, None, if◌then◌else◌, length}
 use Rattle.std.specs.FinMap as finite
 use Rattle.terms.specs.declared.value.Value.{Value}
 use Rattle.terms.specs.Row.{key_of}
@@ -11,6 +11,7 @@ use Rattle.meaning.specs.declared.statement.Select.{Select}
 use Rattle.meaning.specs.declared.statement.Insert.{Insert}
 use Rattle.meaning.specs.declared.statement.Update.{Update}
 use Rattle.meaning.specs.declared.statement.Delete.{Delete}
+use Rattle.meaning.specs.declared.statement.Refragment.{Refragment}
 use Rattle.meaning.specs.Relation.{has_key, insert_row}
 use Rattle.meaning.specs.Whole.{Relations, rows_of, replaced}
 use Rattle.meaning.specs.Listed.{listed}
@@ -44,12 +45,17 @@ after_delete delete whole =
     let rows = rows_of whole delete.relation.name in
     (answer.Changed (matched delete.conds rows), replaced whole delete.relation.name (unmatched delete.conds rows))
 
+-- how many rows there are: that they move to other fragments changes nothing of a whole relation
+abbrev pub after_refragment : Refragment → Relations → Answer × Relations
+after_refragment refragment whole = (answer.Changed (length (rows_of whole refragment.relation.name)), whole)
+
 -- what a statement answers over a whole database, and the whole database after it
 abbrev pub meaning : Statement → Relations → Answer × Relations
 meaning (statement.Select select) whole = (select_answer select whole, whole)
 meaning (statement.Insert insert) whole = after_insert insert whole
 meaning (statement.Update update) whole = after_update update whole
 meaning (statement.Delete delete) whole = after_delete delete whole
+meaning (statement.Refragment refragment) whole = after_refragment refragment whole
 
 -- the statements of a transaction, one after another: their answers, and the whole database after them
 abbrev pub transaction_meaning : List Statement → Relations → List Answer × Relations

@@ -1,5 +1,5 @@
 -- Which statements fit a schema.
-use Rattle.std.specs.Prelude.{◌≡◌, ◌≢◌, ℕ, ◌≤◌, ◌<◌, neg_ℤ, pos, ◌≤ℤ◌, List, [], ◌∷◌, ◌++◌, Some, length}
+use Rattle.std.specs.Prelude.{◌≡◌, ◌≢◌, ℕ, Bool, true, false, ◌≤◌, ◌<◌, neg_ℤ, pos, ◌≤ℤ◌, List, [], ◌∷◌, ◌++◌, Some, length}
 use Rattle.std.specs.List.{AllByRecursion, slice_get}
 use Rattle.terms.specs.declared.value.Kind.{Kind}
 use Rattle.terms.specs.declared.value.Kind.TheVariants as kinds
@@ -17,6 +17,7 @@ use Rattle.meaning.specs.declared.statement.Assigned.TheVariants as assigned
 use Rattle.meaning.specs.declared.statement.Assignment.{Assignment}
 use Rattle.meaning.specs.declared.statement.Update.{Update}
 use Rattle.meaning.specs.declared.statement.Delete.{Delete}
+use Rattle.meaning.specs.declared.statement.Refragment.{Refragment}
 use Rattle.meaning.specs.Schema.{relation_named, kinds_of, names_of}
 
 -- A join of the schema, behind relations of these names and columns of these types: another relation, there under its
@@ -89,9 +90,21 @@ pub record IsDeleteOf (schema : List RelationSchema) (delete : Delete) : Type 0 
   pub few_conds : length delete.conds ≤ 8
   pub conds : AllByRecursion (IsCondOf (kinds_of relation)) delete.conds
 
+-- a REFRAGMENT of the schema: its relation is there under its name, with its columns' names
+pub record IsRefragmentOf (schema : List RelationSchema) (refragment : Refragment) : Type 0 where
+  pub relation : RelationSchema
+  pub there : relation_named refragment.relation.name schema ≡ Some relation
+  pub names : refragment.relation.columns ≡ names_of relation
+
+-- whether a statement is a REFRAGMENT
+abbrev pub is_refragment : Statement → Bool
+is_refragment (statement.Refragment refragment) = true
+is_refragment other = false
+
 -- a statement of the schema
 abbrev pub IsStatementOf : List RelationSchema → Statement → Type 0
 IsStatementOf schema (statement.Select select) = IsSelectOf schema select
 IsStatementOf schema (statement.Insert insert) = IsInsertOf schema insert
 IsStatementOf schema (statement.Update update) = IsUpdateOf schema update
 IsStatementOf schema (statement.Delete delete) = IsDeleteOf schema delete
+IsStatementOf schema (statement.Refragment refragment) = IsRefragmentOf schema refragment

@@ -16,6 +16,7 @@ pub mod insert;
 pub mod laws;
 pub mod listed;
 pub mod matched;
+pub mod refragment;
 pub mod relation;
 pub mod run;
 pub mod schema;

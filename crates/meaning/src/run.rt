@@ -9,6 +9,7 @@ ghost use Rattle.meaning.specs.Meaning.{meaning};
 use crate::answer::Answer;
 use crate::delete::run_delete;
 use crate::insert::run_insert;
+use crate::refragment::run_refragment;
 use crate::select::run_select;
 use crate::statement::Statement;
 use crate::update::run_update;
@@ -29,5 +30,6 @@ pub fn run(alloc: Global, whole: &mut Whole, statement: &Statement) -> Result<An
         Statement::Insert(insert) => run_insert(alloc, whole, insert),
         Statement::Update(update) => run_update(alloc, whole, update),
         Statement::Delete(delete) => run_delete(alloc, whole, delete),
+        Statement::Refragment(refragment) => Ok(run_refragment(whole, refragment)),
     }
 }

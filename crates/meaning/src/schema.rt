@@ -6,6 +6,7 @@ ghost use Rattle.meaning.specs.Schema.{relation_named};
 
 use terms::copy::TryCopy;
 use terms::memory::Memory;
+use terms::same::Same;
 use terms::seq::Seq;
 use terms::text::Text;
 use terms::value::Kind;
@@ -45,6 +46,18 @@ fn find_relation<'a>(relations: &'a [RelationSchema], name: &[u8]) -> Option<&'a
     relations
         .iter()
         .find(|relation| relation.name.as_str().as_bytes() == name)
+}
+
+impl Same for Column {
+    fn same(&self, other: &Column) -> bool {
+        self.name == other.name && self.kind == other.kind
+    }
+}
+
+impl Same for RelationSchema {
+    fn same(&self, other: &RelationSchema) -> bool {
+        self.name == other.name && self.columns.same(&other.columns)
+    }
 }
 
 impl TryCopy for Column {

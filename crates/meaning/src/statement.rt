@@ -1,6 +1,7 @@
 //! Statements, their names resolved.
 
 ghost use Rattle.std.specs.Prelude.{◌≡◌, IfOk};
+ghost use Rattle.meaning.specs.Statement.{is_refragment};
 
 use terms::cond::Conds;
 use terms::copy::TryCopy;
@@ -17,6 +18,7 @@ pub enum Statement {
     Insert(Insert),
     Update(Update),
     Delete(Delete),
+    Refragment(Refragment),
 }
 
 /// A relation that a statement speaks of: its name, and the names of all its columns.
@@ -84,6 +86,21 @@ pub struct Delete {
     pub conds: Conds,
 }
 
+/// `REFRAGMENT`: all rows of a relation, which move to the fragments that the next catalogue has for it.
+#[derive(Debug, Drop)]
+pub struct Refragment {
+    pub relation: Source,
+}
+
+impl Statement {
+    /// Whether it is a REFRAGMENT.
+    pub fn is_refragment(&self) -> bool
+        ensures { result ≡ is_refragment self.now }
+    {
+        matches!(self, Statement::Refragment(_))
+    }
+}
+
 impl TryCopy for Statement {
     fn copy(&self) -> Result<Statement, Memory> {
         match self {
@@ -91,6 +108,7 @@ impl TryCopy for Statement {
             Statement::Insert(insert) => Ok(Statement::Insert(insert.copy()?)),
             Statement::Update(update) => Ok(Statement::Update(update.copy()?)),
             Statement::Delete(delete) => Ok(Statement::Delete(delete.copy()?)),
+            Statement::Refragment(refragment) => Ok(Statement::Refragment(refragment.copy()?)),
         }
     }
 }
@@ -174,6 +192,14 @@ impl TryCopy for Delete {
         Ok(Delete {
             relation: self.relation.copy()?,
             conds: self.conds.copy()?,
+        })
+    }
+}
+
+impl TryCopy for Refragment {
+    fn copy(&self) -> Result<Refragment, Memory> {
+        Ok(Refragment {
+            relation: self.relation.copy()?,
         })
     }
 }

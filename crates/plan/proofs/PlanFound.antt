@@ -133,6 +133,8 @@ needs_found catalogue (statement.Update update) fetches below cover one formed v
     all_found catalogue of.relation update.relation update.conds (is_fetched fetches) contents whole key below cover one formed valid is_below of.there of.names of.conds fit (marked_from catalogue (needs (statement.Update update)) 0 (needs (statement.Update update)).relations fetches are) given.0
 needs_found catalogue (statement.Delete delete) fetches below cover one formed valid of are is_below whole contents key fit given =
     all_found catalogue of.relation delete.relation delete.conds (is_fetched fetches) contents whole key below cover one formed valid is_below of.there of.names of.conds fit (marked_from catalogue (needs (statement.Delete delete)) 0 (needs (statement.Delete delete)).relations fetches are) given.0
+needs_found catalogue (statement.Refragment refragment) fetches below cover one formed valid of are is_below whole contents key fit given =
+    all_found catalogue of.relation refragment.relation [] (is_fetched fetches) contents whole key below cover one formed valid is_below of.there of.names tt fit (marked_from catalogue (needs (statement.Refragment refragment)) 0 (needs (statement.Refragment refragment)).relations fetches are) given.0
 
 pub plan_finds : (catalogue : Catalogue) (statement : Statement) (fetches : List Fetch) (plan : Shape) → SomeServes → OneServes → IsFormed catalogue → IsValidCatalogue catalogue → IsStatementOf (schemas_of catalogue) statement →
     AreFetchesOf catalogue statement fetches → IsLocated catalogue statement plan → FindsAll catalogue statement fetches (reduced (is_fetched fetches) plan)

@@ -206,6 +206,7 @@ needs_fit catalogue (statement.Insert insert) formed valid of =
     (record { schema = of.relation; found = found; there = of.there; needed = tt; conds = (record { column = key; constant = key_fits (kinds_of of.relation) insert.row key of.fits }, tt) }, tt)
 needs_fit catalogue (statement.Update update) formed valid of = (all_of catalogue update.relation of.relation update.conds formed valid of.there of.names of.conds, tt)
 needs_fit catalogue (statement.Delete delete) formed valid of = (all_of catalogue delete.relation of.relation delete.conds formed valid of.there of.names of.conds, tt)
+needs_fit catalogue (statement.Refragment refragment) formed valid of = (all_of catalogue refragment.relation of.relation [] formed valid of.there of.names tt, tt)
 
 -- the needs so far, over their types, and the links behind them
 abbrev kinds_each : Catalogue → List Need → List (List Kind)
@@ -258,6 +259,7 @@ links_fit catalogue (statement.Select select) formed valid of =
 links_fit catalogue (statement.Insert insert) formed valid of = tt
 links_fit catalogue (statement.Update update) formed valid of = tt
 links_fit catalogue (statement.Delete delete) formed valid of = tt
+links_fit catalogue (statement.Refragment refragment) formed valid of = tt
 
 -- relations of different names of the schema have different names in the statement
 abbrev IsKnown : List RelationSchema → List (List ℕ) → List ℕ → Type 0
@@ -306,3 +308,4 @@ needs_apart catalogue (statement.Select select) of = (
 needs_apart catalogue (statement.Insert insert) of = (tt, tt)
 needs_apart catalogue (statement.Update update) of = (tt, tt)
 needs_apart catalogue (statement.Delete delete) of = (tt, tt)
+needs_apart catalogue (statement.Refragment refragment) of = (tt, tt)

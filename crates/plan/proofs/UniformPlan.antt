@@ -252,6 +252,7 @@ narrow_links catalogue (statement.Select select) formed valid of =
 narrow_links catalogue (statement.Insert insert) formed valid of = tt
 narrow_links catalogue (statement.Update update) formed valid of = tt
 narrow_links catalogue (statement.Delete delete) formed valid of = tt
+narrow_links catalogue (statement.Refragment refragment) formed valid of = tt
 
 pub plan_uniform : (catalogue : Catalogue) (statement : Statement) (passes : Leaf → Bool) (plan : Shape) → IsFormed catalogue → IsValidCatalogue catalogue → IsStatementOf (schemas_of catalogue) statement → IsLocated catalogue statement plan →
     IsUniform (reduced passes plan)

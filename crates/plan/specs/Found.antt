@@ -11,12 +11,13 @@ use Rattle.catalog.specs.Keyed.{row_at}
 use Rattle.plan.specs.Need.{columns_read, key_is, links_of, places_to}
 use Rattle.plan.specs.Rows.{Seen, seen_of}
 
--- the conditions of a statement; an INSERT asks for its key
+-- the conditions of a statement; an INSERT asks for its key, and a REFRAGMENT for every row
 abbrev pub asked : Statement → List Cond
 asked (statement.Select select) = select.conds
 asked (statement.Insert insert) = key_is insert.row ∷ []
 asked (statement.Update update) = update.conds
 asked (statement.Delete delete) = delete.conds
+asked (statement.Refragment refragment) = []
 
 -- the whole rows that a statement reads or may change
 abbrev pub rows_asked : Statement → Relations → List (List Value)
@@ -24,13 +25,15 @@ rows_asked (statement.Select select) whole = rows_read select.from select.joins 
 rows_asked (statement.Insert insert) whole = rows_of whole insert.into
 rows_asked (statement.Update update) whole = rows_of whole update.relation.name
 rows_asked (statement.Delete delete) whole = rows_of whole delete.relation.name
+rows_asked (statement.Refragment refragment) whole = rows_of whole refragment.relation.name
 
--- the columns that a statement is to see, besides the key; a change sees all
+-- the columns that a statement is to see, besides the key; a change sees all, and so does a REFRAGMENT
 abbrev pub columns_asked : Statement → List ℕ
 columns_asked (statement.Select select) = columns_read (links_of select) select
 columns_asked (statement.Insert insert) = []
 columns_asked (statement.Update update) = places_to (length update.relation.columns)
 columns_asked (statement.Delete delete) = places_to (length delete.relation.columns)
+columns_asked (statement.Refragment refragment) = places_to (length refragment.relation.columns)
 
 -- a row of which the conditions hold, seen in these columns
 abbrev pub found_of : List Cond → List ℕ → List Value → Option Seen

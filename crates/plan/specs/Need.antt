@@ -118,9 +118,10 @@ places_to count = range_with_len 0 count
 abbrev pub alone : Need → Needs
 alone need = record { relations = need ∷ []; links = [] }
 
--- a change needs all columns of the rows that it may change; an INSERT needs to know whether its key is there
+-- a change needs all columns of the rows that it may change, a REFRAGMENT those of all rows; an INSERT needs to know whether its key is there
 abbrev pub needs : Statement → Needs
 needs (statement.Select select) = needs_of_select select (links_of select)
 needs (statement.Insert insert) = alone (record { relation = insert.into; columns = []; conds = key_is insert.row ∷ [] })
 needs (statement.Update update) = alone (record { relation = update.relation.name; columns = places_to (length update.relation.columns); conds = update.conds })
 needs (statement.Delete delete) = alone (record { relation = delete.relation.name; columns = places_to (length delete.relation.columns); conds = delete.conds })
+needs (statement.Refragment refragment) = alone (record { relation = refragment.relation.name; columns = places_to (length refragment.relation.columns); conds = [] })

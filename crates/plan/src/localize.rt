@@ -87,7 +87,7 @@ fn looked_up(
     looked_up(alloc, catalog, links, needs, plan)
 }
 
-/// The conditions of a statement; an INSERT asks for its key.
+/// The conditions of a statement; an INSERT asks for its key, and a REFRAGMENT for every row.
 fn conds_asked(alloc: Global, statement: &Statement) -> Result<Conds, Memory>
     ensures { IfOk result (λ conds. conds ≡ asked statement.now) }
 {
@@ -104,6 +104,7 @@ fn conds_asked(alloc: Global, statement: &Statement) -> Result<Conds, Memory>
         }
         Statement::Update(update) => update.conds.copy(),
         Statement::Delete(delete) => delete.conds.copy(),
+        Statement::Refragment(_) => Ok(Conds::new(Vec::new(alloc))),
     }
 }
 

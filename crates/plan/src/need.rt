@@ -46,6 +46,10 @@ pub fn statement_needs(alloc: Global, statement: &Statement) -> Result<Needs, Me
             let need = need_of_all(alloc, &delete.relation, &delete.conds)?;
             alone(alloc, need)
         }
+        Statement::Refragment(refragment) => {
+            let conds = Conds::new(Vec::new(alloc));
+            alone(alloc, need_of_all(alloc, &refragment.relation, &conds)?)
+        }
     }
 }
 

@@ -20,8 +20,9 @@ use Rattle.meaning.specs.declared.statement.Assigned.TheVariants as assigned
 use Rattle.meaning.specs.declared.statement.Assignment.{Assignment}
 use Rattle.meaning.specs.declared.statement.Update.{Update}
 use Rattle.meaning.specs.declared.statement.Delete.{Delete}
+use Rattle.meaning.specs.declared.statement.Refragment.{Refragment}
 use Rattle.meaning.specs.Schema.{relation_named, kinds_of}
-use Rattle.meaning.specs.Statement.{IsJoinOf, AreJoinsOf, IsSelectOf, IsInsertOf, IsAssignable, IsAssignmentOf, IsUpdateOf, IsDeleteOf}
+use Rattle.meaning.specs.Statement.{IsJoinOf, AreJoinsOf, IsSelectOf, IsInsertOf, IsAssignable, IsAssignmentOf, IsUpdateOf, IsDeleteOf, IsRefragmentOf}
 use Rattle.reader.specs.declared.command.Command.{Command}
 use Rattle.reader.specs.declared.command.Command.TheVariants as commands
 use Rattle.reader.specs.declared.keyword.Keyword.TheVariants as word
@@ -29,7 +30,7 @@ use Rattle.reader.specs.declared.scope.Found.{Found}
 use Rattle.reader.specs.declared.sign.Sign.TheVariants as mark
 use Rattle.reader.specs.Command.{IsTextOf, IsCommandOf}
 use Rattle.reader.specs.Grammar.{separated, constant_text, listed_text, joins_text, where_text, assigned_text, assignment_text, select_text, insert_text, update_text, written_text, IsFilled, IsWritable}
-use Rattle.reader.specs.Names.{Joined, all_of, value_of, number_of, places_of, conds_of, source_of, is_integer, is_key, other_than_key, joined_by, join_of, other_of, others_of, joined_relations, select_from, select_of, row_of, insert_of, settable, addend, sum_of, assigned_of, assignment_of, are_apart, sets_of, update_of, delete_of, command_of}
+use Rattle.reader.specs.Names.{Joined, all_of, value_of, number_of, places_of, conds_of, source_of, is_integer, is_key, other_than_key, joined_by, join_of, other_of, others_of, joined_relations, select_from, select_of, row_of, insert_of, settable, addend, sum_of, assigned_of, assignment_of, are_apart, sets_of, update_of, delete_of, refragment_of, command_of}
 use Rattle.reader.specs.Scope.{Scope, relation_table, one_relation, types, types_in, column_named, found_in}
 use Rattle.reader.specs.Symbol.{Symbol, key, sign, name}
 use Rattle.reader.specs.Tree as tree
@@ -364,6 +365,12 @@ delete_fits schema written delete are_sound is =
       conds = alone (kinds_of relation.0) conds.0 conds_are.0;
     })
 
+refragment_fits : (schema : List RelationSchema) (written : List ℕ) (refragment : Refragment) → refragment_of schema written ≡ Some refragment → IsRefragmentOf schema refragment
+refragment_fits schema written refragment is =
+    let one = mapped_step (λ (r : RelationSchema). record { relation = source_of r }) (relation_named written schema) refragment is in
+    let P : Refragment → Type 0 = IsRefragmentOf schema in
+    subst P one.2 (record { relation = one.0; there = named_itself schema written one.0 one.1; names = refl })
+
 -- ---- commands
 
 command_fits : (schema : List RelationSchema) (written : tree.Written) (command : Command) → IsWritable written → AllByRecursion IsSound (written_text written) → command_of schema written ≡ Some command → IsCommandOf schema command
@@ -384,6 +391,10 @@ command_fits schema (tree.delete written) command filled all is =
     let one = mapped_step (λ (s : Delete). commands.Run (statements.Delete s)) (delete_of schema written) command is in
     let P : Command → Type 0 = IsCommandOf schema in
     subst P one.2 (delete_fits schema written one.0 (sound_where written.conditions all.1.1.1) one.1)
+command_fits schema (tree.refragment written) command filled all is =
+    let one = mapped_step (λ (s : Refragment). commands.Run (statements.Refragment s)) (refragment_of schema written) command is in
+    let P : Command → Type 0 = IsCommandOf schema in
+    subst P one.2 (refragment_fits schema written one.0 one.1)
 command_fits schema tree.begin command filled all is =
     let same : commands.Begin ≡ command = cc is in
     let P : Command → Type 0 = IsCommandOf schema in

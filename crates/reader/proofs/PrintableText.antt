@@ -10,12 +10,13 @@ use Rattle.meaning.specs.declared.statement.Select.{Select}
 use Rattle.meaning.specs.declared.statement.Insert.{Insert}
 use Rattle.meaning.specs.declared.statement.Update.{Update}
 use Rattle.meaning.specs.declared.statement.Delete.{Delete}
+use Rattle.meaning.specs.declared.statement.Refragment.{Refragment}
 use Rattle.meaning.specs.Schema.{relation_named}
 use Rattle.reader.specs.declared.command.Command.{Command}
 use Rattle.reader.specs.declared.command.Command.TheVariants as commands
 use Rattle.reader.specs.Command.{IsTextOf, IsCommandOf}
 use Rattle.reader.specs.Grammar.{IsListable, IsWritable}
-use Rattle.reader.specs.Names.{Joined, all_of, place_in, places_of, conds_of, source_of, join_of, others_of, joined_relations, select_from, select_of, insert_of, update_of, delete_of, command_of}
+use Rattle.reader.specs.Names.{Joined, all_of, place_in, places_of, conds_of, source_of, join_of, others_of, joined_relations, select_from, select_of, insert_of, update_of, delete_of, refragment_of, command_of}
 use Rattle.reader.specs.Printable.{AreNamed, ListsSome, IsPrintableCommand}
 use Rattle.reader.specs.Scope.{Scope, relation_table, types, types_in}
 use Rattle.reader.specs.Tree as tree
@@ -83,6 +84,9 @@ command_lists schema (tree.update written) command named filled is =
     subst CommandLists one.2 tt
 command_lists schema (tree.delete written) command named filled is =
     let one = mapped_step (λ (s : Delete). commands.Run (statements.Delete s)) (delete_of schema written) command is in
+    subst CommandLists one.2 tt
+command_lists schema (tree.refragment written) command named filled is =
+    let one = mapped_step (λ (s : Refragment). commands.Run (statements.Refragment s)) (refragment_of schema written) command is in
     subst CommandLists one.2 tt
 command_lists schema tree.begin command named filled is = let same : commands.Begin ≡ command = cc is in subst CommandLists same tt
 command_lists schema tree.commit command named filled is = let same : commands.Commit ≡ command = cc is in subst CommandLists same tt

@@ -16,11 +16,12 @@ use Rattle.meaning.specs.declared.statement.Select.{Select}
 use Rattle.meaning.specs.declared.statement.Insert.{Insert}
 use Rattle.meaning.specs.declared.statement.Update.{Update}
 use Rattle.meaning.specs.declared.statement.Delete.{Delete}
+use Rattle.meaning.specs.declared.statement.Refragment.{Refragment}
 use Rattle.meaning.specs.Schema.{relation_named, kinds_of, names_of}
-use Rattle.meaning.specs.Statement.{IsSelectOf, IsInsertOf, IsUpdateOf, IsDeleteOf}
+use Rattle.meaning.specs.Statement.{IsSelectOf, IsInsertOf, IsUpdateOf, IsDeleteOf, IsRefragmentOf}
 use Rattle.reader.specs.declared.command.Command.TheVariants as commands
 use Rattle.reader.specs.Grammar.{IsFilled, IsWritable}
-use Rattle.reader.specs.Names.{Joined, all_of, places_of, conds_of, source_of, join_of, others_of, select_from, select_of, row_of, insert_of, sets_of, update_of, delete_of, command_of}
+use Rattle.reader.specs.Names.{Joined, all_of, places_of, conds_of, source_of, join_of, others_of, select_from, select_of, row_of, insert_of, sets_of, update_of, delete_of, refragment_of, command_of}
 use Rattle.reader.specs.Printable.{IsNamed, AreNamed, IsPrintable}
 use Rattle.reader.specs.Scope.{Scope, relation_table, one_relation, types_in}
 use Rattle.reader.specs.Tokens.{IsName}
@@ -185,6 +186,21 @@ delete_again schema named delete is =
       };
     })
 
+record ReadsRefragment (schema : List RelationSchema) (refragment : Refragment) : Type 0 where
+  means : refragment_of schema refragment.relation.name ≡ Some refragment
+  spells : IsName refragment.relation.name
+
+refragment_again : (schema : List RelationSchema) → AreNamed schema → (refragment : Refragment) → IsRefragmentOf schema refragment → ReadsRefragment schema refragment
+refragment_again schema named refragment is =
+    let name = found_by_name schema refragment.relation.name is.relation is.there in
+    let names = relation_is_named schema refragment.relation.name is.relation named is.there in
+    let there = named_itself schema refragment.relation.name is.relation is.there in
+    let P : Source → Type 0 = λ s. ReadsRefragment schema (record { relation = s }) in
+    subst P (is_source refragment.relation is.relation name is.names) (record {
+      means = ap (option_map (λ (r : RelationSchema). record { relation = source_of r })) there;
+      spells = names.name;
+    })
+
 -- ---- statements
 
 -- the tree that a printable statement is written as means the statement
@@ -194,6 +210,7 @@ resolves schema (statements.Select select) is =
 resolves schema (statements.Insert insert) is = ap (option_map (λ (s : Insert). commands.Run (statements.Insert s))) (insert_again schema is.named insert is.fits).means
 resolves schema (statements.Update update) is = ap (option_map (λ (s : Update). commands.Run (statements.Update s))) (update_again schema is.named update is.fits).means
 resolves schema (statements.Delete delete) is = ap (option_map (λ (s : Delete). commands.Run (statements.Delete s))) (delete_again schema is.named delete is.fits).means
+resolves schema (statements.Refragment refragment) is = ap (option_map (λ (s : Refragment). commands.Run (statements.Refragment s))) (refragment_again schema is.named refragment is.fits).means
 
 -- it has no empty list but for the conditions
 pub writable : (schema : List RelationSchema) (statement : Statement) → IsPrintable schema statement → IsWritable (written_as statement)
@@ -203,6 +220,7 @@ writable schema (statements.Select select) is =
 writable schema (statements.Insert insert) is = (insert_again schema is.named insert is.fits).writes
 writable schema (statements.Update update) is = (update_again schema is.named update is.fits).writes
 writable schema (statements.Delete delete) is = tt
+writable schema (statements.Refragment refragment) is = tt
 
 -- and its names are names, its texts texts, and its integers not too large
 pub spellable : (schema : List RelationSchema) (statement : Statement) → IsPrintable schema statement → IsSpellable (written_as statement)
@@ -210,3 +228,4 @@ spellable schema (statements.Select select) is = (select_again schema is.named s
 spellable schema (statements.Insert insert) is = (insert_again schema is.named insert is.fits).spells
 spellable schema (statements.Update update) is = (update_again schema is.named update is.fits).spells
 spellable schema (statements.Delete delete) is = (delete_again schema is.named delete is.fits).spells
+spellable schema (statements.Refragment refragment) is = (refragment_again schema is.named refragment is.fits).spells

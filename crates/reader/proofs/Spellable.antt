@@ -61,6 +61,7 @@ IsSpellable (tree.select s) = IsSelect s
 IsSpellable (tree.insert i) = IsInsert i
 IsSpellable (tree.update u) = IsUpdate u
 IsSpellable (tree.delete d) = IsDelete d
+IsSpellable (tree.refragment relation) = IsName relation
 IsSpellable tree.begin = Unit {0}
 IsSpellable tree.commit = Unit {0}
 IsSpellable tree.rollback = Unit {0}

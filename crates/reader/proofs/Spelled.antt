@@ -141,6 +141,7 @@ prints_written (tree.select s) is = prints_select s is
 prints_written (tree.insert i) is = prints_insert i is
 prints_written (tree.update u) is = prints_update u is
 prints_written (tree.delete d) is = prints_delete d is
+prints_written (tree.refragment relation) is = spaced (prints_key word.Refragment) (prints_name is)
 prints_written tree.begin is = prints_key word.Begin
 prints_written tree.commit is = prints_key word.Commit
 prints_written tree.rollback is = prints_key word.Rollback

@@ -171,18 +171,24 @@ written_takes symbols y h =
             | inl delete ↦
                 let deleted = bind delete.2 in
                 written_with written_text IsWritable deleted.2 (delete.1 then delete_takes _ _ deleted.1) tt
-            | inr bare ↦ bare_takes _ _ bare
+            | inr no_delete ↦ elim (taken _ _ _ _ no_delete) [
+              | inl refragment ↦
+                  let relation = bind refragment.2 in
+                  written_with written_text IsWritable relation.2 (refragment.1 then name_takes _ _ relation.1) tt
+              | inr bare ↦ bare_takes _ _ bare
+            ]
           ]
         ]
       ]
     ]
 
 pub written_again : (w : tree.Written) → IsWritable w → (rest : List Symbol) → IsEnd rest → written_at (written_text w ++ rest) ≡ Some (w, rest)
-unfolding written_at and_then given eat bare_at
+unfolding written_at and_then given eat bare_at name_at
 written_again (tree.select s) fine rest end = rw (select_again s fine rest end) refl
 written_again (tree.insert i) fine rest end = rw (insert_again i fine rest) refl
 written_again (tree.update u) fine rest end = rw (update_again u fine rest end) refl
 written_again (tree.delete d) fine rest end = rw (delete_again d rest end) refl
+written_again (tree.refragment relation) fine rest end = refl
 written_again tree.begin fine rest end = refl
 written_again tree.commit fine rest end = refl
 written_again tree.rollback fine rest end = refl

@@ -190,6 +190,7 @@ WrittenBreaks rule schema (tree.select select) = SelectBreaks rule schema select
 WrittenBreaks rule schema (tree.insert insert) = InsertBreaks rule schema insert
 WrittenBreaks rule schema (tree.update update) = UpdateBreaks rule schema update
 WrittenBreaks rule schema (tree.delete delete) = DeleteBreaks rule schema delete
+WrittenBreaks rule schema (tree.refragment relation) = RelationBreaks rule schema relation
 WrittenBreaks rule schema tree.begin = ⊥
 WrittenBreaks rule schema tree.commit = ⊥
 WrittenBreaks rule schema tree.rollback = ⊥

@@ -99,12 +99,17 @@ update_text u = key word.Update ∷ name u.relation ∷ key word.Set ∷ (separa
 abbrev pub delete_text : tree.Delete → List Symbol
 delete_text d = key word.Delete ∷ key word.From ∷ name d.relation ∷ where_text d.conditions
 
+-- refragment = REFRAGMENT name
+abbrev pub refragment_text : List ℕ → List Symbol
+refragment_text relation = key word.Refragment ∷ name relation ∷ []
+
 -- a statement, or BEGIN, COMMIT or ROLLBACK
 abbrev pub written_text : tree.Written → List Symbol
 written_text (tree.select s) = select_text s
 written_text (tree.insert i) = insert_text i
 written_text (tree.update u) = update_text u
 written_text (tree.delete d) = delete_text d
+written_text (tree.refragment relation) = refragment_text relation
 written_text tree.begin = key word.Begin ∷ []
 written_text tree.commit = key word.Commit ∷ []
 written_text tree.rollback = key word.Rollback ∷ []
@@ -124,6 +129,7 @@ IsWritable (tree.select s) = IsListable s.listed × (length s.joins ≤ 2)
 IsWritable (tree.insert i) = IsFilled i.values
 IsWritable (tree.update u) = IsFilled u.sets
 IsWritable (tree.delete d) = Unit {0}
+IsWritable (tree.refragment relation) = Unit {0}
 IsWritable tree.begin = Unit {0}
 IsWritable tree.commit = Unit {0}
 IsWritable tree.rollback = Unit {0}

@@ -19,6 +19,7 @@ use Rattle.meaning.specs.declared.statement.Assigned.TheVariants as assigned
 use Rattle.meaning.specs.declared.statement.Assignment.{Assignment}
 use Rattle.meaning.specs.declared.statement.Update.{Update}
 use Rattle.meaning.specs.declared.statement.Delete.{Delete}
+use Rattle.meaning.specs.declared.statement.Refragment.{Refragment}
 use Rattle.meaning.specs.Schema.{relation_named, kinds_of, names_of}
 use Rattle.reader.specs.declared.command.Command.{Command}
 use Rattle.reader.specs.declared.command.Command.TheVariants as commands
@@ -234,6 +235,10 @@ delete_of schema delete = do
   conds ← conds_of (one_relation relation) delete.conditions
   Some (record { relation = source_of relation; conds = conds })
 
+-- a REFRAGMENT of a relation that is there
+abbrev pub refragment_of : List RelationSchema → List ℕ → Option Refragment
+refragment_of schema name = option_map (λ relation. record { relation = source_of relation }) (relation_named name schema)
+
 -- ---- commands
 
 -- the command that a written one is under a schema, if its names, types and limits fit
@@ -242,6 +247,7 @@ command_of schema (tree.select select) = option_map (λ statement. commands.Run 
 command_of schema (tree.insert insert) = option_map (λ statement. commands.Run (statements.Insert statement)) (insert_of schema insert)
 command_of schema (tree.update update) = option_map (λ statement. commands.Run (statements.Update statement)) (update_of schema update)
 command_of schema (tree.delete delete) = option_map (λ statement. commands.Run (statements.Delete statement)) (delete_of schema delete)
+command_of schema (tree.refragment relation) = option_map (λ statement. commands.Run (statements.Refragment statement)) (refragment_of schema relation)
 command_of schema tree.begin = Some commands.Begin
 command_of schema tree.commit = Some commands.Commit
 command_of schema tree.rollback = Some commands.Rollback

@@ -270,7 +270,9 @@ written_at symbols =
     (λ rest. update_at rest >>= λ u. Some (tree.update u.0, u.1))
     (λ rest. given (key word.Delete) rest
     (λ rest. delete_at rest >>= λ d. Some (tree.delete d.0, d.1))
-    bare_at)))
+    (λ rest. given (key word.Refragment) rest
+    (λ rest. name_at rest >>= λ relation. Some (tree.refragment relation.0, relation.1))
+    bare_at))))
 
 abbrev pub ended : {A : Type 0} → A → List Symbol → Option A
 ended x [] = Some x

@@ -72,11 +72,15 @@ update_bytes u = codes "UPDATE " ++ u.relation ++ codes " SET " ++ separated_byt
 abbrev pub delete_bytes : tree.Delete → List ℕ
 delete_bytes d = codes "DELETE FROM " ++ d.relation ++ where_bytes d.conditions
 
+abbrev pub refragment_bytes : List ℕ → List ℕ
+refragment_bytes relation = codes "REFRAGMENT " ++ relation
+
 abbrev pub written_bytes : tree.Written → List ℕ
 written_bytes (tree.select s) = select_bytes s
 written_bytes (tree.insert i) = insert_bytes i
 written_bytes (tree.update u) = update_bytes u
 written_bytes (tree.delete d) = delete_bytes d
+written_bytes (tree.refragment relation) = refragment_bytes relation
 written_bytes tree.begin = codes "BEGIN"
 written_bytes tree.commit = codes "COMMIT"
 written_bytes tree.rollback = codes "ROLLBACK"

@@ -39,6 +39,7 @@ ListsSome (statements.Select select) = select.columns ≢ []
 ListsSome (statements.Insert insert) = Unit {0}
 ListsSome (statements.Update update) = Unit {0}
 ListsSome (statements.Delete delete) = Unit {0}
+ListsSome (statements.Refragment refragment) = Unit {0}
 
 -- a statement of a schema that is read again as it is printed
 pub record IsPrintable (schema : List RelationSchema) (statement : Statement) : Type 0 where

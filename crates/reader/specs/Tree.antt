@@ -82,6 +82,7 @@ pub data Written : Type 0 where
   insert : (inserted : Insert) → Written
   update : (updated : Update) → Written
   delete : (deleted : Delete) → Written
+  refragment : (relation : List ℕ) → Written
   begin : Written
   commit : Written
   rollback : Written
@@ -144,6 +145,7 @@ written_tree (commands.Select s) = select (select_tree s)
 written_tree (commands.Insert i) = insert (insert_tree i)
 written_tree (commands.Update u) = update (update_tree u)
 written_tree (commands.Delete d) = delete (delete_tree d)
+written_tree (commands.Refragment relation) = refragment relation.name.now
 written_tree commands.Begin = begin
 written_tree commands.Commit = commit
 written_tree commands.Rollback = rollback

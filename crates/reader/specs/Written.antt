@@ -95,3 +95,4 @@ written_as (statements.Select select) = tree.select (select_as select)
 written_as (statements.Insert insert) = tree.insert (insert_as insert)
 written_as (statements.Update update) = tree.update (update_as update)
 written_as (statements.Delete delete) = tree.delete (delete_as delete)
+written_as (statements.Refragment refragment) = tree.refragment refragment.relation.name

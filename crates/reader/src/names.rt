@@ -4,8 +4,8 @@ ghost use Rattle.std.specs.Prelude.{◌≡◌, ◌≢◌, length, map, IfOk, IfE
 ghost use Rattle.reader.specs.declared.fault.Rule.TheVariants as rules;
 ghost use Rattle.meaning.specs.Schema.{kinds_of};
 ghost use Rattle.reader.specs.Tree.{constant_tree, constants_tree, written_tree, select_tree, insert_tree, update_tree, delete_tree};
-ghost use Rattle.reader.specs.Names.{row_of, joined_of, joined_relations, select_from, select_of, insert_of, update_of, delete_of, command_of};
-ghost use Rattle.reader.specs.Breaks.{Refuses, WrittenBreaks, SelectBreaks, SelectFromBreaks, InsertBreaks, RowBreaks, ValuesBreak, UpdateBreaks, DeleteBreaks};
+ghost use Rattle.reader.specs.Names.{row_of, joined_of, joined_relations, select_from, select_of, insert_of, update_of, delete_of, refragment_of, command_of};
+ghost use Rattle.reader.specs.Breaks.{Refuses, WrittenBreaks, SelectBreaks, SelectFromBreaks, InsertBreaks, RowBreaks, ValuesBreak, UpdateBreaks, DeleteBreaks, RelationBreaks};
 ghost use Rattle.reader.specs.Resolving.{Resolves};
 
 use crate::assignments::assignments;
@@ -50,6 +50,10 @@ pub fn command(alloc: Global, schema: &Schema, written: &Written<'_>) -> Result<
         Written::Delete(written) => {
             let delete = delete(alloc, schema, written)?;
             Ok(Command::Run(Statement::Delete(delete)))
+        }
+        Written::Refragment(name) => {
+            let refragment = refragment(alloc, schema, name)?;
+            Ok(Command::Run(Statement::Refragment(refragment)))
         }
         Written::Begin => Ok(Command::Begin),
         Written::Commit => Ok(Command::Commit),
@@ -179,5 +183,19 @@ fn delete(
     Ok(statement::Delete {
         relation: source(alloc, relation)?,
         conds: Conds::new(conds),
+    })
+}
+
+fn refragment(
+    alloc: Global,
+    schema: &Schema,
+    name: &Named<'_>,
+) -> Result<statement::Refragment, ReadFault>
+    ensures exact { Resolves (λ r. r) result (refragment_of schema.now.relations name.now.name.now) }
+    ensures rule { Refuses result (λ rule. RelationBreaks rule schema.now.relations name.now.name.now) }
+{
+    let relation = relation(schema, name)?;
+    Ok(statement::Refragment {
+        relation: source(alloc, relation)?,
     })
 }

@@ -324,7 +324,7 @@ fn bare<'a>(cursor: &mut Cursor<'a>) -> Result<Written<'a>, ReadFault>
     }
 }
 
-/// `written = SELECT select | INSERT insert | UPDATE update | DELETE delete | bare`
+/// `written = SELECT select | INSERT insert | UPDATE update | DELETE delete | REFRAGMENT name | bare`
 #[tactic(auto, unfolding(crate::specs::Parsing::written_at, crate::specs::Parsing::and_then, crate::specs::Parsing::given))]
 fn written<'a>(alloc: Global, cursor: &mut Cursor<'a>) -> Result<Written<'a>, ReadFault>
     ensures { Reads written_tree result cursor.new (written_at cursor.old) }
@@ -337,6 +337,8 @@ fn written<'a>(alloc: Global, cursor: &mut Cursor<'a>) -> Result<Written<'a>, Re
         Ok(Written::Update(update(alloc, cursor)?))
     } else if cursor.eat_keyword(Keyword::Delete) {
         Ok(Written::Delete(delete(alloc, cursor)?))
+    } else if cursor.eat_keyword(Keyword::Refragment) {
+        Ok(Written::Refragment(cursor.named()?))
     } else {
         bare(cursor)
     }

@@ -6,13 +6,13 @@ ghost use Rattle.reader.specs.Columns.{column_at};
 ghost use Rattle.reader.specs.Grammar.{comparison_sign};
 ghost use Rattle.reader.specs.Sign.{sign_text};
 ghost use Rattle.reader.specs.Written.{name_in, column_in, column_of_joined, qualified_column, constant_as, condition_as, conditions_as, join_as, select_as, insert_as, assigned_as, assignment_as, update_as, delete_as};
-ghost use Rattle.reader.specs.PrintStatement.{separated_bytes, column_bytes, constant_bytes, constants_bytes, condition_bytes, conditions_bytes, where_bytes, join_bytes, select_bytes, insert_bytes, assigned_bytes, assignment_bytes, update_bytes, delete_bytes, statement_bytes, conds_bytes, part_bytes};
+ghost use Rattle.reader.specs.PrintStatement.{separated_bytes, column_bytes, constant_bytes, constants_bytes, condition_bytes, conditions_bytes, where_bytes, join_bytes, select_bytes, insert_bytes, assigned_bytes, assignment_bytes, update_bytes, delete_bytes, refragment_bytes, statement_bytes, conds_bytes, part_bytes};
 
 use crate::print_constant::PrintedConstant;
 use crate::separated::{Printer, put_separated};
 use meaning::schema::Column;
 use meaning::statement::{
-    Assigned, Assignment, Delete, Insert, Join, Select, Source, Statement, Update,
+    Assigned, Assignment, Delete, Insert, Join, Refragment, Select, Source, Statement, Update,
 };
 use std::alloc::Global;
 use terms::cond::{Cmp, Cond, Conds};
@@ -33,6 +33,7 @@ pub fn print(alloc: Global, statement: &Statement) -> Result<String, Memory>
         Statement::Insert(insert) => put_insert(&mut out, insert)?,
         Statement::Update(update) => put_update(&mut out, update)?,
         Statement::Delete(delete) => put_delete(&mut out, delete)?,
+        Statement::Refragment(refragment) => put_refragment(&mut out, refragment)?,
     }
     Ok(out)
 }
@@ -336,4 +337,11 @@ fn put_delete(out: &mut String, delete: &Delete) -> Result<(), Memory>
         &Columns::OfOne(&delete.relation),
         delete.conds.as_slice(),
     )
+}
+
+fn put_refragment(out: &mut String, refragment: &Refragment) -> Result<(), Memory>
+    ensures { OnOk result (string_bytes out.new ≡ string_bytes out.old ++ refragment_bytes refragment.now.relation.name) }
+{
+    write!(out, "REFRAGMENT {}", refragment.relation.name)?;
+    Ok(())
 }

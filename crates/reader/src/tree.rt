@@ -134,6 +134,8 @@ pub enum Written<'a> {
     Insert(Insert<'a>),
     Update(Update<'a>),
     Delete(Delete<'a>),
+    /// `REFRAGMENT ..`
+    Refragment(Named<'a>),
     Begin,
     Commit,
     Rollback,
