@@ -16,7 +16,7 @@ use Rattle.answers.specs.Outcome.{outcome_of}
 use Rattle.answers.specs.Table.{IsTableOf}
 use Rattle.answers.specs.Writes.{writes_between}
 use Rattle.answers.proofs.Inserted.{insert_right}
-use Rattle.answers.proofs.Statements.{IsRight, delete_right, select_right, update_right}
+use Rattle.answers.proofs.Statements.{IsRight, delete_right, refragment_right, select_right, update_right}
 
 -- of each statement
 pub outcome_right : (catalogue : Catalogue) (s : Statement) (whole : Relations) (table : Table) → IsFormed catalogue → IsValidCatalogue catalogue → IsStatementOf (schemas_of catalogue) s → FitsSchema (schemas_of catalogue) whole → IsTableOf s whole table →
@@ -25,6 +25,7 @@ outcome_right catalogue (statement.Select select) whole table formed valid of fi
 outcome_right catalogue (statement.Insert insert) whole table formed valid of fit is = insert_right catalogue insert whole table formed valid of fit is
 outcome_right catalogue (statement.Update update) whole table formed valid of fit is = update_right catalogue update whole table of fit is
 outcome_right catalogue (statement.Delete delete) whole table formed valid of fit is = delete_right catalogue delete whole table of fit is
+outcome_right catalogue (statement.Refragment refragment) whole table formed valid of fit is = refragment_right catalogue refragment whole table of fit is
 
 right_of : (catalogue : Catalogue) (leaves : List FragmentLeaf) (outcome : Outcome) (s : Statement) (whole : Relations) (table : Table) → IsFormed catalogue → IsValidCatalogue catalogue → IsStatementOf (schemas_of catalogue) s → leaves ≡ catalogue_leaves catalogue →
     outcome ≡ outcome_of leaves s table → FitsSchema (schemas_of catalogue) whole → IsTableOf s whole table → IsRight catalogue whole (meaning s whole) outcome

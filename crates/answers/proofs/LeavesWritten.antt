@@ -19,7 +19,7 @@ use Rattle.answers.specs.declared.table.Table.{Table}
 use Rattle.answers.specs.Outcome.{added, change_write, changes_of, insert_outcome, leaf_changes, outcome_of, part_of, removed, rows_changed, with_changes, writes_of}
 use Rattle.answers.specs.Writes.{is_leaf_in, leaf_of, same_part, write_between}
 
-one_leaf : (leaf : Leaf) (key : ℤ) (before after : Option (List Value)) (write : Write) → write_between leaf key before after ≡ Some write → leaf_of write ≡ leaf
+pub one_leaf : (leaf : Leaf) (key : ℤ) (before after : Option (List Value)) (write : Write) → write_between leaf key before after ≡ Some write → leaf_of write ≡ leaf
 one_leaf leaf key None None write is = absurd (cc)
 one_leaf leaf key (Some before) None write is = let one : Del leaf key ≡ write = cc in ap leaf_of (sym one)
 one_leaf leaf key None (Some after) write is = let one : Put leaf after ≡ write = cc in ap leaf_of (sym one)
@@ -83,6 +83,7 @@ outcome_in leaves (statement.Update update) table =
     let rows = rows_changed (length update.relation.columns) table in with_in leaves update.relation.name (length rows) (changes_of update.sets rows)
 outcome_in leaves (statement.Delete delete) table =
     let rows = rows_changed (length delete.relation.columns) table in with_in leaves delete.relation.name (length rows) (Some (map removed rows))
+outcome_in leaves (statement.Refragment refragment) table = tt
 
 pub leaves_from : (result : Result Outcome Memory) (leaves all : List FragmentLeaf) (s : Statement) (table : Table) → leaves ≡ all → IfOk result (λ made. made ≡ outcome_of leaves s table) →
     IfOk result (λ outcome. AllByRecursion (λ write. is_leaf_in all (leaf_of write) ≡ true) outcome.writes)

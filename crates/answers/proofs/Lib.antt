@@ -18,3 +18,8 @@ pub mod Worked
 pub mod Applied
 pub mod WritesLead
 pub mod Climbing
+pub mod PlaceMoves
+pub mod EachMoved
+pub mod LeafNumbers
+pub mod MovesLead
+pub mod Numbered

@@ -11,6 +11,7 @@ use Rattle.meaning.specs.declared.answer.Answer.{Answer}
 use Rattle.meaning.specs.declared.answer.Answer.TheVariants as answer
 use Rattle.meaning.specs.declared.schema.RelationSchema.{RelationSchema}
 use Rattle.meaning.specs.declared.statement.Delete.{Delete}
+use Rattle.meaning.specs.declared.statement.Refragment.{Refragment}
 use Rattle.meaning.specs.declared.statement.Join.{Join}
 use Rattle.meaning.specs.declared.statement.Select.{Select}
 use Rattle.meaning.specs.declared.statement.Source.{Source}
@@ -18,11 +19,11 @@ use Rattle.meaning.specs.declared.statement.Statement.TheVariants as statement
 use Rattle.meaning.specs.declared.statement.Update.{Update}
 use Rattle.meaning.specs.Listed.{listed}
 use Rattle.meaning.specs.Matched.{unmatched}
-use Rattle.meaning.specs.Meaning.{after_delete, after_update, select_answer, with_changed}
+use Rattle.meaning.specs.Meaning.{after_delete, after_refragment, after_update, select_answer, with_changed}
 use Rattle.meaning.specs.Relation.{Ascends, IsRelation}
 use Rattle.meaning.specs.Schema.{kinds_of, names_of}
 use Rattle.meaning.specs.Selected.{joined, names_read, rows_joined, rows_read}
-use Rattle.meaning.specs.Statement.{IsDeleteOf, IsSelectOf, IsUpdateOf}
+use Rattle.meaning.specs.Statement.{IsDeleteOf, IsRefragmentOf, IsSelectOf, IsUpdateOf}
 use Rattle.meaning.specs.Updated.{assign, updated, updated_row}
 use Rattle.meaning.specs.Whole.{FitsSchema, Relations, rows_of}
 use Rattle.meaning.proofs.Changed.{Ascends-updated, updated_keeps_keys, updated_parts}
@@ -33,14 +34,14 @@ use Rattle.catalog.specs.Counts.{has}
 use Rattle.catalog.specs.FragmentLeaf.{catalogue_leaves, schemas_of}
 use Rattle.plan.specs.declared.link.Link.{Link}
 use Rattle.plan.specs.Need.{columns_of, columns_read, links_of, places_on, places_to}
-use Rattle.plan.specs.Rows.{is_seen}
+use Rattle.plan.specs.Rows.{is_seen, seen_part}
 use Rattle.plan.proofs.Covered.{or_second}
 use Rattle.plan.proofs.JoinFound.{fits_long}
 use Rattle.answers.specs.declared.change.Change.{Change}
 use Rattle.answers.specs.declared.finish.Outcome.{Outcome}
 use Rattle.answers.specs.declared.table.Table.{Table}
 use Rattle.answers.specs.Outcome as spec
-use Rattle.answers.specs.Outcome.{changes_of, delete_outcome, removed, rows_changed, select_outcome, update_outcome, with_changes}
+use Rattle.answers.specs.Outcome.{changes_of, delete_outcome, refragment_outcome, removed, rows_changed, select_outcome, update_outcome, with_changes}
 use Rattle.answers.specs.Table.{IsTableOf}
 use Rattle.answers.specs.Writes.{writes_between}
 use Rattle.answers.proofs.LeafByLeaf.{nothing_between, replaced_change, writes_are}
@@ -139,6 +140,33 @@ delete_right catalogue delete whole table of fit is =
           writes_are catalogue name whole (after_delete delete whole).1 removed changed before (unmatched delete.conds before) (replaced_change whole name (unmatched delete.conds before) (fit.there name of.relation of.there))
           (Ascends-passed test before relation.ascends) relation.ascends (Ascends-passed (λ row. not (test row)) before relation.ascends) (delete_leads test before relation.ascends);
     })
+
+-- REFRAGMENT
+
+no_conds : (rows : List (List Value)) → filter (conds_hold []) rows ≡ rows
+no_conds [] = refl
+no_conds (row ∷ rows) = ap (λ rest. row ∷ rest) (no_conds rows)
+
+-- the table of a REFRAGMENT has all rows of the relation, whole
+pub refragment_rows : (schema : List RelationSchema) (refragment : Refragment) (whole : Relations) (table : Table) → IsRefragmentOf schema refragment → FitsSchema schema whole → IsTableOf (statement.Refragment refragment) whole table →
+    rows_changed (length refragment.relation.columns) table ≡ rows_of whole refragment.relation.name
+refragment_rows schema refragment whole table of fit is =
+    let name = refragment.relation.name in
+    let width = length refragment.relation.columns in
+    let before = rows_of whole name in
+    let relation = fit.fit name of.relation of.there in
+    let wide = all_wide (kinds_of of.relation) width before (named_wide refragment.relation of.relation of.names) relation.fit in
+    shown_found [] (places_to width) (places_to width) table.columns table.rows before is.order relation.ascends (all_seen (places_to width) (places_to width) (λ col h. or_second (col == 0) (has (places_to width) col) h)) is.seen
+    ∙ ap (map (listed (places_to width))) (no_conds before) ∙ whole_rows width before wide
+
+pub refragment_right : (catalogue : Catalogue) (refragment : Refragment) (whole : Relations) (table : Table) → IsRefragmentOf (schemas_of catalogue) refragment → FitsSchema (schemas_of catalogue) whole → IsTableOf (statement.Refragment refragment) whole table →
+    IsRight catalogue whole (after_refragment refragment whole) (refragment_outcome table)
+refragment_right catalogue refragment whole table of fit is =
+    let width = length refragment.relation.columns in
+    record {
+      answered = ap answer.Changed (sym (length-map table.rows (λ row. filter_map (seen_part table.columns row) (places_to width))) ∙ ap length (refragment_rows (schemas_of catalogue) refragment whole table of fit is));
+      wrote = sym (nothing_between catalogue whole);
+    }
 
 -- UPDATE
 

@@ -88,7 +88,7 @@ Lead change changed before after = (key : ℤ) → LeadAt change key (row_at key
 abbrev pub written : Leaf → Fragment → Change → Option Write
 written leaf fragment change = write_between leaf change.key (option_and_then (part fragment) change.before) (option_and_then (part fragment) change.after)
 
-between_at : (leaf : Leaf) (before after : List (List Value)) (key : ℤ) (one two : Option (List Value)) → row_at key before ≡ one → row_at key after ≡ two →
+pub between_at : (leaf : Leaf) (before after : List (List Value)) (key : ℤ) (one two : Option (List Value)) → row_at key before ≡ one → row_at key after ≡ two →
     option_and_then (λ row. write_between leaf (key_of row) (row_at (key_of row) before) (row_at (key_of row) after)) (option_or one two) ≡ write_between leaf key (row_at key before) (row_at key after)
 between_at leaf before after key None None is is_after = sym (ap₂ (write_between leaf key) is is_after)
 between_at leaf before after key None (Some row) is is_after = ap (λ (k : ℤ). write_between leaf k (row_at k before) (row_at k after)) (found_key key after row is_after)
@@ -102,7 +102,7 @@ lead_write leaf fragment change key (Some row) before after lead =
     ap (λ (k : ℤ). write_between leaf k (option_and_then (part fragment) before) (option_and_then (part fragment) after)) (sym lead.0)
     ∙ ap₂ (λ (b a : Option (List Value)). write_between leaf (change row).key (option_and_then (part fragment) b) (option_and_then (part fragment) a)) (sym lead.1) (sym lead.2)
 
-mapped_twice : {B : Type 0} (g : ℤ → Option B) (rows : List (List Value)) → filter_map g (map key_of rows) ≡ filter_map (λ row. g (key_of row)) rows
+pub mapped_twice : {B : Type 0} (g : ℤ → Option B) (rows : List (List Value)) → filter_map g (map key_of rows) ≡ filter_map (λ row. g (key_of row)) rows
 mapped_twice g [] = refl
 mapped_twice {B} g (row ∷ rows) = ap (λ (rest : List B). cons_option (g (key_of row)) rest) (mapped_twice g rows)
 

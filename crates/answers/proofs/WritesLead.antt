@@ -3,6 +3,7 @@ use Rattle.std.proofs.Common.{◌≡◌, ℤ, Bool, true, false, cond, List, [],
 use Rattle.std.specs.List.{AllByRecursion, list_any}
 use Rattle.std.specs.Ordering.{int_eq}
 use Rattle.terms.specs.declared.leaf.Leaf.{Leaf}
+use Rattle.terms.specs.declared.value.Value.{Value}
 use Rattle.terms.specs.declared.write.Write.{Write}
 use Rattle.terms.specs.Row.{key_of}
 use Rattle.meaning.specs.Relation.{Ascends}
@@ -57,15 +58,13 @@ each_write all before after leaf key (one ∷ leaves) unique each =
 
 -- where the parts differ, some write is to the key
 
-own_touched : (before after : Relations) (leaf : FragmentLeaf) (key : ℤ) (write : Write) → Ascends (content (unnamed leaf) (rows_of before leaf.name.relation)) → write_between leaf.name key (part_in before leaf key) (part_in after leaf key) ≡ Some write →
-    list_any (touches leaf.name key) (writes_to before after leaf) ≡ true
-own_touched before after leaf key write order is =
-    let first = content (unnamed leaf) (rows_of before leaf.name.relation) in
-    let second = content (unnamed leaf) (rows_of after leaf.name.relation) in
-    let row = one_is_there leaf.name key (part_in before leaf key) (part_in after leaf key) write is in
-    let made = between leaf.name key (part_in before leaf key) (part_in after leaf key) write (λ part there. found_key key second part there) is in
-    given_there (touches leaf.name key) (λ at. write_between leaf.name at (row_at at first) (row_at at second)) key (merged_rows first second) row.0 write (merged_at key first second order ∙ row.1) is
-    (and_true (same_leaf (leaf_of write) leaf.name) (int_eq (key_written write) key) (ap (λ (l : Leaf). same_leaf l leaf.name) made.to ∙ same_itself leaf.name) (ap (λ (k : ℤ). int_eq k key) made.there ∙ own_key key))
+pub own_touched : (leaf : Leaf) (first second : List (List Value)) (key : ℤ) (write : Write) → Ascends first → write_between leaf key (row_at key first) (row_at key second) ≡ Some write →
+    list_any (touches leaf key) (leaf_writes leaf first second) ≡ true
+own_touched leaf first second key write order is =
+    let row = one_is_there leaf key (row_at key first) (row_at key second) write is in
+    let made = between leaf key (row_at key first) (row_at key second) write (λ part there. found_key key second part there) is in
+    given_there (touches leaf key) (λ at. write_between leaf at (row_at at first) (row_at at second)) key (merged_rows first second) row.0 write (merged_at key first second order ∙ row.1) is
+    (and_true (same_leaf (leaf_of write) leaf) (int_eq (key_written write) key) (ap (λ (l : Leaf). same_leaf l leaf) made.to ∙ same_itself leaf) (ap (λ (k : ℤ). int_eq k key) made.there ∙ own_key key))
 
 some_touched : (before after : Relations) (leaf : FragmentLeaf) (key : ℤ) (leaves : List FragmentLeaf) → leaf_named leaf.name leaves ≡ Some leaf → list_any (touches leaf.name key) (writes_to before after leaf) ≡ true → list_any (touches leaf.name key) (writes_in before after leaves) ≡ true
 some_touched before after leaf key [] there touched = absurd (cc)
@@ -89,7 +88,7 @@ leaf_leads all before after leaf key each unique order = at (write_between leaf.
 
     at : (o : Option Write) → write_between leaf.name key (part_in before leaf key) (part_in after leaf key) ≡ o → applied leaf.name writes (part_in before leaf) key ≡ part_in after leaf key
     at None is = stays leaf.name key (part_in after leaf key) writes (part_in before leaf) leave (unchanged leaf.name key (part_in before leaf key) (part_in after leaf key) is)
-    at (Some write) is = comes leaf.name key (part_in after leaf key) writes (part_in before leaf) leave (some_touched before after leaf key all unique (own_touched before after leaf key write order is))
+    at (Some write) is = comes leaf.name key (part_in after leaf key) writes (part_in before leaf) leave (some_touched before after leaf key all unique (own_touched leaf.name (content (unnamed leaf) (rows_of before leaf.name.relation)) (content (unnamed leaf) (rows_of after leaf.name.relation)) key write order is))
 
 -- the contents of the leaves have parts that ascend by their keys, and so each leaf is led
 abbrev HasParts : Catalogue → Relations → FragmentLeaf → Type 0

@@ -89,8 +89,13 @@ update_outcome leaves update rows = with_changes leaves update.relation.name (le
 abbrev pub delete_outcome : List FragmentLeaf → Delete → List (List Value) → Outcome
 delete_outcome leaves delete rows = with_changes leaves delete.relation.name (length rows) (Some (map removed rows))
 
+-- a REFRAGMENT tells how many rows there are; that they move is no write between whole databases
+abbrev pub refragment_outcome : Table → Outcome
+refragment_outcome table = record { answer = answer.Changed (length table.rows); writes = [] }
+
 abbrev pub outcome_of : List FragmentLeaf → Statement → Table → Outcome
 outcome_of leaves (statement.Select select) table = select_outcome select table
 outcome_of leaves (statement.Insert insert) table = insert_outcome leaves insert table.rows
 outcome_of leaves (statement.Update update) table = update_outcome leaves update (rows_changed (length update.relation.columns) table)
 outcome_of leaves (statement.Delete delete) table = delete_outcome leaves delete (rows_changed (length delete.relation.columns) table)
+outcome_of leaves (statement.Refragment refragment) table = refragment_outcome table

@@ -8,6 +8,7 @@ use catalog::fragment::place;
 use catalog::fragment_leaf::FragmentLeaf;
 use std::alloc::Global;
 use terms::copy::{TryCopy, copy_all};
+use terms::leaf::Leaf;
 use terms::memory::Memory;
 use terms::part::Part;
 use terms::row::Row;
@@ -66,10 +67,24 @@ fn change_write(
     ensures { IfOk result (λ write. write ≡ change_write leaf.now change.now) }
 {
     let before = part_of(alloc, leaf, &change.before)?;
-    match part_of(alloc, leaf, &change.after)? {
-        Some(after) => put_unless_same(alloc, leaf, &before, &after),
+    let after = part_of(alloc, leaf, &change.after)?;
+    write_between(alloc, &leaf.name, change.key, &before, &after)
+}
+
+/// The write that leads from a leaf's part at a key to another part there; none where they are the same.
+pub(crate) fn write_between(
+    alloc: Global,
+    name: &Leaf,
+    key: i64,
+    before: &Option<Row>,
+    after: &Option<Row>,
+) -> Result<Option<Write>, Memory>
+    ensures { IfOk result (λ write. write ≡ write_between name.now key before.now after.now) }
+{
+    match after {
+        Some(after) => put_unless_same(alloc, name, before, after),
         None => match before {
-            Some(_) => Ok(Some(Write::Del(leaf.name.copy()?, change.key))),
+            Some(_) => Ok(Some(Write::Del(name.copy()?, key))),
             None => Ok(None),
         },
     }
@@ -78,11 +93,11 @@ fn change_write(
 /// A write of a part, unless the part before is the same.
 fn put_unless_same(
     alloc: Global,
-    leaf: &FragmentLeaf,
+    name: &Leaf,
     before: &Option<Row>,
     after: &Row,
 ) -> Result<Option<Write>, Memory>
-    ensures { IfOk result (λ write. write ≡ put_unless_same leaf.now.name before.now after.now) }
+    ensures { IfOk result (λ write. write ≡ put_unless_same name.now before.now after.now) }
 {
     if let Some(before) = before {
         if same_part(before.values(), after.values()) {
@@ -90,7 +105,7 @@ fn put_unless_same(
         }
     }
     let part = Part::new(copy_all(alloc, after.values())?);
-    Ok(Some(Write::Put(leaf.name.copy()?, part)))
+    Ok(Some(Write::Put(name.copy()?, part)))
 }
 
 /// A row's part in a leaf; none where there is no row, or the leaf's conditions don't hold of it.

@@ -11,7 +11,7 @@ ghost use Rattle.catalog.specs.Relation.{catalogue_of};
 ghost use Rattle.plan.specs.Need.{places_to};
 ghost use Rattle.plan.specs.Rows.{seen_part};
 ghost use Rattle.answers.specs.Outcome as spec;
-ghost use Rattle.answers.specs.Outcome.{changes_of, delete_outcome, insert_outcome, outcome_of, removed, rows_changed, select_outcome, shown, update_outcome};
+ghost use Rattle.answers.specs.Outcome.{changes_of, delete_outcome, insert_outcome, outcome_of, refragment_outcome, removed, rows_changed, select_outcome, shown, update_outcome};
 ghost use Rattle.answers.specs.Table.{IsTableOf};
 ghost use Rattle.answers.specs.Writes.{is_leaf_in, leaf_of, writes_between};
 
@@ -82,6 +82,7 @@ pub(crate) fn outcome_by(
             let width = delete.relation.columns.as_slice().len();
             deleted(alloc, leaves, delete, rows_changed(alloc, width, table)?)
         }
+        Statement::Refragment(_) => Ok(refragmented(alloc, table)),
     }
 }
 
@@ -206,8 +207,17 @@ fn removals(alloc: Global, rows: &[Row]) -> Result<Vec<Change>, Memory>
     Ok(changes)
 }
 
+fn refragmented(alloc: Global, table: &Table) -> Outcome
+    ensures { result ≡ refragment_outcome table.now }
+{
+    Outcome {
+        answer: Answer::Changed(table.rows.as_slice().len() as u64),
+        writes: Seq::new(Vec::new(alloc)),
+    }
+}
+
 /// The whole rows of a table of a relation with so many columns.
-fn rows_changed(alloc: Global, width: usize, table: &Table) -> Result<Vec<Row>, Memory>
+pub(crate) fn rows_changed(alloc: Global, width: usize, table: &Table) -> Result<Vec<Row>, Memory>
     ensures { IfOk result (λ rows. rows.items ≡ rows_changed width table.now) }
 {
     let mut places = Vec::new(alloc);

@@ -1,5 +1,6 @@
-//! The law of writes, as the contract of a function that does nothing.
+//! The laws of writes and of moves, each as the contract of a function that does nothing.
 
+ghost use Rattle.answers.specs.Moves.{MovesLead, MovesStay};
 ghost use Rattle.answers.specs.Writes.{WritesLead};
 
 use catalog::laws::leaf_names_are_unique;
@@ -11,5 +12,14 @@ pub fn writes_lead()
     ensures { WritesLead }
 {
     leaf_names_are_unique();
+    contents_ascend();
+}
+
+/// The moves between two catalogues, applied one after another to what each place has of a relation under the
+/// one, give what it has under the other; all other places they leave as they are.
+pub fn moves_lead()
+    ensures lead { MovesLead }
+    ensures stay { MovesStay }
+{
     contents_ascend();
 }

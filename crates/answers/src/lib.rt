@@ -5,7 +5,8 @@
 //! of `work`: over every whole database of which the fetches bring what they brought, the answer and the
 //! writes are those of the serial meaning. `evaluate` gives the table of a plan, `evaluate_counted` the
 //! number of steps beside it, and `finish` what a statement makes of the table; `laws::writes_lead` says
-//! what the writes do to the leaves. Whether what came are parts of the fetches' columns, as `work` asks,
+//! what the writes do to the leaves. Where a relation gets another split, `moves` gives the writes that lead
+//! each leaf from what it had to what it is to have, and `laws::moves_lead` says that they do. Whether what came are parts of the fetches' columns, as `work` asks,
 //! is tested by `table::are_all_parts`.
 //!
 //! ```text
@@ -21,6 +22,7 @@ pub mod finish;
 pub mod laws;
 pub mod ledger;
 pub mod merge;
+pub mod moves;
 pub mod pairs;
 pub mod partner;
 pub mod pick;
