@@ -1,8 +1,10 @@
 -- What the reader says of texts that are no statement's.
-use Rattle.std.proofs.Common.{◌≡◌, ◌≢◌, ◌⊎◌, inl, inr, refl, sym, ap, ◌∙◌, subst, ℕ, List, Option, Some, None, Result, Ok, Err, IfOk, IfErr}
+use Rattle.std.proofs.Common.{◌≡◌, ◌≢◌, ◌⊎◌, inl, inr, ⊎_elim, refl, sym, ap, ◌∙◌, subst, ℕ, Bool, true, false, List, Option, Some, None, Result, Ok, Err, IfOk, IfErr}
 use Rattle.std.specs.Option.{option_map}
 use Rattle.meaning.specs.declared.schema.RelationSchema.{RelationSchema}
+use Rattle.meaning.specs.declared.statement.Refragment.{Refragment}
 use Rattle.meaning.specs.declared.statement.Statement.{Statement}
+use Rattle.meaning.specs.declared.statement.Statement.TheVariants as statement
 use Rattle.meaning.specs.Statement.{IsStatementOf}
 use Rattle.reader.specs.declared.command.Command.{Command}
 use Rattle.reader.specs.declared.command.Command.TheVariants as command
@@ -13,7 +15,7 @@ use Rattle.reader.specs.Fault.{Fault}
 use Rattle.desk.specs.declared.refusal.Refusal.{Refusal}
 use Rattle.desk.specs.declared.refusal.Refusal.TheVariants as refusal
 use Rattle.protocol.specs.Desk as protocol
-use Rattle.desk.specs.Does.{IsUnread}
+use Rattle.desk.specs.Does.{IsNoStatement}
 use Rattle.desk.specs.Request.{refused_as}
 
 module _ (there schema : List RelationSchema) (same : there ≡ schema) where
@@ -26,9 +28,11 @@ module _ (there schema : List RelationSchema) (same : there ≡ schema) where
   fits_by given (Err told) fits is = tt
 
   pub run_told : (text : List ℕ) (given : Command) (result : Result Statement Refusal) → IsTextOf there text given →
-      IfErr result (λ told. (told ≡ refusal.Read (record { rule = rules.Syntax; offset = 0 })) × ((given ≡ command.Begin) ⊎ ((given ≡ command.Commit) ⊎ (given ≡ command.Rollback)))) → IfErr result (λ told. (told ≡ refusal.Memory) ⊎ IsUnread schema text told)
+      IfErr result (λ told. ((told ≡ refusal.Read (record { rule = rules.Syntax; offset = 0 })) × ((given ≡ command.Begin) ⊎ ((given ≡ command.Commit) ⊎ (given ≡ command.Rollback))))
+      ⊎ ((told ≡ refusal.Busy) × (refragment : Refragment) × (given ≡ command.Run (statement.Refragment refragment)))) → IfErr result (λ told. (told ≡ refusal.Memory) ⊎ IsNoStatement schema text told)
   run_told text given (Ok stated) found none = tt
-  run_told text given (Err told) found none = inr (record { fault = record { rule = rules.Syntax; offset = 0 }; is = none.0; why = inr (refl, go none.1) })
+  run_told text given (Err told) found (inr (busy, refragment, is)) = inr (inr (record { refragment = refragment; spelled = subst (λ ss. IsTextOf ss text (command.Run (statement.Refragment refragment))) same (subst (IsTextOf there text) is found); is = busy }))
+  run_told text given (Err told) found (inl none) = inr (inl (record { fault = record { rule = rules.Syntax; offset = 0 }; is = none.0; why = inr (refl, go none.1) }))
     where
       at : (other : Command) → given ≡ other → IsTextOf schema text other
       at other is = subst (λ ss. IsTextOf ss text other) same (subst (IsTextOf there text) is found)
@@ -39,22 +43,23 @@ module _ (there schema : List RelationSchema) (same : there ≡ schema) where
       go (inr (inr is)) = inr (inr (at command.Rollback is))
 
   pub unread_told : (text : List ℕ) (fault : Fault) (told : Refusal) → (told ≡ refusal.Memory) ⊎ ((fault.rule ≢ rules.Memory) × (told ≡ refusal.Read fault)) → (fault.rule ≢ rules.Memory → (given : Command) → IsTextOf there text given → ⊥) → (fault.rule ≢ rules.Memory → TextBreaks fault.rule there text) →
-      (told ≡ refusal.Memory) ⊎ IsUnread schema text told
+      (told ≡ refusal.Memory) ⊎ IsNoStatement schema text told
   unread_told text fault told (inl memory) none breaks = inl memory
-  unread_told text fault told (inr other) none breaks = inr (record {
+  unread_told text fault told (inr other) none breaks = inr (inl (record {
     fault = fault;
     is = other.1;
     why = inl (subst (λ ss. TextBreaks fault.rule ss text) same (breaks other.0), λ given spelled. none other.0 given (subst (λ ss. IsTextOf ss text given) (sym same) spelled));
-  })
+  }))
 
 -- what is told of a statement that was read is told of its text, by whichever statement the protocol is asked
-pub ran_told : {A : Type 0} (result : Result A Refusal) (First Unread Full : Refusal → Type 0) (one other : Option protocol.Refusal) → one ≡ None → other ≡ None →
-    IfErr result (λ told. First told ⊎ (option_map refused_as one ≡ Some told) ⊎ ((one ≡ None) × Full told)) →
+pub ran_told : {A : Type 0} (result : Result A Refusal) (First Unread Busy Full : Refusal → Type 0) (one other : Option protocol.Refusal) (moves : Bool) → one ≡ None → other ≡ None → moves ≡ false →
+    IfErr result (λ told. First told ⊎ (option_map refused_as one ≡ Some told) ⊎ ((one ≡ None) × (((moves ≡ true) × Busy told) ⊎ Full told))) →
     IfErr result (λ told. First told ⊎ (option_map refused_as other ≡ Some told) ⊎ ((other ≡ None) × (Unread told ⊎ Full told)))
-ran_told (Ok out) First Unread Full one other free none why = tt
-ran_told (Err told) First Unread Full one other free none (inl first) = inl first
-ran_told (Err told) First Unread Full one other free none (inr (inl refused)) = let no : None ≡ Some told = sym (ap (option_map refused_as) free) ∙ refused in cc
-ran_told (Err told) First Unread Full one other free none (inr (inr full)) = inr (inr (none, inr full.1))
+ran_told (Ok out) First Unread Busy Full one other moves free none ordinary why = tt
+ran_told (Err told) First Unread Busy Full one other moves free none ordinary (inl first) = inl first
+ran_told (Err told) First Unread Busy Full one other moves free none ordinary (inr (inl refused)) = let never : None ≡ Some told = sym (ap (option_map refused_as) free) ∙ refused in cc
+ran_told (Err told) First Unread Busy Full one other moves free none ordinary (inr (inr (is, inl busy))) = let never : false ≡ true = sym ordinary ∙ busy.0 in cc
+ran_told (Err told) First Unread Busy Full one other moves free none ordinary (inr (inr (is, inr full))) = inr (inr (none, inr full))
 
 -- what holds of a result holds of it with less
 pub if_ok : {A E : Type 0} (result : Result A E) {P Q : A → Type 0} → ((x : A) → P x → Q x) → IfOk result P → IfOk result Q
@@ -64,3 +69,8 @@ if_ok (Err e) less holds = tt
 -- the second of three
 pub told_by : {A : Type 0} (result : Result A Refusal) (told : Refusal) (First Second Third : Refusal → Type 0) → result ≡ Err told → Second told → IfErr result (λ x. First x ⊎ Second x ⊎ Third x)
 told_by result told First Second Third is holds = subst (λ r. IfErr r (λ x. First x ⊎ Second x ⊎ Third x)) (sym is) (inr (inl holds))
+
+-- of a text that isn't read as a statement, where the transaction may state one
+pub unread_by : {A : Type 0} (result : Result A Refusal) (told : Refusal) (First Second Unread Full : Refusal → Type 0) (Free : Type 0) → result ≡ Err told → Free → First told ⊎ Unread told → IfErr result (λ x. First x ⊎ Second x ⊎ (Free × (Unread x ⊎ Full x)))
+unread_by result told First Second Unread Full Free is free why =
+    subst (λ r. IfErr r (λ x. First x ⊎ Second x ⊎ (Free × (Unread x ⊎ Full x)))) (sym is) (⊎_elim (λ first. inl first) (λ unread. inr (inr (free, inl unread))) why)

@@ -4,8 +4,10 @@ use Rattle.std.specs.BTreeMap.{is_at}
 use Rattle.std.specs.List.{AllByRecursion}
 use Rattle.std.specs.Map.{set_value}
 use Rattle.meaning.specs.declared.schema.RelationSchema.{RelationSchema}
+use Rattle.meaning.specs.declared.statement.Refragment.{Refragment}
 use Rattle.meaning.specs.declared.statement.Statement.{Statement}
-use Rattle.meaning.specs.Statement.{IsStatementOf}
+use Rattle.meaning.specs.declared.statement.Statement.TheVariants as statements
+use Rattle.meaning.specs.Statement.{IsStatementOf, is_refragment}
 use Rattle.reader.specs.declared.command.Command.{Command}
 use Rattle.reader.specs.declared.command.Command.TheVariants as command
 use Rattle.reader.specs.declared.fault.Rule.TheVariants as rules
@@ -64,8 +66,19 @@ pub record IsUnread (schema : List RelationSchema) (text : List ℕ) (told : ref
   pub why : (TextBreaks fault.rule schema text × ((given : Command) → IsTextOf schema text given → ⊥))
       ⊎ ((fault ≡ record { rule = rules.Syntax; offset = 0 }) × (IsTextOf schema text command.Begin ⊎ (IsTextOf schema text command.Commit ⊎ IsTextOf schema text command.Rollback)))
 
+-- a text is a REFRAGMENT, which is no statement of a transaction that a client has begun
+pub record IsRefragment (schema : List RelationSchema) (text : List ℕ) (told : refusals.Refusal) : Type 0 where
+  pub refragment : Refragment
+  pub spelled : IsTextOf schema text (command.Run (statements.Refragment refragment))
+  pub is : told ≡ refusal.Busy
+
+-- a text that no transaction states
+abbrev pub IsNoStatement : List RelationSchema → List ℕ → refusals.Refusal → Type 0
+IsNoStatement schema text told = IsUnread schema text told ⊎ IsRefragment schema text told
+
 -- a statement is run
 pub record Runs (db : Database) (before : VolatileState) (kept : DeskContent) (after : VolatileState) (txn : Txn) (statement : Statement) (written : List Letter) (heard : List Notice) : Type 0 where
+  pub ordinary : is_refragment statement ≡ false
   pub choice : protocol.Choice (language db)
   pub steps : Steps db before kept after txn (protocol.on_request (txn_name txn) choice (protocol.State (before.version, statement)) (txn_in db before txn)) written heard
   pub explained : AllExplained (protocol.on_request (txn_name txn) choice (protocol.State (before.version, statement)) (txn_in db before txn)).deeds

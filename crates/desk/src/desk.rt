@@ -4,7 +4,7 @@ ghost use Rattle.std.specs.Prelude.{◌≡◌, ◌≢◌, ◌⊎◌, ◌+◌, �
 ghost use Rattle.std.specs.BTreeMap.{IsOrdered};
 ghost use Rattle.std.specs.Option.{option_map};
 ghost use Rattle.meaning.specs.declared.statement.Statement.{Statement as StatementNow};
-ghost use Rattle.meaning.specs.Statement.{IsStatementOf};
+ghost use Rattle.meaning.specs.Statement.{IsStatementOf, is_refragment};
 ghost use Rattle.catalog.specs.FragmentLeaf.{schemas_of};
 ghost use Rattle.catalog.specs.Relation.{catalogue_of};
 ghost use Rattle.protocol.specs.Desk.{Choice, Commit_call, Give_up, Rollback, State, desk_began, is_desk_within, on_request, refusal};
@@ -18,7 +18,7 @@ ghost use Rattle.store.specs.declared.reply.Reply.{Reply};
 ghost use Rattle.desk.specs.declared.refusal.Refusal.TheVariants as refusals;
 ghost use Rattle.desk.specs.Request.{IsOver, refused_as, txn_in};
 ghost use Rattle.desk.specs.Database.{Database, language};
-ghost use Rattle.desk.specs.Does.{IsUnread, Runs, RunsPastLimits, States, StatesPastLimits};
+ghost use Rattle.desk.specs.Does.{IsNoStatement, Runs, RunsPastLimits, States, StatesPastLimits};
 ghost use Rattle.desk.specs.Frame.{RestartsDesk, StatesPlainly, StepsPlainly, TakesLetter};
 ghost use Rattle.desk.specs.OfCatalogue.{InForce, IsOfCatalogue};
 ghost use Rattle.desk.specs.Recovery.{IsStrange, Rises};
@@ -143,13 +143,13 @@ impl<S: DeskStore> Desk<S> {
     }
 
     /// A statement of a transaction, by its text. The text is read under the catalogue's schema; one of BEGIN, COMMIT or ROLLBACK
-    /// is no statement's. After a refusal nothing has changed.
+    /// is no statement's, and for a REFRAGMENT the transaction is too busy. After a refusal nothing has changed.
     pub fn statement(&mut self, txn: Txn, text: &str) -> Result<Out, Refusal>
         ensures ok { (db : Database) → IsOfCatalogue db → InForce db self.old.volatile.version self.old.catalog → Fits db (S.kept self.old.store) (volatile_of self.old.volatile)
             → IfOk result (λ out. States db (volatile_of self.old.volatile) (S.kept self.new.store) (volatile_of self.new.volatile) txn text.now out.letters out.replies) }
         ensures states { StatesPlainly self.old self.new txn result }
         ensures told { (db : Database) (statement : StatementNow) → IfErr result (λ told. (told ≡ refusals.Memory) ⊎ (option_map refused_as (refusal (State (self.old.volatile.version, statement)) (txn_in db (volatile_of self.old.volatile) txn)) ≡ Some told)
-            ⊎ ((refusal (State (self.old.volatile.version, statement)) (txn_in db (volatile_of self.old.volatile) txn) ≡ None) × (IsUnread (schemas_of (catalogue_of self.old.catalog)) text.now told ⊎ (told ≡ refusals.Full)))) }
+            ⊎ ((refusal (State (self.old.volatile.version, statement)) (txn_in db (volatile_of self.old.volatile) txn) ≡ None) × (IsNoStatement (schemas_of (catalogue_of self.old.catalog)) text.now told ⊎ (told ≡ refusals.Full)))) }
         ensures full { (db : Database) → IsOfCatalogue db → InForce db self.old.volatile.version self.old.catalog → Fits db (S.kept self.old.store) (volatile_of self.old.volatile) → result ≡ Err refusals.Full
             → StatesPastLimits db (volatile_of self.old.volatile) txn text.now }
     {
@@ -163,7 +163,7 @@ impl<S: DeskStore> Desk<S> {
             → IfOk result (λ out. Runs db (volatile_of self.old.volatile) (S.kept self.new.store) (volatile_of self.new.volatile) txn statement.now out.letters out.replies) }
         ensures states { StatesPlainly self.old self.new txn result }
         ensures told { (db : Database) → IfErr result (λ told. (told ≡ refusals.Memory) ⊎ (option_map refused_as (refusal (State (self.old.volatile.version, statement.now)) (txn_in db (volatile_of self.old.volatile) txn)) ≡ Some told)
-            ⊎ ((refusal (State (self.old.volatile.version, statement.now)) (txn_in db (volatile_of self.old.volatile) txn) ≡ None) × (told ≡ refusals.Full))) }
+            ⊎ ((refusal (State (self.old.volatile.version, statement.now)) (txn_in db (volatile_of self.old.volatile) txn) ≡ None) × (((is_refragment statement.now ≡ true) × (told ≡ refusals.Busy)) ⊎ (told ≡ refusals.Full)))) }
         ensures full { (db : Database) → IsOfCatalogue db → InForce db self.old.volatile.version self.old.catalog → Fits db (S.kept self.old.store) (volatile_of self.old.volatile) → result ≡ Err refusals.Full
             → RunsPastLimits db (volatile_of self.old.volatile) txn statement.now }
     {

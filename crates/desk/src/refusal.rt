@@ -29,6 +29,8 @@ pub enum Refusal {
     Memory,
     /// The store failed, for another reason than memory.
     Store(StoreFault),
+    /// No catalogue comes after the one in force, so no relation can get another split.
+    NoNext,
 }
 
 impl Refusal {
@@ -45,6 +47,7 @@ impl Refusal {
             Refusal::Aborted(_) => 6,
             Refusal::Memory => 7,
             Refusal::Store(_) => 8,
+            Refusal::NoNext => 10,
         }
     }
 }
@@ -62,6 +65,7 @@ impl fmt::Display for Refusal {
             Refusal::Aborted(_) => f.write_str("Aborted"),
             Refusal::Memory => f.write_str("Memory"),
             Refusal::Store(_) => f.write_str("Store"),
+            Refusal::NoNext => f.write_str("NoNext"),
         }
     }
 }

@@ -16,8 +16,10 @@ ghost use Rattle.desk.specs.Frame.{GoesOnOrStays, LeavesRows, StatesInMemory, St
 ghost use Rattle.desk.specs.State.{Begins, Fits, Steps, desk_of, volatile_of};
 ghost use Rattle.desk.specs.Transition.{IsTransition, AreParticipants};
 ghost use Rattle.std.specs.BTreeMap.{IsOrdered};
+ghost use Rattle.meaning.specs.declared.statement.Refragment.{Refragment as RefragmentNow};
 ghost use Rattle.meaning.specs.declared.statement.Statement.{Statement as StatementNow};
-ghost use Rattle.meaning.specs.Statement.{IsStatementOf};
+ghost use Rattle.meaning.specs.declared.statement.Statement.TheVariants as statements;
+ghost use Rattle.meaning.specs.Statement.{IsStatementOf, is_refragment};
 ghost use Rattle.reader.specs.declared.command.Command.TheVariants as commands;
 ghost use Rattle.reader.specs.declared.fault.Rule.TheVariants as rules;
 ghost use Rattle.reader.specs.Command.{IsTextOf};
@@ -27,7 +29,7 @@ ghost use Rattle.store.specs.Name.{txn_cmp};
 ghost use Rattle.desk.specs.declared.transaction.TxnState.TheVariants as standings;
 ghost use Rattle.desk.specs.declared.transaction.Stage.TheVariants as stages;
 ghost use Rattle.desk.specs.declared.transaction.Undecided.{Undecided as UndecidedNow};
-ghost use Rattle.desk.specs.Does.{Does, DoesIn, GoesOn, IsLong, IsShort, IsUnread, Runs, RunsPastLimits, States, StatesPastLimits};
+ghost use Rattle.desk.specs.Does.{Does, DoesIn, GoesOn, IsLong, IsNoStatement, IsShort, Runs, RunsPastLimits, States, StatesPastLimits};
 ghost use Rattle.desk.specs.OfCatalogue.{InForce, IsOfCatalogue};
 ghost use Rattle.desk.specs.Planned.{IsOfPlan, ask_from};
 ghost use Rattle.desk.specs.Transaction.{undecided_of};
@@ -335,12 +337,16 @@ fn reader_refusal(fault: ReadFault) -> Refusal
     }
 }
 
-/// The statement that a command runs. BEGIN, COMMIT and ROLLBACK run none.
+/// The statement that a command runs. BEGIN, COMMIT and ROLLBACK run none, and a REFRAGMENT is none of a transaction that
+/// a client has begun.
 fn run_by(command: Command) -> Result<Statement, Refusal>
     ensures run { IfOk result (λ statement. command ≡ commands.Run statement) }
-    ensures none { IfErr result (λ told. (told ≡ refusals.Read (record { rule = rules.Syntax; offset = 0 })) × ((command ≡ commands.Begin) ⊎ ((command ≡ commands.Commit) ⊎ (command ≡ commands.Rollback)))) }
+    ensures ordinary { IfOk result (λ statement. is_refragment statement ≡ false) }
+    ensures none { IfErr result (λ told. ((told ≡ refusals.Read (record { rule = rules.Syntax; offset = 0 })) × ((command ≡ commands.Begin) ⊎ ((command ≡ commands.Commit) ⊎ (command ≡ commands.Rollback))))
+        ⊎ ((told ≡ refusals.Busy) × (refragment : RefragmentNow) × (command ≡ commands.Run (statements.Refragment refragment)))) }
 {
     match command {
+        Command::Run(Statement::Refragment(_)) => Err(Refusal::Busy),
         Command::Run(statement) => Ok(statement),
         Command::Begin => Err(Refusal::Read(ReadFault::new(Rule::Syntax, 0))),
         Command::Commit => Err(Refusal::Read(ReadFault::new(Rule::Syntax, 0))),
@@ -352,7 +358,8 @@ fn run_by(command: Command) -> Result<Statement, Refusal>
 fn statement_of(alloc: Global, catalog: &Catalog, text: &str) -> Result<Statement, Refusal>
     ensures spelled { IfOk result (λ statement. IsTextOf (schemas_of (catalogue_of catalog.now)) text.now (commands.Run statement)) }
     ensures fits { IfOk result (λ statement. IsStatementOf (schemas_of (catalogue_of catalog.now)) statement) }
-    ensures told { IfErr result (λ told. (told ≡ refusals.Memory) ⊎ IsUnread (schemas_of (catalogue_of catalog.now)) text.now told) }
+    ensures ordinary { IfOk result (λ statement. is_refragment statement ≡ false) }
+    ensures told { IfErr result (λ told. (told ≡ refusals.Memory) ⊎ IsNoStatement (schemas_of (catalogue_of catalog.now)) text.now told) }
 {
     match read(alloc, text, catalog.schema()) {
         Ok(command) => run_by(command),
@@ -398,12 +405,15 @@ pub(crate) fn call_run(
         → IfOk result (λ out. Runs db (volatile_of volatile.old) kept (volatile_of volatile.new) txn statement.now out.letters out.replies) }
     ensures states { StatesInMemory volatile.old volatile.new txn result }
     ensures told { (db : Database) → IfErr result (λ told. (told ≡ refusals.Memory) ⊎ (option_map refused_as (refusal (State (volatile.old.version, statement.now)) (txn_in db (volatile_of volatile.old) txn)) ≡ Some told)
-        ⊎ ((refusal (State (volatile.old.version, statement.now)) (txn_in db (volatile_of volatile.old) txn) ≡ None) × (told ≡ refusals.Full))) }
+        ⊎ ((refusal (State (volatile.old.version, statement.now)) (txn_in db (volatile_of volatile.old) txn) ≡ None) × (((is_refragment statement.now ≡ true) × (told ≡ refusals.Busy)) ⊎ (told ≡ refusals.Full)))) }
     ensures full { (db : Database) (kept : DeskContent) → IsOfCatalogue db → InForce db volatile.old.version catalog.now → Fits db kept (volatile_of volatile.old) → result ≡ Err refusals.Full
         → RunsPastLimits db (volatile_of volatile.old) txn statement.now }
 {
     let room = room(volatile.alloc)?;
     may_state(volatile, &txn)?;
+    if statement.is_refragment() {
+        return Err(Refusal::Busy);
+    }
     let plan = Planned::new(volatile.alloc, catalog, statement)?;
     let asks = asks_of(volatile.alloc, catalog, plan.fetches())?;
     let copy = statement.copy()?;
@@ -424,7 +434,7 @@ pub(crate) fn call_statement(
         → IfOk result (λ out. States db (volatile_of volatile.old) kept (volatile_of volatile.new) txn text.now out.letters out.replies) }
     ensures states { StatesInMemory volatile.old volatile.new txn result }
     ensures told { (db : Database) (statement : StatementNow) → IfErr result (λ told. (told ≡ refusals.Memory) ⊎ (option_map refused_as (refusal (State (volatile.old.version, statement)) (txn_in db (volatile_of volatile.old) txn)) ≡ Some told)
-        ⊎ ((refusal (State (volatile.old.version, statement)) (txn_in db (volatile_of volatile.old) txn) ≡ None) × (IsUnread (schemas_of (catalogue_of catalog.now)) text.now told ⊎ (told ≡ refusals.Full)))) }
+        ⊎ ((refusal (State (volatile.old.version, statement)) (txn_in db (volatile_of volatile.old) txn) ≡ None) × (IsNoStatement (schemas_of (catalogue_of catalog.now)) text.now told ⊎ (told ≡ refusals.Full)))) }
     ensures full { (db : Database) (kept : DeskContent) → IsOfCatalogue db → InForce db volatile.old.version catalog.now → Fits db kept (volatile_of volatile.old) → result ≡ Err refusals.Full
         → StatesPastLimits db (volatile_of volatile.old) txn text.now }
 {

@@ -1,7 +1,8 @@
 -- Lemmas on what is shown of a plan.
-use Rattle.std.proofs.Common.{◌≡◌, ◌≢◌, ℕ, Bool, List, [], ◌∷◌, ◌++◌, Option, Some, None, Result, Ok, Err, IfErr, IfSome, OnOk, inl, inr, append_assoc, refl, subst}
+use Rattle.std.proofs.Common.{◌≡◌, ◌≢◌, ℕ, Bool, false, List, [], ◌∷◌, ◌++◌, Option, Some, None, Result, Ok, Err, IfErr, IfSome, OnOk, inl, inr, append_assoc, refl, subst}
 use Rattle.meaning.specs.declared.schema.RelationSchema.{RelationSchema}
 use Rattle.meaning.specs.declared.statement.Statement.{Statement}
+use Rattle.meaning.specs.Statement.{is_refragment}
 use Rattle.reader.specs.declared.command.Command.{Command}
 use Rattle.reader.specs.declared.command.Command.TheVariants.{Run}
 use Rattle.reader.specs.declared.fault.Rule.{Rule}
@@ -23,26 +24,26 @@ pub fetch_of_parts : (old name site conds a b c all : List ℕ) → a ≡ old ++
 fetch_of_parts old name site conds a b c all is_a is_b is_c is_all = rw (is_all, is_c, is_b, is_a) (simp append_assoc refl)
 
 -- a text of another command is one of no statement
-pub other_command : (schema : List RelationSchema) (text : List ℕ) (command : Command) (fault : Fault) → OneCommandOfText → IsTextOf schema text command → ((s : Statement) → command ≢ Run s) → fault.rule ≡ rules.Syntax → IsNoStatementOf schema text fault
+pub other_command : (schema : List RelationSchema) (text : List ℕ) (command : Command) (fault : Fault) → OneCommandOfText → IsTextOf schema text command → ((s : Statement) → is_refragment s ≡ false → command ≢ Run s) → fault.rule ≡ rules.Syntax → IsNoStatementOf schema text fault
 other_command schema text command fault one of other is_rule = record {
   is_rule = λ memory. cc;
-  none = λ s of_run. other s (one schema text command (Run s) of of_run);
+  none = λ s ordinary of_run. other s ordinary (one schema text command (Run s) of of_run);
 }
 
 -- a refusal by a rule, whichever it is
 pub refused_by : (schema : List RelationSchema) (text : List ℕ) (fault : Fault) (rule : Rule) → fault.rule ≡ rule → (fault.rule ≢ rules.Memory → (command : Command) → ¬ (IsTextOf schema text command)) → IsReadFault schema text (fault_by_rule fault rule)
 refused_by schema text fault rules.Memory is none = refl
-refused_by schema text fault rules.TooLong is none = record { is_rule = λ memory. cc; none = λ s. none (λ memory. cc) (Run s) }
-refused_by schema text fault rules.Character is none = record { is_rule = λ memory. cc; none = λ s. none (λ memory. cc) (Run s) }
-refused_by schema text fault rules.Syntax is none = record { is_rule = λ memory. cc; none = λ s. none (λ memory. cc) (Run s) }
-refused_by schema text fault rules.NoRelation is none = record { is_rule = λ memory. cc; none = λ s. none (λ memory. cc) (Run s) }
-refused_by schema text fault rules.NoColumn is none = record { is_rule = λ memory. cc; none = λ s. none (λ memory. cc) (Run s) }
-refused_by schema text fault rules.Ambiguous is none = record { is_rule = λ memory. cc; none = λ s. none (λ memory. cc) (Run s) }
-refused_by schema text fault rules.WrongType is none = record { is_rule = λ memory. cc; none = λ s. none (λ memory. cc) (Run s) }
-refused_by schema text fault rules.KeyColumn is none = record { is_rule = λ memory. cc; none = λ s. none (λ memory. cc) (Run s) }
-refused_by schema text fault rules.JoinNotKey is none = record { is_rule = λ memory. cc; none = λ s. none (λ memory. cc) (Run s) }
-refused_by schema text fault rules.Count is none = record { is_rule = λ memory. cc; none = λ s. none (λ memory. cc) (Run s) }
-refused_by schema text fault rules.Limit is none = record { is_rule = λ memory. cc; none = λ s. none (λ memory. cc) (Run s) }
+refused_by schema text fault rules.TooLong is none = record { is_rule = λ memory. cc; none = λ s ordinary. none (λ memory. cc) (Run s) }
+refused_by schema text fault rules.Character is none = record { is_rule = λ memory. cc; none = λ s ordinary. none (λ memory. cc) (Run s) }
+refused_by schema text fault rules.Syntax is none = record { is_rule = λ memory. cc; none = λ s ordinary. none (λ memory. cc) (Run s) }
+refused_by schema text fault rules.NoRelation is none = record { is_rule = λ memory. cc; none = λ s ordinary. none (λ memory. cc) (Run s) }
+refused_by schema text fault rules.NoColumn is none = record { is_rule = λ memory. cc; none = λ s ordinary. none (λ memory. cc) (Run s) }
+refused_by schema text fault rules.Ambiguous is none = record { is_rule = λ memory. cc; none = λ s ordinary. none (λ memory. cc) (Run s) }
+refused_by schema text fault rules.WrongType is none = record { is_rule = λ memory. cc; none = λ s ordinary. none (λ memory. cc) (Run s) }
+refused_by schema text fault rules.KeyColumn is none = record { is_rule = λ memory. cc; none = λ s ordinary. none (λ memory. cc) (Run s) }
+refused_by schema text fault rules.JoinNotKey is none = record { is_rule = λ memory. cc; none = λ s ordinary. none (λ memory. cc) (Run s) }
+refused_by schema text fault rules.Count is none = record { is_rule = λ memory. cc; none = λ s ordinary. none (λ memory. cc) (Run s) }
+refused_by schema text fault rules.Limit is none = record { is_rule = λ memory. cc; none = λ s ordinary. none (λ memory. cc) (Run s) }
 
 -- a plan was written, or the write failed
 pub shown_plan : (known : Option (List ℕ)) (as_tree : Bool) (file : Bor (List ℕ)) (text : List ℕ) (old new : Option (List ℕ)) (catalogue : Catalogue) (statement : Statement) (shown written : List ℕ) (result : Result Unit PlanFault) → IfSome known (λ bytes. IsCatalogueFile bytes catalogue) → IsValidCatalogue catalogue →

@@ -19,3 +19,4 @@ denied_text-other (call.Aborted why) not_aborted not_read = absurd (not_aborted 
 denied_text-other call.Memory not_aborted not_read = refl
 denied_text-other (call.Store fault) not_aborted not_read = refl
 denied_text-other call.Closed not_aborted not_read = refl
+denied_text-other call.NoNext not_aborted not_read = refl

@@ -5,6 +5,7 @@ use Rattle.std.specs.Io.KnownBytes.{Appends, Keeps}
 use Rattle.std.specs.List.{flat_map}
 use Rattle.meaning.specs.declared.schema.RelationSchema.{RelationSchema}
 use Rattle.meaning.specs.declared.statement.Statement.{Statement}
+use Rattle.meaning.specs.Statement.{is_refragment}
 use Rattle.reader.specs.declared.command.Command.TheVariants.{Run}
 use Rattle.reader.specs.declared.fault.Rule.{Rule}
 use Rattle.reader.specs.declared.fault.Rule.TheVariants as rules
@@ -45,10 +46,10 @@ abbrev pub IsShownPlan : Bool → Catalogue → Statement → List ℕ → Type 
 IsShownPlan true catalogue statement text = IsPlanTree catalogue statement text
 IsShownPlan false catalogue statement text = IsPlanText catalogue statement text
 
--- a refusal of a text that is no statement's
+-- a refusal of a text that is none of a statement that has a plan
 pub record IsNoStatementOf (schema : List RelationSchema) (text : List ℕ) (fault : Fault) : Type 0 where
   pub is_rule : fault.rule ≢ rules.Memory
-  pub none : (statement : Statement) → ¬ (IsTextOf schema text (Run statement))
+  pub none : (statement : Statement) → is_refragment statement ≡ false → ¬ (IsTextOf schema text (Run statement))
 
 -- why a text gives no statement
 abbrev pub IsReadFault : List RelationSchema → List ℕ → PlanFault → Type 0

@@ -40,6 +40,7 @@ statement_columns relations (statement.Select select) = select_columns relations
 statement_columns relations (statement.Insert insert) = columns_of relations insert.into
 statement_columns relations (statement.Update update) = columns_of relations update.relation.name
 statement_columns relations (statement.Delete delete) = columns_of relations delete.relation.name
+statement_columns relations (statement.Refragment refragment) = columns_of relations refragment.relation.name
 
 -- the lines of a plan of rows over these columns
 abbrev pub tree_lines : Catalogue → List Column → Shape → List ℕ

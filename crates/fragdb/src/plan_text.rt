@@ -1,10 +1,10 @@
 //! The command `plan`: which fragments a statement reads.
 
-ghost use Rattle.std.specs.Prelude.{◌≡◌, ◌++◌, ◌≢◌, IfErr, IfNone, IfOk, IfSome, OnOk, string_bytes};
+ghost use Rattle.std.specs.Prelude.{◌≡◌, ◌++◌, ◌≢◌, false, IfErr, IfNone, IfOk, IfSome, OnOk, string_bytes};
 ghost use Rattle.catalog.specs.FragmentLeaf.{catalogue_leaves, leaf_named, schemas_of};
 ghost use Rattle.catalog.specs.Relation.{catalogue_of};
 ghost use Rattle.meaning.specs.declared.statement.Statement.{Statement as StatementValue};
-ghost use Rattle.meaning.specs.Statement.{IsStatementOf};
+ghost use Rattle.meaning.specs.Statement.{IsStatementOf, is_refragment};
 ghost use Rattle.catalog.specs.Catalogue.{IsValidCatalogue};
 ghost use Rattle.reader.specs.declared.command.Command.TheVariants.{Run};
 ghost use Rattle.reader.specs.Command.{IsTextOf};
@@ -104,7 +104,7 @@ fn open_catalog<'a, R: Read + Drop>(
     Ok(read_catalog(alloc, file, input)?)
 }
 
-/// The statement of a text; BEGIN, COMMIT and ROLLBACK are none.
+/// The statement of a text; BEGIN, COMMIT and ROLLBACK are none, and a REFRAGMENT has no plan.
 fn read_statement<'a>(
     alloc: Global,
     schema: &Schema,
@@ -112,6 +112,7 @@ fn read_statement<'a>(
 ) -> Result<Statement, PlanFault<'a>>
     ensures found { IfOk result (λ statement. IsTextOf schema.now.relations text.now (Run statement)) }
     ensures fits { IfOk result (λ statement. IsStatementOf schema.now.relations statement) }
+    ensures ordinary { IfOk result (λ statement. is_refragment statement ≡ false) }
     ensures faults { IfErr result (IsReadFault schema.now.relations text.now) }
 {
     one_command();
@@ -125,12 +126,14 @@ fn read_statement<'a>(
     }
 }
 
-/// The statement that a command runs, if it runs one.
+/// The statement that a command runs, if it runs one that has a plan.
 fn statement_of(command: Command) -> Option<Statement>
     ensures some { IfSome result (λ statement. command ≡ Run statement) }
-    ensures none { IfNone result ((statement : StatementValue) → command ≢ Run statement) }
+    ensures ordinary { IfSome result (λ statement. is_refragment statement ≡ false) }
+    ensures none { IfNone result ((statement : StatementValue) → is_refragment statement ≡ false → command ≢ Run statement) }
 {
     match command {
+        Command::Run(Statement::Refragment(_)) => None,
         Command::Run(statement) => Some(statement),
         Command::Begin => None,
         Command::Commit => None,

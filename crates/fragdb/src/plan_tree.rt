@@ -64,6 +64,9 @@ fn statement_columns(
         Statement::Insert(insert) => copy_all(alloc, columns_of(schema, &insert.into)),
         Statement::Update(update) => copy_all(alloc, columns_of(schema, &update.relation.name)),
         Statement::Delete(delete) => copy_all(alloc, columns_of(schema, &delete.relation.name)),
+        Statement::Refragment(refragment) => {
+            copy_all(alloc, columns_of(schema, &refragment.relation.name))
+        }
     }
 }
 

@@ -34,6 +34,8 @@ pub enum CallFault {
     Store(StoreFault),
     /// A machine can't be had any more, or what it answers doesn't follow what was told.
     Closed,
+    /// No catalogue comes after the one in force.
+    NoNext,
 }
 
 impl CallFault {
@@ -51,6 +53,7 @@ impl CallFault {
             CallFault::Memory => 7,
             CallFault::Store(_) => 8,
             CallFault::Closed => 9,
+            CallFault::NoNext => 10,
         }
     }
 }
@@ -69,6 +72,7 @@ impl fmt::Display for CallFault {
             CallFault::Memory => f.write_str("Memory"),
             CallFault::Store(_) => f.write_str("Store"),
             CallFault::Closed => f.write_str("Closed"),
+            CallFault::NoNext => f.write_str("NoNext"),
         }
     }
 }
@@ -91,6 +95,7 @@ impl From<Refusal> for CallFault {
             Refusal::Aborted(why) => CallFault::Aborted(why),
             Refusal::Memory => CallFault::Memory,
             Refusal::Store(fault) => CallFault::Store(fault),
+            Refusal::NoNext => CallFault::NoNext,
         }
     }
 }

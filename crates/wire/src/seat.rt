@@ -54,7 +54,7 @@ pub(crate) struct Seats {
 }
 
 impl Seats {
-    /// Nobody waits.
+    /// Nobody waits. No clause says so, since none says where a channel leads.
     pub fn new(alloc: Global) -> Seats {
         Seats {
             seats: Vec::new(alloc),

@@ -1,6 +1,8 @@
 //! A client's session.
 
 ghost use Rattle.std.specs.Prelude.{◌≡◌, ◌⊎◌, ◌<◌, [], true, false, Err, IfErr, IfOk, OnErr, OnOk, vec_capacity, vec_len};
+ghost use Rattle.meaning.specs.declared.statement.Refragment.{Refragment as RefragmentNow};
+ghost use Rattle.meaning.specs.declared.statement.Statement.TheVariants as statements;
 ghost use Rattle.reader.specs.declared.command.Command.{Command as CommandNow};
 ghost use Rattle.reader.specs.declared.command.Command.TheVariants as commands;
 ghost use Rattle.reader.specs.Command.{IsTextOf};
@@ -73,6 +75,7 @@ impl<'a, D: DeskStore, G> Session<'a, D, G> {
         ensures schema { self.new.schema ≡ self.old.schema }
         ensures inside { self.old.is_open ≡ true → IsTextOf self.old.schema text.now commands.Begin → OnOk result ⊥ }
         ensures outside { self.old.is_open ≡ false → IsTextOf self.old.schema text.now commands.Commit ⊎ IsTextOf self.old.schema text.now commands.Rollback → OnOk result ⊥ × IfErr result (λ told. (told ≡ faults.NoTransaction) ⊎ (told ≡ faults.Memory)) }
+        ensures no_next { (refragment : RefragmentNow) → self.old.is_open ≡ false → IsTextOf self.old.schema text.now (commands.Run (statements.Refragment refragment)) → OnOk result ⊥ × IfErr result (λ told. (told ≡ faults.NoNext) ⊎ (told ≡ faults.Memory)) }
         ensures unread { ((command : CommandNow) → IsTextOf self.old.schema text.now command → ⊥) → OnOk result ⊥ × IfErr result (IsUnread self.old.schema text.now) }
     {
         self.told.try_reserve(1)?;

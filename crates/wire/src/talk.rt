@@ -1,6 +1,8 @@
 //! What a session and the coordinator say to each other.
 
 ghost use Rattle.std.specs.Prelude.{◌≡◌, ◌⊎◌, ◌↔◌, true, false, None, Some, Err, IfErr, IfOk, IfSome, OnErr, is_some, OnOk};
+ghost use Rattle.meaning.specs.declared.statement.Refragment.{Refragment as RefragmentNow};
+ghost use Rattle.meaning.specs.declared.statement.Statement.TheVariants as statements;
 ghost use Rattle.reader.specs.declared.command.Command.{Command as CommandNow};
 ghost use Rattle.reader.specs.declared.command.Command.TheVariants as commands;
 ghost use Rattle.reader.specs.Command.{IsTextOf};
@@ -17,6 +19,7 @@ use crate::shared::Shared;
 use crossbeam_channel::{Receiver, Sender};
 use desk::reply::{Reply, Why};
 use meaning::schema::Schema;
+use meaning::statement::Statement;
 use reader::command::Command;
 use reader::read::{one_command, read};
 use std::alloc::Global;
@@ -57,6 +60,7 @@ impl<'a, D: DeskStore, G> Talk<'a, D, G> {
         ensures still { IfErr result (λ fault. (self.new.current ≡ self.old.current) ⊎ (is_abort fault ≡ true)) }
         ensures inside { is_some self.old.current ≡ true → IsTextOf self.old.shared.now.schema.relations text.now commands.Begin → OnOk result ⊥ }
         ensures outside { is_some self.old.current ≡ false → IsTextOf self.old.shared.now.schema.relations text.now commands.Commit ⊎ IsTextOf self.old.shared.now.schema.relations text.now commands.Rollback → OnOk result ⊥ × IfErr result (λ told. (told ≡ faults.NoTransaction) ⊎ (told ≡ faults.Memory)) }
+        ensures no_next { (refragment : RefragmentNow) → is_some self.old.current ≡ false → IsTextOf self.old.shared.now.schema.relations text.now (commands.Run (statements.Refragment refragment)) → OnOk result ⊥ × IfErr result (λ told. (told ≡ faults.NoNext) ⊎ (told ≡ faults.Memory)) }
         ensures unread { ((command : CommandNow) → IsTextOf self.old.shared.now.schema.relations text.now command → ⊥) → OnOk result ⊥ × IfErr result (IsUnread self.old.shared.now.schema.relations text.now) }
     {
         one_command();
@@ -80,12 +84,14 @@ impl<'a, D: DeskStore, G> Talk<'a, D, G> {
         requires { self.old.current ≡ None }
         ensures shared { self.new.shared ≡ self.old.shared }
         ensures outside { (command.now ≡ commands.Commit) ⊎ (command.now ≡ commands.Rollback) → result ≡ Err faults.NoTransaction }
+        ensures no_next { (refragment : RefragmentNow) → command.now ≡ commands.Run (statements.Refragment refragment) → result ≡ Err faults.NoNext }
         ensures open { IfOk result (λ heard. is_some self.new.current ≡ open_after false heard.reply) }
         ensures still { OnErr result (self.new.current ≡ None) }
     {
         match command {
             Command::Begin => self.open_by(rt),
             Command::Commit | Command::Rollback => Err(CallFault::NoTransaction),
+            Command::Run(Statement::Refragment(_)) => Err(CallFault::NoNext),
             Command::Run(_) => self.run(rt, text),
         }
     }

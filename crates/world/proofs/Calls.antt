@@ -1,6 +1,9 @@
 -- What calls make of the machines that serve one client, one after another.
 use Rattle.std.proofs.Common.{◌≡◌, refl, sym, subst, ◌∙◌, ℕ, true, false, List, [], ◌∷◌, ◌++◌, inl, inr, ⊎_elim, Option, None, Result, Ok, Err, IfErr, IfOk}
+use Rattle.meaning.specs.declared.statement.Refragment.{Refragment}
 use Rattle.meaning.specs.declared.statement.Statement.{Statement}
+use Rattle.meaning.specs.declared.statement.Statement.TheVariants as statements
+use Rattle.meaning.specs.Statement.{is_refragment}
 use Rattle.reader.specs.declared.command.Command.TheVariants.{Run}
 use Rattle.reader.specs.Command.{IsTextOf}
 use Rattle.store.specs.declared.name.Txn.{Txn}
@@ -16,7 +19,7 @@ use Rattle.desk.specs.OfCatalogue.{InForce, IsOfCatalogue}
 use Rattle.world.specs.declared.event.Call as calls
 use Rattle.world.specs.declared.event.Call.TheVariants as call
 use Rattle.world.specs.declared.machines.Machines as code
-use Rattle.world.specs.Commands.{IsCommand, IsLone, IsTakenBack, IsUnreadable, TakesBack, heard_in, is_lone, is_no_command, makes_none}
+use Rattle.world.specs.Commands.{IsCommand, IsLone, IsTakenBack, IsUnreadable, TakesBack, has_no_next, heard_in, is_lone, is_no_command, makes_none}
 use Rattle.world.specs.Counted.{counts}
 use Rattle.world.specs.Contents.{OfStores, counted}
 use Rattle.world.specs.Course.{IsOne, IsTurnedDown, Move, Moves, Refuses}
@@ -30,6 +33,14 @@ use Rattle.world.proofs.Denials.{is_memory}
 use Rattle.world.proofs.Reaching.{same_on, then_on}
 use Rattle.world.proofs.Stops.{call_since, memory_only}
 
+-- a REFRAGMENT as such
+as_refragment : (statement : Statement) → is_refragment statement ≡ true → (refragment : Refragment) × (statement ≡ statements.Refragment refragment)
+as_refragment (statements.Refragment refragment) is = (refragment, refl)
+as_refragment (statements.Select select) is = absurd (cc)
+as_refragment (statements.Insert insert) is = absurd (cc)
+as_refragment (statements.Update update) is = absurd (cc)
+as_refragment (statements.Delete delete) is = absurd (cc)
+
 -- what doesn't stop the database needs no reason
 pub goes_for_any : (before after : List ℕ) (told : Refusal) → is_stop told ≡ false → StopsFor before after told
 goes_for_any before after told_as.NoTransaction goes = tt
@@ -40,6 +51,7 @@ goes_for_any before after (told_as.Read fault) goes = tt
 goes_for_any before after (told_as.Aborted why) goes = tt
 goes_for_any before after Memory goes = tt
 goes_for_any before after (told_as.Store fault) goes = cc
+goes_for_any before after told_as.NoNext goes = tt
 
 -- which moves are made by a call with this answer
 abbrev pub Kind : Type 0 → Type 1
@@ -145,9 +157,20 @@ module _ {D S : Type 0} (IsClean IsSound : code.Machines D S → Type 0) (view :
       inr (record { moves = made.moves; made = made.made; is = (subst (IsTakenBack txn) (sym made.is) refl, refl) })) comes
 
   -- a lone statement is a command
-  pub lone_command : {T : Type 0} {items : T → List Notice} (old new : code.Machines D S) (result : Result T Refusal) (text : List ℕ) (current : Option Txn) → current ≡ None → ComesTo IsClean IsSound view old new result (λ db done moves. IsLone text moves (heard_in items done)) →
-      ComesTo IsClean IsSound view old new result (λ db done moves. (statement : Statement) → IsTextOf db.schemas text (Run statement) → IsCommand db.schemas text current current moves (heard_in items done))
-  lone_command old new result text current none comes = narrowed old new result (λ db moves lone statement spelled. is_lone statement spelled none none lone) comes
+  pub lone_command : {T : Type 0} {items : T → List Notice} (old new : code.Machines D S) (result : Result T Refusal) (text : List ℕ) (current : Option Txn) (statement : Statement) → is_refragment statement ≡ false → current ≡ None → ComesTo IsClean IsSound view old new result (λ db done moves. IsLone text moves (heard_in items done)) →
+      ComesTo IsClean IsSound view old new result (λ db done moves. IsTextOf db.schemas text (Run statement) → IsCommand db.schemas text current current moves (heard_in items done))
+  lone_command old new result text current statement ordinary none comes = narrowed old new result (λ db moves lone spelled. is_lone statement spelled ordinary none none lone) comes
+
+  -- a REFRAGMENT that is no statement of an open transaction finds no catalogue that comes next
+  pub finds_none_next : {T : Type 0} {items : T → List Notice} (machines : code.Machines D S) (text : List ℕ) (current : Option Txn) (statement : Statement) → is_refragment statement ≡ true → current ≡ None →
+      ComesTo IsClean IsSound view machines machines (Err told_as.NoNext) (λ db done moves. IsTextOf db.schemas text (Run statement) → IsCommand db.schemas text current current moves (heard_in items done))
+  finds_none_next machines text current statement moves_rows none =
+      let refragment = as_refragment statement moves_rows in
+      stays machines (Err told_as.NoNext) tt (λ db of is. inr (record {
+        moves = [];
+        made = refl;
+        is = λ spelled. makes_none told_as.NoNext refl (has_no_next refragment.0 none (subst (λ (s : Statement). IsTextOf db.schemas text (Run s)) refragment.1 spelled) refl) refl refl;
+      }))
 
   -- a text is no command's
   pub unread : {T : Type 0} {items : T → List Notice} (machines : code.Machines D S) (told : Refusal) (text : List ℕ) (current : Option Txn) → ((db : Database) → IsOfCatalogue db → InForce db (view machines).table.version machines.desk.catalog → IsUnreadable db.schemas text told) → StopsFor (view machines).refused (view machines).refused told →

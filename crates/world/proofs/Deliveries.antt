@@ -272,6 +272,7 @@ stop_stops (faults.Desk refusals.Ended) refusal e = cc
 stop_stops (faults.Desk refusals.Full) refusal e = cc
 stop_stops (faults.Desk (refusals.Read fault)) refusal e = cc
 stop_stops (faults.Desk (refusals.Aborted why)) refusal e = cc
+stop_stops (faults.Desk refusals.NoNext) refusal e = cc
 stop_stops (faults.Desk refusals.Memory) refusal e = ap is_stop (sym (some_is e))
 stop_stops (faults.Desk (refusals.Store fault)) refusal e = ap is_stop (sym (some_is e))
 stop_stops (faults.Site site_faults.Memory) refusal e = ap is_stop (sym (some_is e))

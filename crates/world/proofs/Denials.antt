@@ -18,7 +18,7 @@ use Rattle.desk.specs.declared.refusal.Refusal.TheVariants as told_as
 use Rattle.desk.specs.Request.{refused_as, txn_in}
 use Rattle.desk.specs.Database.{Database, language}
 use Rattle.desk.specs.Place.{Place}
-use Rattle.desk.specs.Does.{IsUnread, StatesPastLimits}
+use Rattle.desk.specs.Does.{IsRefragment, IsUnread, StatesPastLimits}
 use Rattle.world.specs.declared.event.Call as calls
 use Rattle.world.specs.declared.event.Call.TheVariants as call
 use Rattle.world.specs.Mailbox.{IsStill}
@@ -85,12 +85,12 @@ module _ (db : Database) (fits : Place → Content → Bool) (one : OneCommandOf
       not_rollback : Run statement ≡ Rollback_command → ⊥
       not_rollback e = cc
 
-  -- the statement of a ready transaction meets a limit
+  -- the statement of a ready transaction meets a limit, or is a REFRAGMENT
   pub is_full : (statement : Statement) → IsTextOf db.schemas text (Run statement) → (txn : Txn) (machines : Machines) (past : List (Deed (language db))) (told : refusals.Refusal) → IsReady db fits (txn_name txn) machines past →
-      IsRefused db machines.table (call.State txn text) told → (told ≡ told_as.Full) × StatesPastLimits db machines.table txn text
+      IsRefused db machines.table (call.State txn text) told → IsRefragment db.schemas text told ⊎ ((told ≡ told_as.Full) × StatesPastLimits db machines.table txn text)
   is_full statement spelled txn machines past told ready refused = ⊎_elim
       (λ stays. absurd (no_refusal refused_as (refusal (State (machines.table.version, statement)) (txn_in db machines.table txn)) told (at_rest db fits txn machines past (State (machines.table.version, statement)) refl ready) stays))
-      (λ rest. ⊎_elim (λ unread. absurd (is_read statement spelled told unread)) (λ full. full) rest.1)
+      (λ rest. ⊎_elim (⊎_elim (λ unread. absurd (is_read statement spelled told unread)) (λ refragment. inl refragment)) (λ full. inr full) rest.1)
       (refused statement)
 
 -- ---- a text that is read as no other command's

@@ -2,6 +2,7 @@
 use Rattle.std.proofs.Common.{◌≡◌, sym, subst, ℕ, true, false, List, [], ◌∷◌, ◌++◌, Option, Some, None, Result, Ok, Err}
 use Rattle.meaning.specs.declared.schema.RelationSchema.{RelationSchema}
 use Rattle.meaning.specs.declared.statement.Statement.{Statement}
+use Rattle.meaning.specs.Statement.{is_refragment}
 use Rattle.reader.specs.declared.command.Command.TheVariants.{Run}
 use Rattle.reader.specs.Command.{IsTextOf}
 use Rattle.store.specs.declared.name.Txn.{Txn}
@@ -84,7 +85,7 @@ module _ (schemas : List RelationSchema) (text : List ℕ) (current later : Opti
     (commits : (txn : Txn) (heard : List Notice) → IsCallOf schemas text current (call.Commit txn) → later ≡ None → reply ≡ Ok heard → P (Commits txn heard ∷ []))
     (rolls_back : (txn : Txn) (heard : List Notice) → IsCallOf schemas text current (call.Rollback txn) → later ≡ None → reply ≡ Ok heard → P (Rolls_back txn heard ∷ []))
     (refuses : (asked : calls.Call) (told : Refusal) → IsCallOf schemas text current asked → later ≡ current → reply ≡ Err told → P (Refuses asked told ∷ []))
-    (lone : (moves : List Move) (statement : Statement) → IsTextOf schemas text (Run statement) → current ≡ None → later ≡ None → IsLone text moves reply → P moves) where
+    (lone : (moves : List Move) (statement : Statement) → IsTextOf schemas text (Run statement) → is_refragment statement ≡ false → current ≡ None → later ≡ None → IsLone text moves reply → P moves) where
   pub command_cases : (moves : List Move) → IsCommand schemas text current later moves reply → P moves
   command_cases moves (makes_none told is misplaced still says) = subst P (sym is) (at_once still told says misplaced)
   command_cases moves (only_begins txn heard is of opens says) = subst P (sym is) (begins txn heard of opens says)
@@ -92,4 +93,4 @@ module _ (schemas : List RelationSchema) (text : List ℕ) (current later : Opti
   command_cases moves (only_commits txn heard is of none says) = subst P (sym is) (commits txn heard of none says)
   command_cases moves (only_rolls_back txn heard is of none says) = subst P (sym is) (rolls_back txn heard of none says)
   command_cases moves (is_turned_down asked told is of still says) = subst P (sym is) (refuses asked told of still says)
-  command_cases moves (is_lone statement spelled none after_none of) = lone moves statement spelled none after_none of
+  command_cases moves (is_lone statement spelled ordinary none after_none of) = lone moves statement spelled ordinary none after_none of

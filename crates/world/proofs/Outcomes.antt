@@ -1,8 +1,12 @@
 -- What a command comes to.
-use Rattle.std.proofs.Common.{◌≡◌, sym, ap, ◌∙◌, subst, ℕ, true, List, [], ◌∷◌, ◌++◌, map, ◌⊎◌, inl, inr, ⊎_elim, Bool, Option, Some, None, Result, Ok, Err}
+use Rattle.std.proofs.Common.{◌≡◌, sym, ap, ◌∙◌, subst, ℕ, true, false, List, [], ◌∷◌, ◌++◌, map, ◌⊎◌, inl, inr, ⊎_elim, Bool, Option, Some, None, Result, Ok, Err}
 use Rattle.meaning.specs.declared.answer.Answer.{Answer as AnswerNow}
+use Rattle.meaning.specs.declared.statement.Refragment.{Refragment}
 use Rattle.meaning.specs.declared.statement.Statement.{Statement}
+use Rattle.meaning.specs.declared.statement.Statement.TheVariants as statements
+use Rattle.meaning.specs.Statement.{is_refragment}
 use Rattle.meaning.specs.Whole.{Relations}
+use Rattle.reader.specs.declared.command.Command.{Command}
 use Rattle.reader.specs.declared.command.Command.TheVariants.{Run}
 use Rattle.reader.specs.Command.{IsTextOf, OneCommandOfText}
 use Rattle.store.specs.Content.{Content}
@@ -22,7 +26,7 @@ use Rattle.desk.specs.State.{notice_of}
 use Rattle.world.specs.declared.event.Call as calls
 use Rattle.world.specs.declared.event.Call.TheVariants as call
 use Rattle.world.specs.Client.{IsServed, autocommit_reply, is_end, still_open, tells}
-use Rattle.world.specs.Commands.{CommandsFollow, Executes, IsCallOf, IsCommand, IsDecided, IsLone, IsStated, IsTakenBack, MovesFollow, Outcome, UnlessStopped, finds_no_number, has_answered, has_begun, has_committed, has_rolled_back, heard_in, is_hindered, is_misplaced, is_too_much, is_too_much_alone}
+use Rattle.world.specs.Commands.{CommandsFollow, Executes, IsCallOf, IsCommand, IsDecided, IsLone, IsStated, IsTakenBack, MovesFollow, Outcome, UnlessStopped, finds_no_number, has_answered, has_begun, has_committed, has_rolled_back, heard_in, is_hindered, is_misplaced, is_refragment_inside, is_too_much, is_too_much_alone}
 use Rattle.world.specs.Course.{Begins, Made, Move, Refuses, SomeHindered, States, deeds_in, said_in}
 use Rattle.world.specs.Executed.{ObeysUnlessRefused, Stands}
 use Rattle.world.specs.Frame.{MakesMoves}
@@ -53,7 +57,7 @@ module _ (db : Database) (told : refusals.Refusal) (reply : Result (List Notice)
 
   pub refused_none : (schemas : _) (text : List ℕ) (current later : Option Txn) (moves : List Move) → IsCommand schemas text current later moves reply → CommitsNone db moves
   refused_none schemas text current later = command_cases schemas text current later reply (CommitsNone db) (λ still why says misplaced. tt) (λ txn heard of some says. tt) (λ txn given heard of still says. tt)
-      (λ txn heard of none says. not_heard heard says) (λ txn heard of none says. tt) (λ asked why of still says. tt) (λ moves statement spelled none after_none lone. lone_none text moves lone)
+      (λ txn heard of none says. not_heard heard says) (λ txn heard of none says. tt) (λ asked why of still says. tt) (λ moves statement spelled ordinary none after_none lone. lone_none text moves lone)
 
 -- ---- outcomes
 module _ (db : Database) (fits : Place → Content → Bool) (reached : ReachedLaw (language db)) (obeys : ObeysUnlessRefused db fits) (law : GrowsQuiet db fits) (one : OneCommandOfText) (whole : Relations) (text : List ℕ) (reply : Result (List Notice) refusals.Refusal) where
@@ -95,9 +99,19 @@ module _ (db : Database) (fits : Place → Content → Bool) (reached : ReachedL
       (obeys.commits whole before made.0 past txn decided served ready made.1))
       (λ why back goes taken says made. absurd (no_commit db fits txn before past why ready made.1.0))
 
-  stated_comes : (statement : Statement) → IsTextOf db.schemas text (Run statement) → (past : List (Deed (language db))) (txn : Txn) (greeted : List Notice) (before after : Machines) → IsServed db whole before past → Stands db fits (Some txn) before past → map notice_of greeted ≡ (txn_name txn, Begun) ∷ [] →
+  -- the text of a statement that is no REFRAGMENT is that of none
+  no_refragment : (statement : Statement) → IsTextOf db.schemas text (Run statement) → is_refragment statement ≡ false → (refragment : Refragment) → IsTextOf db.schemas text (Run (statements.Refragment refragment)) → ⊥
+  no_refragment statement spelled ordinary refragment other =
+      let same : Run statement ≡ Run (statements.Refragment refragment) = one db.schemas text (Run statement) (Run (statements.Refragment refragment)) spelled other in
+      clash (ap moves_rows same) ordinary
+    where
+      moves_rows : Command → Bool
+      moves_rows (Run stated) = is_refragment stated
+      moves_rows other = false
+
+  stated_comes : (statement : Statement) → IsTextOf db.schemas text (Run statement) → is_refragment statement ≡ false → (past : List (Deed (language db))) (txn : Txn) (greeted : List Notice) (before after : Machines) → IsServed db whole before past → Stands db fits (Some txn) before past → map notice_of greeted ≡ (txn_name txn, Begun) ∷ [] →
       (moves : List Move) → IsStated text txn greeted moves reply → (made : Made db moves before after) → (IsAnswered txn ⊎ IsHinderedOn before after past moves made) ⊎ MeetsLimit txn before
-  stated_comes statement spelled past txn greeted before after served ready is_greeted = stated_cases text txn greeted reply (λ moves. (made : Made db moves before after) → (IsAnswered txn ⊎ IsHinderedOn before after past moves made) ⊎ MeetsLimit txn before)
+  stated_comes statement spelled ordinary past txn greeted before after served ready is_greeted = stated_cases text txn greeted reply (λ moves. (made : Made db moves before after) → (IsAnswered txn ⊎ IsHinderedOn before after past moves made) ⊎ MeetsLimit txn before)
       (λ answered moves decided made.
       let does = made.1 in
       let more = past ++ does.asks.serves.deeds in
@@ -109,8 +123,10 @@ module _ (db : Database) (fits : Place → Content → Bool) (reached : ReachedL
       (λ hindered. inr (record { heard = heard.0; says = heard.1; some = inl hindered }))
       (obeys.states whole before made.0 past text txn answered served ready does)))
       (λ why back taken says made.
-      let full = is_full db fits one text statement spelled txn before past why ready made.1.0 in
-      inr (record { told = why; says = says; full = full.0; past_limits = full.1 }))
+      ⊎_elim
+      (λ refragment. absurd (no_refragment statement spelled ordinary refragment.refragment refragment.spelled))
+      (λ full. inr (record { told = why; says = says; full = full.0; past_limits = full.1 }))
+      (is_full db fits one text statement spelled txn before past why ready made.1.0))
 
   module _ (past : List (Deed (language db))) (current later : Option Txn) (before after : Machines) (served : IsServed db whole before past) (stands : Stands db fits current before past) where
     abbrev Comes : (moves : List Move) → Made db moves before after → Type 0
@@ -119,8 +135,8 @@ module _ (db : Database) (fits : Place → Content → Bool) (reached : ReachedL
     as_open : (c : Option Txn) → current ≡ c → Stands db fits c before past
     as_open c same = subst (λ (x : Option Txn). Stands db fits x before past) same stands
 
-    lone_comes : (statement : Statement) → IsTextOf db.schemas text (Run statement) → current ≡ None → later ≡ None → (moves : List Move) → IsLone text moves reply → (made : Made db moves before after) → Comes moves made
-    lone_comes statement spelled none after_none = lone_cases text reply (λ moves. (made : Made db moves before after) → Comes moves made)
+    lone_comes : (statement : Statement) → IsTextOf db.schemas text (Run statement) → is_refragment statement ≡ false → current ≡ None → later ≡ None → (moves : List Move) → IsLone text moves reply → (made : Made db moves before after) → Comes moves made
+    lone_comes statement spelled ordinary none after_none = lone_cases text reply (λ moves. (made : Made db moves before after) → Comes moves made)
         (λ txn greeted moves is made.
         let does = made.1 in
         let more = past ++ does.serves.deeds in
@@ -130,15 +146,17 @@ module _ (db : Database) (fits : Place → Content → Bool) (reached : ReachedL
         (λ (is_so : IsAnswered txn). has_answered txn statement is_so.heard is_so.answer is_so.says spelled (after_none ∙ sym none) is_so.hears)
         (λ hindered. is_hindered hindered.heard hindered.says (inr hindered.some)) ended)
         (λ (limit : MeetsLimit txn made.0). is_too_much_alone limit.told limit.says (after_none ∙ sym none) limit.full txn made.0 greeted none does limit.past_limits)
-        (stated_comes statement spelled more txn greeted made.0 after (move_served db whole reached (Begins txn greeted) before made.0 past served does) (stands_whenever db fits (Some txn) made.0 past more done.0) done.1 moves is made.2))
+        (stated_comes statement spelled ordinary more txn greeted made.0 after (move_served db whole reached (Begins txn greeted) before made.0 past served does) (stands_whenever db fits (Some txn) made.0 past more done.0) done.1 moves is made.2))
         (λ why says made. finds_no_number why says (after_none ∙ sym none) made.1.0.0 none (inr (statement, spelled)) (numbers_run_out db before past served.fit (as_open None none) made.1.0.1))
 
     -- a single call is refused
     call_refused : (moves : List Move) (made : Made db moves before after) (asked : calls.Call) (told : refusals.Refusal) → reply ≡ Err told → later ≡ current → IsCallOf db.schemas text current asked → IsRefused db before.table asked told → Comes moves made
     call_refused moves made call.Begin told says still is refused = finds_no_number told says still refused.0 is.1 (inl is.0) (numbers_run_out db before past served.fit (as_open None is.1) refused.1)
     call_refused moves made (call.State txn given) told says still is refused =
-        let full = is_full db fits one text is.0.0 is.0.1 txn before past told (as_open (Some txn) is.1) (subst (λ (x : List ℕ). IsRefused db before.table (call.State txn x) told) is.2 refused) in
-        is_too_much told says still full.0 txn is.1 full.1
+        ⊎_elim
+        (λ refragment. is_refragment_inside told says still txn is.1 refragment)
+        (λ full. is_too_much told says still full.0 txn is.1 full.1)
+        (is_full db fits one text is.0.0 is.0.1 txn before past told (as_open (Some txn) is.1) (subst (λ (x : List ℕ). IsRefused db before.table (call.State txn x) told) is.2 refused))
     call_refused moves made (call.Commit txn) told says still is refused = absurd (no_commit db fits txn before past told (as_open (Some txn) is.1) refused)
     call_refused moves made (call.Rollback txn) told says still is refused = absurd (no_rollback db fits txn before past told (as_open (Some txn) is.1) refused)
     call_refused moves made (call.GiveUp txn) told says still is refused = absurd is
@@ -154,7 +172,7 @@ module _ (db : Database) (fits : Place → Content → Bool) (reached : ReachedL
         (λ txn heard is none says made. ⊎_elim (λ done. has_committed txn heard says is.0 is.1 done.1) (λ hindered. is_hindered heard says (inl hindered)) (obeys.commits whole before made.0 past txn heard served (as_open (Some txn) is.1) made.1))
         (λ txn heard is none says made. ⊎_elim (λ done. has_rolled_back txn heard says is.0 is.1 done.1) (λ hindered. is_hindered heard says (inl hindered)) (obeys.rolls_back whole before made.0 past txn heard served (as_open (Some txn) is.1) made.1))
         (λ asked told is still says made. call_refused (Refuses asked told ∷ []) made asked told says still is made.1.0)
-        (λ moves statement spelled none after_none is. lone_comes statement spelled none after_none moves is)
+        (λ moves statement spelled ordinary none after_none is. lone_comes statement spelled ordinary none after_none moves is)
 
 -- ---- the law
 pub commands_follow : (db : Database) (fits : Place → Content → Bool) → ReachedLaw (language db) → ObeysUnlessRefused db fits → GrowsQuiet db fits → OneCommandOfText → MovesFollow db → CommandsFollow db fits

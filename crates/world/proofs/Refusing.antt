@@ -14,7 +14,7 @@ use Rattle.desk.specs.declared.refusal.Refusal.{Refusal}
 use Rattle.desk.specs.declared.refusal.Refusal.TheVariants.{Full, Memory}
 use Rattle.desk.specs.Request.{refused_as, txn_in}
 use Rattle.desk.specs.Database.{Database}
-use Rattle.desk.specs.Does.{IsUnread, StatesPastLimits}
+use Rattle.desk.specs.Does.{IsNoStatement, StatesPastLimits}
 use Rattle.desk.specs.State.{VolatileState}
 use Rattle.world.specs.declared.event.Call.TheVariants as call
 use Rattle.world.specs.Refused.{IsRefused}
@@ -41,7 +41,7 @@ some = statements.Insert (record { into = []; row = [] })
 -- why a statement is refused, as the coordinator's contract says it
 abbrev Told : (db : Database) → VolatileState → names.Txn → List ℕ → List (List ℕ) × List SplitRelation → Statement → Refusal → Type 0
 Told db table txn text catalog s told = (told ≡ Memory) ⊎ (option_map refused_as (refusal (State (table.version, s)) (txn_in db table txn)) ≡ Some told)
-    ⊎ ((refusal (State (table.version, s)) (txn_in db table txn) ≡ None) × (IsUnread (schemas_of (catalogue_of catalog)) text told ⊎ (told ≡ Full)))
+    ⊎ ((refusal (State (table.version, s)) (txn_in db table txn) ≡ None) × (IsNoStatement (schemas_of (catalogue_of catalog)) text told ⊎ (told ≡ Full)))
 
 pub statement_refused : {T : Type 0} (db : Database) (table : VolatileState) (txn : names.Txn) (text : List ℕ) (catalog : List (List ℕ) × List SplitRelation) → db.schemas ≡ schemas_of (catalogue_of catalog) → (result : Result T Refusal) →
     ((s : Statement) → IfErr result (Told db table txn text catalog s)) → (result ≡ Err Full → StatesPastLimits db table txn text) → IfErr result (λ told. (told ≡ Memory) ⊎ IsRefused db table (call.State txn text) told)
@@ -54,6 +54,6 @@ statement_refused {T} db table txn text catalog is (Err told) all past = go (all
     go (inr (inr late)) = inr (λ s. inr (
       same_refusal (table.version, s) (table.version, some) (txn_in db table txn) ∙ late.0,
       ⊎_elim
-          (λ unread. inl (subst (λ (schemas : List RelationSchema). IsUnread schemas text told) (sym is) unread))
+          (λ unread. inl (subst (λ (schemas : List RelationSchema). IsNoStatement schemas text told) (sym is) unread))
           (λ full. inr (full, past (ap Err full))) late.1,
     ))

@@ -138,4 +138,4 @@ module _ (db : Database) (fits : Place → Content → Bool) (reached : ReachedL
         at_end past later made.0 after made.2 (as_open None later made.0 (sym none) (stands_whenever db fits None made.0 (past ++ does.serves.deeds) past
         (law.rolls_back whole before made.0 past (txn_name txn) does.choice heard served (as_open current (Some txn) before is.1 stands) does.serves))))
         (λ asked told is still says made. at_end past later made.0 after made.2 (as_open current later made.0 (sym still) (stands_still db fits current before made.0 past made.1.1 stands)))
-        (λ moves statement spelled none after_none is made. as_open None later after (sym after_none) (lone_stands past text reply before after served (as_open current None before none stands) moves is made))
+        (λ moves statement spelled ordinary none after_none is made. as_open None later after (sym after_none) (lone_stands past text reply before after served (as_open current None before none stands) moves is made))

@@ -10,9 +10,9 @@ use Rattle.protocol.proofs.Basics.{some_is}
 use Rattle.site.specs.declared.fault.SiteFault as site_faults
 use Rattle.site.specs.declared.fault.SiteFault.TheVariants as site_fault
 use Rattle.desk.specs.declared.refusal.Refusal.{Refusal}
-use Rattle.desk.specs.declared.refusal.Refusal.TheVariants.{Aborted, Busy, Ended, Full, Memory, NoTransaction, Read, Store}
+use Rattle.desk.specs.declared.refusal.Refusal.TheVariants.{Aborted, Busy, Ended, Full, Memory, NoNext, NoTransaction, Read, Store}
 use Rattle.desk.specs.Request.{refused_as}
-use Rattle.desk.specs.Does.{IsUnread}
+use Rattle.desk.specs.Does.{IsNoStatement}
 use Rattle.desk.specs.declared.reply.Notice.{Notice}
 use Rattle.world.specs.declared.fault.Fault.TheVariants as fault
 use Rattle.world.specs.declared.transaction.Came.{Came}
@@ -33,6 +33,7 @@ stops_so a b c d to Full why = tt
 stops_so a b c d to (Read fault) why = tt
 stops_so a b c d to (Aborted reason) why = tt
 stops_so a b c d to Memory why = tt
+stops_so a b c d to NoNext why = tt
 stops_so a b c d to (Store faults.Refused) why = to why
 stops_so a b c d to (Store faults.Memory) why = absurd why
 stops_so a b c d to (Store faults.Damaged) why = absurd why
@@ -72,10 +73,10 @@ pub refused_stops : (before after : List ℕ) (told : Refusal) (why : Option pro
 refused_stops before after told why = ⊎_elim (memory_stops before after told) (protocol_stops before after told why)
 
 pub statement_stops : (before after : List ℕ) (told : Refusal) (why : Option protocol.Refusal) (schemas : List RelationSchema) (text : List ℕ) →
-    (told ≡ Memory) ⊎ (option_map refused_as why ≡ Some told) ⊎ ((why ≡ None) × (IsUnread schemas text told ⊎ (told ≡ Full))) → StopsFor before after told
+    (told ≡ Memory) ⊎ (option_map refused_as why ≡ Some told) ⊎ ((why ≡ None) × (IsNoStatement schemas text told ⊎ (told ≡ Full))) → StopsFor before after told
 statement_stops before after told why schemas text (inl memory) = memory_stops before after told memory
 statement_stops before after told why schemas text (inr (inl refused)) = protocol_stops before after told why refused
-statement_stops before after told why schemas text (inr (inr late)) = ⊎_elim (λ unread. subst (StopsFor before after) (sym unread.is) tt) (full_stops before after told) late.1
+statement_stops before after told why schemas text (inr (inr late)) = ⊎_elim (⊎_elim (λ unread. subst (StopsFor before after) (sym unread.is) tt) (λ refragment. subst (StopsFor before after) (sym refragment.is) tt)) (full_stops before after told) late.1
 
 -- a text that isn't read
 pub unreadable_stops : (before after : List ℕ) (told : Refusal) (schemas : List RelationSchema) (text : List ℕ) → IsUnreadable schemas text told → StopsFor before after told

@@ -2,7 +2,10 @@
 use Rattle.std.specs.Prelude.{◌≡◌, ◌≤◌, ◌⊎◌, ◌^◌, ℕ, Bool, suc, true, false, List, [], ◌∷◌, ◌++◌, map, Option, Some, None, Result, Ok, Err, if◌then◌else◌}
 use Rattle.meaning.specs.declared.answer.Answer.{Answer as AnswerNow}
 use Rattle.meaning.specs.declared.schema.RelationSchema.{RelationSchema}
+use Rattle.meaning.specs.declared.statement.Refragment.{Refragment}
 use Rattle.meaning.specs.declared.statement.Statement.{Statement}
+use Rattle.meaning.specs.declared.statement.Statement.TheVariants as statements
+use Rattle.meaning.specs.Statement.{is_refragment}
 use Rattle.meaning.specs.Whole.{Relations}
 use Rattle.reader.specs.declared.command.Command as commands
 use Rattle.reader.specs.declared.command.Command.TheVariants as command
@@ -20,7 +23,7 @@ use Rattle.desk.specs.declared.reply.Notice.{Notice}
 use Rattle.desk.specs.declared.reply.Reply.TheVariants.{Answer, Begun, Committed, RolledBack}
 use Rattle.desk.specs.Database.{Database, language}
 use Rattle.desk.specs.Place.{Place}
-use Rattle.desk.specs.Does.{StatesPastLimits}
+use Rattle.desk.specs.Does.{IsRefragment, StatesPastLimits}
 use Rattle.desk.specs.State.{notice_of}
 use Rattle.world.specs.declared.event.Call as calls
 use Rattle.world.specs.declared.event.Call.TheVariants as call
@@ -81,10 +84,11 @@ IsLone text (Refuses call.Begin refused ∷ []) reply = reply ≡ Err refused
 IsLone text other reply = ⊥
 
 -- ---- any command. current, later: the transaction that is open before and after it
--- it is refused at once, and makes no call: the text is no command's, BEGIN comes inside a transaction, or COMMIT or ROLLBACK outside one
+-- it is refused at once, and makes no call: the text is no command's, BEGIN comes inside a transaction, REFRAGMENT where no catalogue is next, or COMMIT or ROLLBACK outside one
 pub data IsMisplaced (schemas : List RelationSchema) (text : List ℕ) (current : Option Txn) (told : refusals.Refusal) : Type 0 where
   is_no_command : IsNoCommand schemas text told → IsMisplaced schemas text current told
   is_inside : (txn : Txn) → current ≡ Some txn → IsTextOf schemas text command.Begin → told ≡ refusal.Busy → IsMisplaced schemas text current told
+  has_no_next : (refragment : Refragment) → current ≡ None → IsTextOf schemas text (command.Run (statements.Refragment refragment)) → told ≡ refusal.NoNext → IsMisplaced schemas text current told
   is_outside : current ≡ None → IsTextOf schemas text command.Commit ⊎ IsTextOf schemas text command.Rollback → told ≡ refusal.NoTransaction → IsMisplaced schemas text current told
 
 -- the call that it makes, if it is no lone statement
@@ -103,11 +107,11 @@ pub data IsCommand (schemas : List RelationSchema) (text : List ℕ) (current la
   only_commits : (txn : Txn) (heard : List Notice) → moves ≡ Commits txn heard ∷ [] → IsCallOf schemas text current (call.Commit txn) → later ≡ None → reply ≡ Ok heard → IsCommand schemas text current later moves reply
   only_rolls_back : (txn : Txn) (heard : List Notice) → moves ≡ Rolls_back txn heard ∷ [] → IsCallOf schemas text current (call.Rollback txn) → later ≡ None → reply ≡ Ok heard → IsCommand schemas text current later moves reply
   is_turned_down : (asked : calls.Call) (told : refusals.Refusal) → moves ≡ Refuses asked told ∷ [] → IsCallOf schemas text current asked → later ≡ current → reply ≡ Err told → IsCommand schemas text current later moves reply
-  is_lone : (statement : Statement) → IsTextOf schemas text (command.Run statement) → current ≡ None → later ≡ None → IsLone text moves reply → IsCommand schemas text current later moves reply
+  is_lone : (statement : Statement) → IsTextOf schemas text (command.Run statement) → is_refragment statement ≡ false → current ≡ None → later ≡ None → IsLone text moves reply → IsCommand schemas text current later moves reply
 
 -- ---- what a command comes to, where the database stands
 -- its transaction has begun, is committed, is rolled back, or its statement is answered, and its client hears so; or something was refused on the way; or it is refused:
--- at once; a transaction can't begin, since the numbers have run out; or to state the statement would lead past the limits, in the open transaction or in the one that has begun for it alone
+-- at once; a transaction can't begin, since the numbers have run out; REFRAGMENT comes inside a transaction; or to state the statement would lead past the limits, in the open transaction or in the one that has begun for it alone
 pub data Outcome (db : Database) (text : List ℕ) (current later : Option Txn) (before after : Machines) (past : List (Deed (language db))) (moves : List Move) (made : Made db moves before after) (reply : Result (List Notice) refusals.Refusal) : Type 0 where
   has_begun : (txn : Txn) (heard : List Notice) → reply ≡ Ok heard → IsTextOf db.schemas text command.Begin → later ≡ Some txn → map notice_of heard ≡ (txn_name txn, Begun) ∷ [] → Outcome db text current later before after past moves made reply
   has_committed : (txn : Txn) (heard : List Notice) → reply ≡ Ok heard → IsTextOf db.schemas text command.Commit → current ≡ Some txn → map notice_of heard ≡ (txn_name txn, Committed) ∷ [] → Outcome db text current later before after past moves made reply
@@ -116,6 +120,7 @@ pub data Outcome (db : Database) (text : List ℕ) (current later : Option Txn) 
   is_hindered : (heard : List Notice) → reply ≡ Ok heard → SomeHindered db moves before after past made → Outcome db text current later before after past moves made reply
   is_misplaced : (told : refusals.Refusal) → reply ≡ Err told → later ≡ current → IsMisplaced db.schemas text current told → Outcome db text current later before after past moves made reply
   finds_no_number : (told : refusals.Refusal) → reply ≡ Err told → later ≡ current → told ≡ refusal.Full → current ≡ None → IsTextOf db.schemas text command.Begin ⊎ ((statement : Statement) × IsTextOf db.schemas text (command.Run statement)) → 2 ^ 63 ≤ suc before.table.number → Outcome db text current later before after past moves made reply
+  is_refragment_inside : (told : refusals.Refusal) → reply ≡ Err told → later ≡ current → (txn : Txn) → current ≡ Some txn → IsRefragment db.schemas text told → Outcome db text current later before after past moves made reply
   is_too_much : (told : refusals.Refusal) → reply ≡ Err told → later ≡ current → told ≡ refusal.Full → (txn : Txn) → current ≡ Some txn → StatesPastLimits db before.table txn text → Outcome db text current later before after past moves made reply
   is_too_much_alone : (told : refusals.Refusal) → reply ≡ Err told → later ≡ current → told ≡ refusal.Full → (txn : Txn) (began : Machines) (greeted : List Notice) → current ≡ None → DoesBegin db before txn began greeted → StatesPastLimits db began.table txn text → Outcome db text current later before after past moves made reply
 

@@ -13,7 +13,7 @@ use Rattle.desk.specs.declared.refusal.Refusal.TheVariants as refusal_of
 use Rattle.desk.specs.declared.refusal.Refusal.TheVariants.{Full}
 use Rattle.desk.specs.Request.{refused_as, txn_in}
 use Rattle.desk.specs.Database.{Database}
-use Rattle.desk.specs.Does.{IsUnread, StatesPastLimits}
+use Rattle.desk.specs.Does.{IsNoStatement, StatesPastLimits}
 use Rattle.desk.specs.State.{VolatileState, desk_of}
 use Rattle.world.specs.declared.sites.SiteAction as doing
 use Rattle.world.specs.declared.sites.SiteAction.TheVariants as things
@@ -37,7 +37,7 @@ use Rattle.world.specs.Taking.{stop_of}
 abbrev pub IsRefused : (db : Database) → VolatileState → calls.Call → refusals.Refusal → Type 0
 IsRefused db table call.Begin told = (told ≡ Full) × (is_desk_within (desk_began (desk_of db table)) ≡ false)
 IsRefused db table (call.State txn text) told = (statement : Statement) → (option_map refused_as (refusal (State (table.version, statement)) (txn_in db table txn)) ≡ Some told) ⊎
-    ((refusal (State (table.version, statement)) (txn_in db table txn) ≡ None) × (IsUnread db.schemas text told ⊎ ((told ≡ Full) × StatesPastLimits db table txn text)))
+    ((refusal (State (table.version, statement)) (txn_in db table txn) ≡ None) × (IsNoStatement db.schemas text told ⊎ ((told ≡ Full) × StatesPastLimits db table txn text)))
 IsRefused db table (call.Commit txn) told = option_map refused_as (refusal Commit_call (txn_in db table txn)) ≡ Some told
 IsRefused db table (call.Rollback txn) told = option_map refused_as (refusal Rollback (txn_in db table txn)) ≡ Some told
 IsRefused db table (call.GiveUp txn) told = ⊥

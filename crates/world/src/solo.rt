@@ -7,7 +7,6 @@ ghost use Rattle.catalog.specs.FragmentLeaf.{schemas_of};
 ghost use Rattle.catalog.specs.Relation.{catalogue_of};
 ghost use Rattle.reader.specs.declared.command.Command.TheVariants.{Begin, Commit, Rollback, Run};
 ghost use Rattle.reader.specs.declared.command.Command.{Command as CommandNow};
-ghost use Rattle.meaning.specs.declared.statement.Statement.{Statement};
 ghost use Rattle.store.specs.declared.name.Txn.{Txn as TxnNow};
 ghost use Rattle.world.specs.Commands.{Executes, IsCommand, IsNoCommand, IsUnreadable, UnlessStopped, heard_in};
 ghost use Rattle.reader.specs.Command.{IsTextOf};
@@ -53,6 +52,7 @@ use crate::transaction::{Outcome, Transaction, Unfinished};
 use catalog::catalogue::Catalog;
 use desk::refusal::Refusal;
 use desk::reply::Notice;
+use meaning::statement::Statement;
 use meaning::whole::Whole;
 use reader::command::Command;
 use reader::fault::{ReadFault, Rule};
@@ -287,13 +287,16 @@ impl<D: DeskStore, S: SiteStore> Solo<D, S> {
         }
     }
 
-    /// A statement: of the open transaction, or a transaction of its own.
-    fn states(&mut self, text: &str) -> Result<Vec<Notice>, Refusal>
+    /// A statement: of the open transaction, or a transaction of its own. A REFRAGMENT finds no catalogue that comes next.
+    fn states(&mut self, statement: &Statement, text: &str) -> Result<Vec<Notice>, Refusal>
         ensures comes { ComesTo (OfStores D.is_clean S.is_clean) (OfStores D.is_sound S.is_sound) (counted D.kept S.kept D.refused S.refused) self.old.machines self.new.machines result
-            (λ db done moves. (statement : Statement) → IsTextOf db.schemas text.now (Run statement) → IsCommand db.schemas text.now self.old.current self.new.current moves (heard_in (λ heard. heard.items) done)) }
+            (λ db done moves. IsTextOf db.schemas text.now (Run statement.now) → IsCommand db.schemas text.now self.old.current self.new.current moves (heard_in (λ heard. heard.items) done)) }
         ensures still { OnErr result (self.new.current ≡ self.old.current) }
     {
         let Some(txn) = self.current else {
+            if statement.is_refragment() {
+                return Err(Refusal::NoNext);
+            }
             return run_autocommit(&mut self.machines, text);
         };
         match state(&mut self.machines, txn, text) {
@@ -317,7 +320,7 @@ impl<D: DeskStore, S: SiteStore> Solo<D, S> {
             Command::Begin => self.begins(),
             Command::Commit => self.commits(),
             Command::Rollback => self.rolls_back(),
-            Command::Run(_) => self.states(text),
+            Command::Run(statement) => self.states(statement, text),
         }
     }
 

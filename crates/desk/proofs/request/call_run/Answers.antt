@@ -4,6 +4,7 @@ use Rattle.catalog.specs.Relation.{catalogue_of}
 use Rattle.protocol.specs.Desk.{State, on_request}
 use Rattle.protocol.specs.Letters.{txn_name}
 use Rattle.desk.specs.Does.{Runs, RunsPastLimits}
+use Rattle.meaning.specs.Statement.{is_refragment}
 use Rattle.desk.specs.Request.{txn_in}
 use Rattle.desk.specs.Planned.{IsOfPlan, ask_from}
 use Rattle.desk.specs.State.{volatile_of}
@@ -24,6 +25,7 @@ returns-in-Ok-clause-ok c = λ db kept of same fits.
     let planned = plan_made db of volatile.version catalogue same c.args.statement.now plan asks c.requires c.in_ok-plan.ensures.fetches c.in_ok-plan.ensures.finds list in
     let goes = c.in-Ok.ensures.goes db kept stands.0 of same fits stands.1 stands.2 (subst (λ s. IsOfPlan db volatile.version s plan asks) (sym c.in_ok-copy.ensures) planned) (list ∙ ap (λ cat. map (ask_from cat) plan.fetches) (sym same)) in
     subst (λ s. Runs db (volatile_of volatile) kept (volatile_of c.start.new.volatile) c.args.txn s c.put_out.result.letters c.put_out.result.replies) c.in_ok-copy.ensures (record {
+      ordinary = ap is_refragment c.in_ok-copy.ensures ∙ sym c.is_refragment.ensures ∙ c.if-is_refragment.false;
       choice = goes.does.choice;
       steps = steps_on db kept volatile c.start.ensures.ordered fits c.args.txn stands.0 stands.1 (λ choice. on_request (txn_name c.args.txn) choice (State (volatile.version, statement)) (txn_in db (volatile_of volatile) c.args.txn)) (volatile_of c.start.new.volatile) c.in-Ok.step goes
           c.put_out.result.letters c.put_out.result.replies c.put_out.ensures.letters (c.put_out.ensures.replies c.in_ok-room.ensures.empty);

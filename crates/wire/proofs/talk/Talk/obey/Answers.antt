@@ -1,10 +1,11 @@
 -- Why `obey` meets its contract.
 use Rattle.std.proofs.Common.{◌≡◌, ◌⊎◌, Result, OnOk, IfErr, inl, inr, refl, subst, sym, ⊎_elim}
-use Rattle.reader.specs.declared.command.Command.TheVariants.{Begin, Commit, Rollback}
+use Rattle.meaning.specs.declared.statement.Statement.TheVariants.{Refragment}
+use Rattle.reader.specs.declared.command.Command.TheVariants.{Begin, Commit, Rollback, Run}
 use Rattle.wire.specs.declared.fault.CallFault.{CallFault}
 use Rattle.wire.specs.declared.fault.CallFault.TheVariants as faults
 use Rattle.wire.specs.declared.talk.Heard.{Heard}
-use Rattle.wire.proofs.Reading.{only_memory}
+use Rattle.wire.proofs.Reading.{no_memory, only_memory}
 use Rattle.wire.proofs.talk.Talk.obey.Goals as goal
 
 pub returns-in-Err-clause-outside : goal.returns-in-Err-clause-outside
@@ -20,3 +21,12 @@ returns-clause-outside g c = λ none spelled.
     let misplaced : (c.in-Ok.command ≡ Commit) ⊎ (c.in-Ok.command ≡ Rollback) = ⊎_elim (λ commits. inl (one Commit c.in-Ok.ensures.read commits)) (λ rolls_back. inr (one Rollback c.in-Ok.ensures.read rolls_back)) spelled in
     let is = c.obey_outside.ensures.outside misplaced in
     subst (λ (result : Result Heard CallFault). OnOk result ⊥ × IfErr result (λ told. (told ≡ faults.NoTransaction) ⊎ (told ≡ faults.Memory))) (sym is) (tt, inl refl)
+
+pub returns-in-Err-clause-no_next : goal.returns-in-Err-clause-no_next
+returns-in-Err-clause-no_next g c = λ refragment none spelled. (tt, inr (no_memory c.args.self.now.shared.now.schema.relations c.args.text.now c.in-Err.fault c.in-Err.ensures.unread (Run (Refragment refragment)) spelled))
+
+pub returns-clause-no_next : goal.returns-clause-no_next
+returns-clause-no_next g c = λ refragment none spelled.
+    let one = c.one_command.ensures c.args.self.now.shared.now.schema.relations c.args.text.now c.in-Ok.command in
+    let is = c.obey_outside.ensures.no_next refragment (one (Run (Refragment refragment)) c.in-Ok.ensures.read spelled) in
+    subst (λ (result : Result Heard CallFault). OnOk result ⊥ × IfErr result (λ told. (told ≡ faults.NoNext) ⊎ (told ≡ faults.Memory))) (sym is) (tt, inl refl)

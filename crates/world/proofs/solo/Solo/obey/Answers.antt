@@ -35,4 +35,4 @@ returns-in-Run-clause-comes g c =
     let sound = OfStores g.D.DeskStore.is_sound g.S.SiteStore.is_sound in
     let view = counted g.D.DeskStore.kept g.S.SiteStore.kept g.D.DeskStore.refused g.S.SiteStore.refused in
     let old = c.args.self.now.machines in
-    narrowed clean sound view old c.states.new.self.machines c.states.result (λ db moves so spelled. so c.in-Run.field-0 (subst (IsTextOf db.schemas c.args.text.now) c.in-Run.is spelled)) c.states.ensures.comes
+    narrowed clean sound view old c.states.new.self.machines c.states.result (λ db moves so spelled. so (subst (IsTextOf db.schemas c.args.text.now) c.in-Run.is spelled)) c.states.ensures.comes

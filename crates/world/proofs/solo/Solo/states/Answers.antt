@@ -1,6 +1,6 @@
 -- Why `states` meets its contract.
 use Rattle.std.proofs.Common.{refl, sym, subst, ◌∙◌, inl, inr, ⊎_elim}
-use Rattle.world.proofs.Calls.{as_kind, lone_command}
+use Rattle.world.proofs.Calls.{as_kind, finds_none_next, lone_command}
 use Rattle.world.specs.Client.{still_open}
 use Rattle.world.specs.Commands.{is_turned_down, only_states}
 use Rattle.world.specs.Contents.{OfStores, counted}
@@ -19,7 +19,7 @@ returns-in-Ok-clause-comes g c =
     let txn = c.in-Some.txn in
     let first = subst (λ r. ComesTo clean sound view old new r (λ db. IsOne (λ heard. States txn c.args.text.now heard.items) (call.State txn c.args.text.now))) c.in-Ok.is c.state.ensures in
     as_kind clean sound view old new _ _ (λ blamed. tt)
-    (λ db of is made. record { moves = made.moves; made = made.made; is = λ statement spelled. only_states txn c.args.text.now c.in-Ok.heard.items made.is ((statement, spelled), c.in-Some.is, refl) (c.still_open-self.ensures ∙ (λ i. still_open (sym c.in-Some.is i) (c.as_slice.ensures.value i))) refl }) first
+    (λ db of is made. record { moves = made.moves; made = made.made; is = λ spelled. only_states txn c.args.text.now c.in-Ok.heard.items made.is ((c.args.statement.now, spelled), c.in-Some.is, refl) (c.still_open-self.ensures ∙ (λ i. still_open (sym c.in-Some.is i) (c.as_slice.ensures.value i))) refl }) first
 
 pub returns-in-Err-clause-comes : goal.returns-in-Err-clause-comes
 returns-in-Err-clause-comes g c =
@@ -32,7 +32,14 @@ returns-in-Err-clause-comes g c =
     let told = c.in-Err.refusal in
     let first = subst (λ r. ComesTo clean sound view old new r (λ db. IsOne (λ heard. States txn c.args.text.now heard.items) (call.State txn c.args.text.now))) c.in-Err.is c.state.ensures in
     as_kind clean sound view old new _ _ (λ blamed. blamed)
-    (λ db of is makes. ⊎_elim (λ stops. inl stops) (λ made. inr (record { moves = made.moves; made = made.made; is = λ statement spelled. is_turned_down (call.State txn c.args.text.now) told made.is ((statement, spelled), c.in-Some.is, refl) refl refl })) makes) first
+    (λ db of is makes. ⊎_elim (λ stops. inl stops) (λ made. inr (record { moves = made.moves; made = made.made; is = λ spelled. is_turned_down (call.State txn c.args.text.now) told made.is ((c.args.statement.now, spelled), c.in-Some.is, refl) refl refl })) makes) first
+
+pub returns-then-is_refragment-clause-comes : goal.returns-then-is_refragment-clause-comes
+returns-then-is_refragment-clause-comes g c =
+    let clean = OfStores g.D.DeskStore.is_clean g.S.SiteStore.is_clean in
+    let sound = OfStores g.D.DeskStore.is_sound g.S.SiteStore.is_sound in
+    let view = counted g.D.DeskStore.kept g.S.SiteStore.kept g.D.DeskStore.refused g.S.SiteStore.refused in
+    finds_none_next clean sound view c.args.self.now.machines c.args.text.now c.args.self.now.current c.args.statement.now (sym c.is_refragment.ensures ∙ c.if-is_refragment.true) c.in_default.is
 
 pub returns-in_default-clause-comes : goal.returns-in_default-clause-comes
 returns-in_default-clause-comes g c =
@@ -41,4 +48,4 @@ returns-in_default-clause-comes g c =
     let view = counted g.D.DeskStore.kept g.S.SiteStore.kept g.D.DeskStore.refused g.S.SiteStore.refused in
     let old = c.args.self.now.machines in
     let new = c.run_autocommit.new.machines in
-    lone_command clean sound view old new c.run_autocommit.result c.args.text.now c.args.self.now.current c.in_default.is c.run_autocommit.ensures
+    lone_command clean sound view old new c.run_autocommit.result c.args.text.now c.args.self.now.current c.args.statement.now (sym c.is_refragment.ensures ∙ c.if-is_refragment.false) c.in_default.is c.run_autocommit.ensures
