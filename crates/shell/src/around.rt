@@ -1,138 +1,129 @@
-//! What stands around a fault: the text, its tokens, and the columns that it can speak of.
+//! What stands around a fault: the words of the text, and the relations that it speaks of.
 
-use crate::tokens::{is_keyword, is_sign, name, name_behind};
-use meaning::schema::{Column, RelationSchema, Schema};
-use reader::keyword::Keyword;
-use reader::sign::Sign;
-use reader::token::Placed;
+use crate::Made;
+use crate::names::listed;
+use crate::window::split_at;
+use meaning::schema::{Column, RelationSchema};
+use reader::fault::Rule;
+use reader::lexer::tokens;
 use std::alloc::{AllocError, Global};
 
-/// What a text is read as.
-#[derive(Clone, Copy, Debug, PartialEq, Eq)]
-pub(crate) enum Grammar {
-    Command,
-    Conditions,
-}
-
-/// Columns that a text can speak of.
-#[derive(Clone, Copy, Debug)]
+/// A relation that a text speaks of.
+#[derive(Drop)]
 pub(crate) struct Table<'a> {
     pub name: &'a str,
     pub columns: &'a [Column],
+    /// The names of the columns, with commas between.
+    pub list: String,
 }
 
-/// A text with its tokens, and what it can speak of.
-#[derive(Clone, Copy, Debug)]
+/// A text as it stands around a fault.
+#[derive(Drop)]
 pub(crate) struct Around<'a> {
-    pub text: &'a str,
-    pub grammar: Grammar,
-    /// None where the text is refused before it has any.
-    pub tokens: &'a [Placed<'a>],
+    pub alloc: Global,
+    /// Whether it is read as a statement, and not as conditions.
+    pub is_statement: bool,
+    /// What stands before the fault, and the rest.
+    pub front: &'a str,
+    pub rest: &'a str,
+    /// The tokens of both; none where the text is refused before it has any.
+    pub before: &'a [&'a str],
+    pub from: &'a [&'a str],
+    /// The relations that it names, and all that there are.
     pub tables: &'a [Table<'a>],
     pub relations: &'a [RelationSchema],
 }
 
-/// The relations that a statement names and the schema has, in their order.
-pub(crate) fn tables<'a>(
-    alloc: Global,
-    schema: &'a Schema,
-    tokens: &'a [Placed<'a>],
-) -> Result<Vec<Table<'a>>, AllocError> {
-    let mut tables = Vec::new(alloc);
-    for keyword in [Keyword::From, Keyword::Into, Keyword::Update] {
-        if let Some(name) = name_behind(tokens, keyword) {
-            add_table(&mut tables, schema, name)?;
+/// The tokens of a text as they are written, and how many of them begin before an offset.
+pub(crate) fn words(alloc: Global, text: &str, offset: usize) -> Made<(Vec<&str>, usize)> {
+    let mut words = Vec::new(alloc);
+    let mut at: usize = 0;
+    let tokens = match tokens(alloc, text.as_bytes()) {
+        Ok(tokens) => tokens,
+        Err(fault) if fault.rule() == Rule::Memory => return Err(AllocError),
+        Err(_) => return Ok((words, at)),
+    };
+    let mut end = text.len();
+    for placed in tokens.iter().rev() {
+        let (_, word) = split_at(split_at(text, end).0, placed.offset);
+        words.push(word.trim_ascii_end())?;
+        end = placed.offset;
+        if placed.offset < offset {
+            at = at.saturating_add(1);
         }
     }
-    for index in 0..tokens.len() {
-        if is_keyword(tokens, index, Keyword::Join) {
-            if let Some(name) = name(tokens, index.saturating_add(1)) {
-                add_table(&mut tables, schema, name)?;
+    words.reverse();
+    Ok((words, at))
+}
+
+/// The relations that a statement of these words names, in their order.
+pub(crate) fn tables<'a>(
+    alloc: Global,
+    relations: &'a [RelationSchema],
+    words: &[&str],
+) -> Made<Vec<Table<'a>>> {
+    let mut tables = Vec::new(alloc);
+    let mut before = "";
+    for word in words {
+        let is_named = count(&["FROM", "JOIN", "INTO", "UPDATE"], before) > 0;
+        for relation in relations {
+            if is_named && relation.name.as_str() == *word {
+                tables.push(table_of(alloc, relation)?)?;
             }
         }
+        before = word;
     }
     Ok(tables)
 }
 
-fn add_table<'a>(
-    tables: &mut Vec<Table<'a>>,
-    schema: &'a Schema,
-    name: &str,
-) -> Result<(), AllocError> {
-    if let Some(relation) = schema.relation(name.as_bytes()) {
-        tables.push(table_of(relation))?;
+fn table_of(alloc: Global, relation: &RelationSchema) -> Made<Table<'_>> {
+    let (name, columns) = (relation.name.as_str(), relation.columns.as_slice());
+    let mut names = Vec::new(alloc);
+    for column in columns {
+        names.push(column.name.as_str())?;
     }
-    Ok(())
+    let list = listed(alloc, names.as_slice(), ", ", ", ")?;
+    Ok(Table {
+        name,
+        columns,
+        list,
+    })
 }
 
-/// A relation's columns under its name.
-pub(crate) fn table_of(relation: &RelationSchema) -> Table<'_> {
-    Table {
-        name: relation.name.as_str(),
-        columns: relation.columns.as_slice(),
+/// How many of the words are this keyword or sign.
+pub(crate) fn count(words: &[&str], wanted: &str) -> usize {
+    let mut count: usize = 0;
+    for word in words {
+        if word.eq_ignore_ascii_case(wanted) {
+            count = count.saturating_add(1);
+        }
     }
-}
-
-/// A column as it is written.
-#[derive(Clone, Copy, Debug)]
-pub(crate) struct Written<'a> {
-    pub qualifier: Option<&'a str>,
-    pub name: &'a str,
+    count
 }
 
 impl<'a> Around<'a> {
-    /// The column that begins with this token.
-    pub(crate) fn column_at(&self, index: usize) -> Option<Written<'a>> {
-        let first = name(self.tokens, index)?;
-        if is_sign(self.tokens, index.saturating_add(1), Sign::Dot) {
-            let second = name(self.tokens, index.saturating_add(2))?;
-            Some(Written {
-                qualifier: Some(first),
-                name: second,
-            })
-        } else {
-            Some(Written {
-                qualifier: None,
-                name: first,
-            })
-        }
-    }
-
-    /// The column that ends with this token.
-    pub(crate) fn column_to(&self, index: usize) -> Option<Written<'a>> {
-        if index >= 2 && is_sign(self.tokens, index - 1, Sign::Dot) {
-            self.column_at(index - 2)
-        } else {
-            self.column_at(index)
-        }
-    }
-
-    /// The column that is meant, the first one where several are.
-    pub(crate) fn meant(&self, written: Written<'_>) -> Option<&'a Column> {
+    /// The column of this name, and of this relation where it is no empty text; the first one where several are.
+    pub(crate) fn column(&self, relation: &str, name: &str) -> Option<&'a Column> {
         for table in self.tables {
-            if may_be_of(table, written.qualifier) {
-                if let Some(column) = column_named(table.columns, written.name) {
+            let is_meant = relation.is_empty() || table.name == relation;
+            for column in table.columns {
+                if is_meant && column.name.as_str() == name {
                     return Some(column);
                 }
             }
         }
         None
     }
-}
 
-/// Whether a column with this qualifier may be one of the table.
-pub(crate) fn may_be_of(table: &Table<'_>, qualifier: Option<&str>) -> bool {
-    match qualifier {
-        None => true,
-        Some(qualifier) => qualifier == table.name,
+    /// The column that the value at the fault is for, or is compared with.
+    pub(crate) fn target(&self) -> Option<&'a Column> {
+        match (self.before, self.tables) {
+            ([insert, ..], [table, ..]) if insert.eq_ignore_ascii_case("INSERT") => {
+                table.columns.get(count(self.before, ","))
+            }
+            ([.., relation, ".", name, _], _) => self.column(relation, name),
+            ([.., name, _], _) => self.column("", name),
+            _ => None,
+        }
     }
-}
-
-/// Whether a table has a column of this name.
-pub(crate) fn has_column(table: &Table<'_>, name: &str) -> bool {
-    column_named(table.columns, name).is_some()
-}
-
-fn column_named<'a>(columns: &'a [Column], name: &str) -> Option<&'a Column> {
-    columns.iter().find(|column| column.name.as_str() == name)
 }

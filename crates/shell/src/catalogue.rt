@@ -6,12 +6,9 @@ ghost use Rattle.toml.specs.Parse.{parse_document};
 ghost use Rattle.shell.specs.Lines.{EndsPointed};
 ghost use Rattle.shell.specs.Told.{Tells, relation_front, sentence};
 
-use crate::cells::{Inexact, put_split};
-use crate::document::relation_at;
-use crate::faults::put_places;
-use crate::text::split_at;
-use crate::window::{line_of, put_line, shown};
-use catalog::fault::{CatFault, Cell, Rule};
+use crate::place::place_of;
+use crate::window::{line_at, put_line, split_at};
+use catalog::fault::{CatFault, Rule};
 use std::alloc::{AllocError, Global};
 use terms::text::Text;
 use toml::Value;
@@ -44,39 +41,31 @@ fn no_toml(alloc: Global, text: &str, error: &toml::de::Error) -> Result<String,
         Some(span) => span.start,
         None => 0,
     };
-    put_place(&mut out, alloc, text, offset)?;
-    Ok(out)
-}
-
-/// The line of a text in which an offset is, with a caret below it.
-fn put_place(out: &mut String, alloc: Global, text: &str, offset: usize) -> Result<(), AllocError>
-    ensures { OnOk result (EndsPointed (string_bytes out.new)) }
-{
-    let (before, behind) = split_at(text, offset);
-    let before = match before.rsplit_once('\n') {
-        Some((_, last)) => last,
-        None => before,
+    let (before, _) = split_at(text, offset);
+    let column = match before.rsplit_once('\n') {
+        Some((_, last)) => last.len(),
+        None => before.len(),
     };
-    let behind = match behind.split_once('\n') {
+    let (_, line) = split_at(text, before.len().saturating_sub(column));
+    let line = match line.split_once('\n') {
         Some((first, _)) => first,
-        None => behind,
+        None => line,
     };
-    let before = shown(alloc, before)?;
-    let behind = shown(alloc, behind)?;
-    let line = line_of(alloc, before.as_slice(), behind.as_slice())?;
-    put_line(out, &line)
+    let (line, column) = line_at(alloc, line, column)?;
+    put_line(&mut out, line.as_str(), column)?;
+    Ok(out)
 }
 
 /// What is told of a fault of a document.
 fn of_document(alloc: Global, root: &Value, fault: &CatFault) -> Result<String, AllocError>
     ensures { IfOk result (λ lines. Tells fault.now (string_bytes lines)) }
 {
-    let more = place_of(alloc, root, fault)?;
+    let place = place_of(alloc, root, fault)?;
     let mut out = String::new(alloc);
     put_relation(&mut out, fault.relation())?;
     put_sentence(&mut out, fault.rule())?;
     out.push('\n')?;
-    out.push_str(more.as_str())?;
+    out.push_str(place.as_str())?;
     Ok(out)
 }
 
@@ -109,42 +98,5 @@ fn put_sentence(out: &mut String, rule: &Rule) -> Result<(), AllocError>
         Rule::Overlap(cell) => write!(out, "more than one branch takes the row {cell}"),
         Rule::Limit => out.push_str("something is larger than a catalogue may be"),
         Rule::Memory => out.push_str("memory ran out, which says nothing of the text"),
-    }
-}
-
-/// Where a document breaks a rule, and what could stand there, in lines.
-fn place_of(alloc: Global, root: &Value, fault: &CatFault) -> Result<String, AllocError> {
-    let mut out = String::new(alloc);
-    match fault.rule() {
-        Rule::Gap(cell) => put_cell(&mut out, alloc, root, fault.relation(), cell, Inexact::Gap)?,
-        Rule::Overlap(cell) => {
-            put_cell(
-                &mut out,
-                alloc,
-                root,
-                fault.relation(),
-                cell,
-                Inexact::Overlap,
-            )?
-        }
-        _ => put_places(&mut out, alloc, root, fault)?,
-    }
-    Ok(out)
-}
-
-fn put_cell(
-    out: &mut String,
-    alloc: Global,
-    root: &Value,
-    name: Option<&Text>,
-    cell: &Cell,
-    inexact: Inexact,
-) -> Result<(), AllocError> {
-    let Some(name) = name else {
-        return Ok(());
-    };
-    match relation_at(root, name.as_str()) {
-        Some(relation) => put_split(out, alloc, relation, cell, inexact),
-        None => Ok(()),
     }
 }

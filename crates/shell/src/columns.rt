@@ -145,7 +145,11 @@ fn put_filling(out: &mut String, width: usize, text: &str) -> Result<(), AllocEr
 }
 
 /// Puts a character of ASCII so many times.
-fn put_repeated(out: &mut String, count: usize, character: char) -> Result<(), AllocError>
+pub(crate) fn put_repeated(
+    out: &mut String,
+    count: usize,
+    character: char,
+) -> Result<(), AllocError>
     requires { character < 128 }
     ensures { OnOk result (string_bytes out.new ≡ string_bytes out.old ++ replicate count character) }
 {

@@ -12,26 +12,26 @@
 //! ```
 #![tactic(auto)]
 
+use std::alloc::AllocError;
+
+/// What was made, unless memory ran out.
+pub(crate) type Made<T> = Result<T, AllocError>;
+
+/// A text that is told, empty where there is nothing to tell.
+pub(crate) type Told = Made<String>;
+
 mod around;
 pub mod catalogue;
-mod cells;
 pub mod columns;
 pub mod csv;
 mod document;
-mod faults;
-mod found;
-mod hint;
-mod hints;
 pub mod json;
-mod keys;
-mod limits;
-mod misnamed;
 pub mod mode;
+mod names;
 pub mod nearest;
+mod place;
 pub mod sentence;
 mod separated;
-mod text;
-mod tokens;
-mod types;
+mod told;
 mod wanted;
 mod window;

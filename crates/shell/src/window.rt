@@ -1,138 +1,84 @@
-//! The part of a text that is shown around a place.
+//! The part of a text that is shown around a place, with a caret below it.
 
-ghost use Rattle.std.specs.Prelude.{◌≡◌, ◌++◌, OnOk, replicate, string_bytes};
-ghost use Rattle.shell.specs.Lines.{pointed};
+ghost use Rattle.std.specs.Prelude.{◌≡◌, ◌++◌, true, length, min, IfOk, OnOk, string_bytes};
+ghost use Rattle.std.specs.List.{list_all};
+ghost use Rattle.shell.specs.Lines.{is_plain, is_short, pointed};
 
-use std::alloc::{AllocError, Global};
-use unicode_width::UnicodeWidthChar;
+use crate::Made;
+use crate::columns::put_repeated;
+use std::alloc::Global;
+use unicode_width::{UnicodeWidthChar, UnicodeWidthStr};
 
 /// The most columns of a text that is shown whole.
-pub(crate) const WHOLE: usize = 72;
+const WHOLE: usize = 72;
 
 /// The most columns of each of its halves where it isn't, without the dots.
 const HALF: usize = 33;
 
-/// What stands for a part that isn't shown.
-const DOTS: &str = "...";
-
-/// The characters of a text as they are shown: a space for one that has no width, as a tab.
-pub(crate) fn shown(alloc: Global, text: &str) -> Result<Vec<char>, AllocError> {
-    text.chars()
-        .map(|character| if character.width().is_none() {
-            ' '
-        } else {
-            character
-        })
-        .collect(alloc)
-}
-
-/// The columns of a character, one for a space.
-fn columns_of(character: char) -> usize {
-    character.width().unwrap_or(1)
-}
-
-/// The columns of characters beside one another.
-pub(crate) fn columns(characters: &[char]) -> usize {
-    characters.iter().fold(
-        0,
-        |sum: usize, character| sum.saturating_add(columns_of(*character)),
-    )
-}
-
-/// The longest end of the characters with at most so many columns.
-fn back_within(characters: &[char], room: usize) -> &[char] {
-    let mut wide = columns(characters);
-    let mut rest = characters;
-    while let Some((first, behind)) = rest.split_first() {
-        if wide <= room {
-            return rest;
-        }
-        wide = wide.saturating_sub(columns_of(*first));
-        rest = behind;
-    }
-    rest
-}
-
-/// The longest front of the characters with at most so many columns.
-fn front_within(characters: &[char], room: usize) -> &[char] {
-    let mut left = room;
-    for (index, character) in characters.iter().enumerate() {
-        let wide = columns_of(*character);
-        if wide > left {
-            return &characters[..index];
-        }
-        left -= wide;
-    }
-    characters
-}
-
-/// A line of a text, and the column of a place in it.
-#[derive(Drop)]
-pub(crate) struct Line {
-    pub text: String,
-    pub column: usize,
-}
-
-/// What stands before a place and behind it, or the parts of both that are near.
-pub(crate) fn line_of(alloc: Global, before: &[char], behind: &[char]) -> Result<Line, AllocError> {
-    let mut text = String::new(alloc);
-    if columns(before).saturating_add(columns(behind)) <= WHOLE {
-        put_characters(&mut text, before)?;
-        put_characters(&mut text, behind)?;
-        let column = columns(before);
-        return Ok(Line { text, column });
-    }
-    let column = put_end(&mut text, before)?;
-    put_front(&mut text, behind)?;
-    Ok(Line { text, column })
-}
-
-/// The line, and below it one with a caret at its column.
-pub(crate) fn put_line(out: &mut String, line: &Line) -> Result<(), AllocError>
-    ensures { OnOk result (string_bytes out.new ≡ string_bytes out.old ++ pointed (string_bytes line.now.text) line.now.column) }
+/// Puts a line, and below it one with a caret at a column.
+pub(crate) fn put_line(out: &mut String, line: &str, column: usize) -> Made<()>
+    ensures { OnOk result (string_bytes out.new ≡ string_bytes out.old ++ pointed line.now column) }
 {
-    out.push_str(line.text.as_str())?;
+    out.push_str(line)?;
     out.push('\n')?;
-    put_spaces(out, line.column)?;
+    put_repeated(out, column, ' ')?;
     out.push_str("^\n")
 }
 
-fn put_spaces(out: &mut String, count: usize) -> Result<(), AllocError>
-    ensures { OnOk result (string_bytes out.new ≡ string_bytes out.old ++ replicate count 32) }
+/// A text, or what of it is near an offset, and the column of that place in it.
+pub(crate) fn line_at(alloc: Global, text: &str, offset: usize) -> Made<(String, usize)>
+    ensures whole { IfOk result (λ line. is_short text.now ≡ true → string_bytes line.0 ≡ text.now) }
+    ensures below { IfOk result (λ line. is_short text.now ≡ true → line.1 ≡ min offset (length text.now)) }
 {
-    for index in 0..count {
-        let _ = index;
-        out.push(' ')?;
+    if is_short(text) {
+        return Ok((String::from_str(alloc, text)?, offset.min(text.len())));
     }
-    Ok(())
+    let room = if text.width() <= WHOLE { WHOLE } else { HALF };
+    let (before, behind) = split_at(text, offset);
+    let mut before: Vec<char> = before.chars().collect(alloc)?;
+    before.reverse();
+    let (mut near, column) = front_within(alloc, before.as_slice(), room)?;
+    near.reverse();
+    let behind: Vec<char> = behind.chars().collect(alloc)?;
+    let (front, _) = front_within(alloc, behind.as_slice(), room)?;
+    near.extend_from_slice(front.as_slice())?;
+    Ok((near.iter().copied().collect(alloc)?, column))
 }
 
-fn put_characters(out: &mut String, characters: &[char]) -> Result<(), AllocError> {
+/// Whether a text is shown whole, and has a column for each byte.
+fn is_short(text: &str) -> bool
+    ensures { result ≡ is_short text.now }
+{
+    text.len() <= WHOLE && are_plain(text.as_bytes())
+}
+
+fn are_plain(bytes: &[u8]) -> bool
+    ensures { result ≡ list_all is_plain bytes.now }
+{
+    bytes.iter().all(|byte| *byte >= b' ' && *byte <= b'~')
+}
+
+/// What stands before an offset, and the rest. An offset inside of a character or beyond the text is its end.
+pub(crate) fn split_at(text: &str, offset: usize) -> (&str, &str) {
+    text.split_at_checked(offset).unwrap_or((text, ""))
+}
+
+/// The front of the characters with at most so many columns, dots where it isn't all, and the columns of both; a space
+/// stands for a character that has no width, as a tab.
+fn front_within(alloc: Global, characters: &[char], room: usize) -> Made<(Vec<char>, usize)> {
+    let mut front = Vec::new(alloc);
+    let mut wide: usize = 0;
     for character in characters {
-        out.push(*character)?;
+        let (shown, width) = match character.width() {
+            Some(width) => (*character, width),
+            None => (' ', 1),
+        };
+        if wide.saturating_add(width) > room {
+            front.extend_from_slice(&['.', '.', '.'])?;
+            return Ok((front, wide.saturating_add(3)));
+        }
+        front.push(shown)?;
+        wide = wide.saturating_add(width);
     }
-    Ok(())
-}
-
-/// The end of the characters behind dots, or all where they are few; the columns that these take.
-fn put_end(out: &mut String, characters: &[char]) -> Result<usize, AllocError> {
-    let near = back_within(characters, HALF);
-    if near.len() < characters.len() {
-        out.push_str(DOTS)?;
-        put_characters(out, near)?;
-        Ok(columns(near).saturating_add(DOTS.len()))
-    } else {
-        put_characters(out, characters)?;
-        Ok(columns(characters))
-    }
-}
-
-/// The front of the characters and dots, or all where they are few.
-fn put_front(out: &mut String, characters: &[char]) -> Result<(), AllocError> {
-    let near = front_within(characters, HALF);
-    put_characters(out, near)?;
-    if near.len() < characters.len() {
-        out.push_str(DOTS)?;
-    }
-    Ok(())
+    Ok((front, wide))
 }
