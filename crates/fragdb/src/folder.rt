@@ -39,6 +39,10 @@ pub fn enter<'a>(
 ) -> Result<Standing, ProgramFault<'a>>
     ensures err { IfErr result IsOfClient }
 {
+    // No name at all would be the root, as it stands before the names of the files.
+    if dir.is_empty() {
+        return Err(unusable());
+    }
     fs::create_dir_all(rt, dir).map_err(|error| refused(&error))?;
     look_into(rt, dir, catalog)
 }
@@ -68,11 +72,13 @@ pub fn look_into<'a>(
 }
 
 /// Writes the catalogue into a new folder, once the files of its stores are there: the text of the file `source`, or the built-in
-/// one. It stands there whole or not at all.
+/// one. It stands there whole or not at all, and is on the disk under its name. A source that gives another text the second
+/// time, as a pipe does, is refused.
 pub fn keep_catalogue<'a>(
     rt: &HostRuntime,
     dir: &str,
     source: Option<&str>,
+    catalog: &Catalog,
     standing: Standing,
 ) -> Result<(), ProgramFault<'a>>
     ensures err { IfErr result IsOfClient }
@@ -82,7 +88,14 @@ pub fn keep_catalogue<'a>(
     }
     let unfinished = path_in(rt.alloc(), dir, UNFINISHED)?;
     let path = path_in(rt.alloc(), dir, CATALOGUE)?;
-    put_text(rt, unfinished.as_str(), path.as_str(), source).map_err(|error| refused(&error))
+    write_text(rt, unfinished.as_str(), source).map_err(|error| refused(&error))?;
+    let written = fs::open(rt, unfinished.as_str()).map_err(|error| refused(&error))?;
+    match is_of(rt.alloc(), written, catalog) {
+        Ok(true) => {}
+        Err(ProgramFault::Memory) => return Err(ProgramFault::Memory),
+        _ => return Err(unusable()),
+    }
+    name_text(rt, dir, unfinished.as_str(), path.as_str()).map_err(|error| refused(&error))
 }
 
 /// The path of a file in a folder.
@@ -123,15 +136,10 @@ pub fn has_store<'a>(rt: &HostRuntime, dir: &str, name: &str) -> Result<bool, Pr
     fs::exists(rt, path.as_str()).map_err(|error| refused(&error))
 }
 
-/// Writes a catalogue's text into a file, and then gives that the name under which it is read.
-fn put_text(
-    rt: &HostRuntime,
-    unfinished: &str,
-    path: &str,
-    source: Option<&str>,
-) -> io::Result<()> {
-    write_text(rt, unfinished, source)?;
-    fs::rename(rt, unfinished, path)
+/// Gives the file of a catalogue the name under which it is read, and waits until the name is on the disk.
+fn name_text(rt: &HostRuntime, dir: &str, unfinished: &str, path: &str) -> io::Result<()> {
+    fs::rename(rt, unfinished, path)?;
+    fs::open(rt, dir)?.sync_all()
 }
 
 /// Writes a catalogue's text into the file of this path, and waits until it is on the disk.
@@ -153,9 +161,16 @@ fn refused<'a>(error: &io::Error) -> ProgramFault<'a>
 {
     match error.kind() {
         ErrorKind::OutOfMemory => ProgramFault::Memory,
-        _ => ProgramFault::Store {
-            fault: StoreFault::Refused,
-        },
+        _ => unusable(),
+    }
+}
+
+/// What stops the program where the folder can't be used at all.
+fn unusable<'a>() -> ProgramFault<'a>
+    ensures { IsOfClient result }
+{
+    ProgramFault::Store {
+        fault: StoreFault::Refused,
     }
 }
 

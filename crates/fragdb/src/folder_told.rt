@@ -140,7 +140,7 @@ fn tell_site<M: Alter + Drop, F: OpensFiles<M>, E: Write>(
         Look::Absent => words_of_none(standing),
         Look::Closed(why) => Some(why),
         Look::Open => {
-            let found = match file_site(rt.alloc(), files, dir, catalog, place) {
+            let found = match file_site(rt.alloc(), files, dir, catalog, place, standing) {
                 Ok(mut site) => site.rows().err(),
                 Err(fault) => store_fault(fault),
             };
@@ -162,7 +162,7 @@ fn tell_desk<M: Alter + Drop, F: OpensFiles<M>, E: Write>(
         Look::Absent => words_of_none(standing),
         Look::Closed(why) => Some(why),
         Look::Open => {
-            let found = match file_desk(rt.alloc(), files, dir) {
+            let found = match file_desk(rt.alloc(), files, dir, standing) {
                 Ok(mut desk) => desk.load().err(),
                 Err(fault) => store_fault(fault),
             };

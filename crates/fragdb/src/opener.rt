@@ -9,7 +9,7 @@ ghost use Rattle.fragdb.specs.SqlStores.{AreOfLeaves};
 use crate::client::stopped;
 use crate::database::Database;
 use crate::fault::ProgramFault;
-use crate::folder::{enter, keep_catalogue};
+use crate::folder::{Standing, enter, keep_catalogue};
 use crate::found::found_text;
 use crate::play_load::empty_relations;
 use crate::sql_stores::{OpenStores, OpensFiles, file_desk, file_sites, memory_desk, memory_sites};
@@ -127,13 +127,14 @@ pub fn open_files<'a, M: Alter + Drop, F: OpensFiles<M>>(
     alloc: Global,
     folder: &Folder<'_, F>,
     catalog: &Catalog,
+    standing: Standing,
 ) -> Result<OpenStores<SqlDesk<M>, SqlSite<M>>, ProgramFault<'a>>
     ensures all { IfOk result (λ stores. length stores.sites.items ≡ length catalog.now.0) }
     ensures leaves { IfOk result (λ stores. AreOfLeaves (catalogue_of catalog.now) 0 stores.sites.items) }
     ensures err { IfErr result IsOfClient }
 {
-    let sites = file_sites(alloc, folder.files, folder.dir, catalog)?;
-    let desk = file_desk(alloc, folder.files, folder.dir)?;
+    let sites = file_sites(alloc, folder.files, folder.dir, catalog, standing)?;
+    let desk = file_desk(alloc, folder.files, folder.dir, standing)?;
     Ok(OpenStores { sites, desk })
 }
 
@@ -148,9 +149,9 @@ impl<M: Alter + Drop, F: OpensFiles<M>> Opens<Solo<SqlDesk<M>, SqlSite<M>>> for 
         catalog: &Catalog,
     ) -> Result<Solo<SqlDesk<M>, SqlSite<M>>, ProgramFault<'a>> {
         let standing = enter(self.rt, self.dir, catalog)?;
-        let OpenStores { sites, desk } = open_files(alloc, self, catalog)?;
+        let OpenStores { sites, desk } = open_files(alloc, self, catalog, standing)?;
         // No transaction begins in a folder before its catalogue stands there.
-        keep_catalogue(self.rt, self.dir, self.source, standing)?;
+        keep_catalogue(self.rt, self.dir, self.source, catalog, standing)?;
         match Solo::open_stores(alloc, catalog, sites, desk) {
             Ok(database) => Ok(database),
             Err(fault) => Err(unopened(fault)),

@@ -18,6 +18,7 @@ use crate::typed::{Typed, first_of, is_whole, next_line};
 use crate::written::write_text;
 use catalog::catalogue::Catalog;
 use meaning::schema::Schema;
+use meaning::statement::Statement;
 use reader::command::Command;
 use reader::read::read;
 use shell::mode::Mode;
@@ -340,10 +341,16 @@ fn explain_answer<E: Write>(
 ) {
     let _ = explain_text(alloc, schema, text, errors);
     match read(alloc, text, schema) {
-        Ok(Command::Begin) if was_open => {
+        Ok(Command::Begin | Command::Run(Statement::Refragment(_))) if was_open => {
             tell(
                 errors,
                 "a transaction is open; COMMIT or ROLLBACK ends it\n",
+            );
+        }
+        Ok(Command::Run(Statement::Refragment(_))) => {
+            tell(
+                errors,
+                "no catalogue comes after the one in force, so each relation stays as it is split\n",
             );
         }
         Ok(Command::Commit | Command::Rollback) if !was_open => {

@@ -7,6 +7,7 @@ ghost use Rattle.catalog.specs.FragmentLeaf.{catalogue_leaves, names_at};
 ghost use Rattle.fragdb.specs.SqlStores.{AreNewSites, AreOfLeaves, IsNewDesk, IsNewSite};
 
 use crate::fault::ProgramFault;
+use crate::folder::Standing;
 use crate::found::{SiteFound, decided, site_found};
 use catalog::catalogue::Catalog;
 use sqlite::{Alter, Connection, Error, ErrorCode, File, FileStore, MemStore};
@@ -67,14 +68,20 @@ pub fn memory_desk<'a>(alloc: Global) -> Result<SqlDesk<MemStore>, ProgramFault<
     }
 }
 
-/// Opens stores in files, on media of some kind. A file that isn't there is made.
+/// Opens stores in files, on media of some kind. In a new folder a file that isn't there is made; in one that is kept a
+/// file that has nothing is damage.
 pub trait OpensFiles<M: Alter> {
     /// The store of a site in the file of this path, which has these leaves.
-    fn site(&self, path: &str, leaves: Vec<Leaf>) -> Result<SqlSite<M>, StoreFault>
+    fn site(
+        &self,
+        path: &str,
+        leaves: Vec<Leaf>,
+        standing: Standing,
+    ) -> Result<SqlSite<M>, StoreFault>
         ensures { IfOk result (λ site. site.leaves ≡ leaves) };
 
     /// The store of the coordinator in the file of this path.
-    fn desk(&self, path: &str) -> Result<SqlDesk<M>, StoreFault>;
+    fn desk(&self, path: &str, standing: Standing) -> Result<SqlDesk<M>, StoreFault>;
 
     /// Why the file of this path can't be opened, if it can't, in words for a person.
     fn trouble(&self, path: &str) -> Option<&'static str>;
@@ -100,12 +107,23 @@ impl<'f> Files<'f> {
 }
 
 impl OpensFiles<FileStore<File>> for Files<'_> {
-    fn site(&self, path: &str, leaves: Vec<Leaf>) -> Result<SqlSite<FileStore<File>>, StoreFault> {
-        SqlSite::file(self.rt, path, leaves)
+    fn site(
+        &self,
+        path: &str,
+        leaves: Vec<Leaf>,
+        standing: Standing,
+    ) -> Result<SqlSite<FileStore<File>>, StoreFault> {
+        match standing {
+            Standing::New => SqlSite::file(self.rt, path, leaves),
+            Standing::Kept => SqlSite::kept_file(self.rt, path, leaves),
+        }
     }
 
-    fn desk(&self, path: &str) -> Result<SqlDesk<FileStore<File>>, StoreFault> {
-        SqlDesk::file(self.rt, path)
+    fn desk(&self, path: &str, standing: Standing) -> Result<SqlDesk<FileStore<File>>, StoreFault> {
+        match standing {
+            Standing::New => SqlDesk::file(self.rt, path),
+            Standing::Kept => SqlDesk::kept_file(self.rt, path),
+        }
     }
 
     fn trouble(&self, path: &str) -> Option<&'static str> {
@@ -145,6 +163,7 @@ pub fn file_sites<'a, M: Alter + Drop, F: OpensFiles<M>>(
     files: &F,
     dir: &str,
     catalog: &Catalog,
+    standing: Standing,
 ) -> Result<Vec<SqlSite<M>>, ProgramFault<'a>>
     ensures all { IfOk result (λ sites. length sites.items ≡ length catalog.now.0) }
     ensures leaves { IfOk result (λ sites. AreOfLeaves (catalogue_of catalog.now) 0 sites.items) }
@@ -152,7 +171,7 @@ pub fn file_sites<'a, M: Alter + Drop, F: OpensFiles<M>>(
 {
     let mut sites = Vec::new(alloc);
     for place in 0..catalog.sites().len() {
-        let site = file_site(alloc, files, dir, catalog, place)?;
+        let site = file_site(alloc, files, dir, catalog, place, standing)?;
         if sites.push(site).is_err() {
             return Err(ProgramFault::Memory);
         }
@@ -167,6 +186,7 @@ pub fn file_site<'a, M: Alter + Drop, F: OpensFiles<M>>(
     dir: &str,
     catalog: &Catalog,
     place: usize,
+    standing: Standing,
 ) -> Result<SqlSite<M>, ProgramFault<'a>>
     requires { place < length catalog.now.0 }
     ensures leaves { IfOk result (λ site. site.leaves.items ≡ names_at place (catalogue_leaves (catalogue_of catalog.now))) }
@@ -174,7 +194,7 @@ pub fn file_site<'a, M: Alter + Drop, F: OpensFiles<M>>(
 {
     let path = format!(in alloc; "{dir}/{}.db", catalog.sites()[place])?;
     let leaves = catalog.leaves_at(place)?;
-    match files.site(path.as_str(), leaves) {
+    match files.site(path.as_str(), leaves, standing) {
         Ok(site) => Ok(site),
         Err(fault) => Err(of_store(fault)),
     }
@@ -185,11 +205,12 @@ pub fn file_desk<'a, M: Alter + Drop, F: OpensFiles<M>>(
     alloc: Global,
     files: &F,
     dir: &str,
+    standing: Standing,
 ) -> Result<SqlDesk<M>, ProgramFault<'a>>
     ensures err { IfErr result IsOfClient }
 {
     let path = format!(in alloc; "{dir}/desk.db")?;
-    match files.desk(path.as_str()) {
+    match files.desk(path.as_str(), standing) {
         Ok(desk) => Ok(desk),
         Err(fault) => Err(of_store(fault)),
     }

@@ -7,6 +7,7 @@ ghost use Rattle.fragdb.specs.Client.{IsOfClient};
 
 use crate::database::Database;
 use crate::fault::ProgramFault;
+use crate::folder::Standing;
 use crate::opener::{Folder, InMemory, Lists, Opens, open_files};
 use crate::sql_stores::{OpenStores, OpensFiles, memory_desk, memory_sites};
 use catalog::catalogue::Catalog;
@@ -78,7 +79,7 @@ impl<M: Alter + Drop, F: OpensFiles<M>> OpensStores<SqlDesk<M>, SqlSite<M>> for 
         catalog: &Catalog,
     ) -> Result<OpenStores<SqlDesk<M>, SqlSite<M>>, ProgramFault<'a>> {
         settle::<Solo<SqlDesk<M>, SqlSite<M>>, Self>(alloc, self, catalog)?;
-        open_files(alloc, self, catalog)
+        open_files(alloc, self, catalog, Standing::Kept)
     }
 }
 

@@ -98,6 +98,21 @@ impl SqlDesk<MemStore> {
 }
 
 impl SqlDesk<FileStore<File>> {
+    /// The store that a file has already. A file that has nothing is damaged.
+    pub fn kept_file(rt: &HostRuntime, path: &str) -> Result<SqlDesk<FileStore<File>>, StoreFault>
+        ensures { IfOk result (λ desk. HasCleanDisk (file_state desk.conn) → IsTrue (file_state desk.conn).is_open → (file_state desk.conn).committed.schema ≡ desk_schema) }
+    {
+        let alloc = rt.alloc();
+        let conn = match Connection::open(rt, path) {
+            Ok(conn) => conn,
+            Err(error) => return Err(opening_fault(error)),
+        };
+        if is_empty(conn.schema()) {
+            return Err(StoreFault::Damaged);
+        }
+        SqlDesk::hold(alloc, conn)
+    }
+
     /// A store in a file. A file that isn't there is made.
     pub fn file(rt: &HostRuntime, path: &str) -> Result<SqlDesk<FileStore<File>>, StoreFault>
         ensures { IfOk result (λ desk. HasCleanDisk (file_state desk.conn) → IsTrue (file_state desk.conn).is_open → (file_state desk.conn).committed.schema ≡ desk_schema) }

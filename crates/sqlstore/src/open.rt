@@ -103,6 +103,24 @@ impl SqlSite<MemStore> {
 }
 
 impl SqlSite<FileStore<File>> {
+    /// The store that a file has already, with these leaves. A file that has nothing is damaged.
+    pub fn kept_file(
+        rt: &HostRuntime,
+        path: &str,
+        leaves: Vec<Leaf>,
+    ) -> Result<SqlSite<FileStore<File>>, StoreFault>
+        ensures leaves { IfOk result (λ site. site.leaves ≡ leaves) }
+    {
+        let conn = match Connection::open(rt, path) {
+            Ok(conn) => conn,
+            Err(error) => return Err(opening_fault(error)),
+        };
+        if is_empty(conn.schema()) {
+            return Err(StoreFault::Damaged);
+        }
+        SqlSite::hold(conn, leaves)
+    }
+
     /// A store in a file, which has these leaves. A file that isn't there is made.
     pub fn file(
         rt: &HostRuntime,
