@@ -1,20 +1,29 @@
-/* Refuses one allocation: the one whose number, from 1, stands in REFUSE. At the end it writes to descriptor 9 how many there were. */
+/* Refuses one allocation, of whatever thread: the one whose number, from 1, stands in REFUSE. With LATER all that come after
+   it too. At the end it writes to descriptor 9 how many there were. */
 #define _GNU_SOURCE
 #include <dlfcn.h>
 #include <errno.h>
 #include <stdio.h>
 #include <stdlib.h>
+#include <sys/syscall.h>
+#include <unistd.h>
 
-static long wanted = -1, calls;
+static long wanted, calls;
+static int later;
 
-/* Whether this call is the one that REFUSE names. */
+__attribute__((constructor)) static void begin(void)
+{
+    const char *text = getenv("REFUSE");
+    wanted = text ? atol(text) : 0;
+    later = getenv("LATER") != NULL;
+    calls = 0;
+}
+
+/* Whether this call is the one that REFUSE names, or a later one. */
 static int refused(void)
 {
-    if (wanted < 0) {
-        const char *text = getenv("REFUSE");
-        wanted = text ? atol(text) : 0;
-    }
-    return ++calls == wanted;
+    long call = __atomic_add_fetch(&calls, 1, __ATOMIC_RELAXED);
+    return wanted && (call == wanted || (later && call > wanted));
 }
 
 void *malloc(size_t size)
@@ -33,7 +42,20 @@ void *realloc(void *old, size_t size)
     return next(old, size);
 }
 
-__attribute__((destructor)) static void tell(void)
+static void tell(void)
 {
     dprintf(9, "%ld\n", calls);
+}
+
+__attribute__((destructor)) static void end(void)
+{
+    tell();
+}
+
+/* A program that ends by this call runs no destructor. */
+void _exit(int status)
+{
+    tell();
+    syscall(SYS_exit_group, status);
+    __builtin_unreachable();
 }

@@ -1,16 +1,26 @@
 #!/usr/bin/env bash
-# Refuses each allocation of `fragdb solo` on scripts, one of them with transactions over a catalogue of a file, of
-# `fragdb check` on catalogues and of `fragdb plan` on a join and an update, in turn, and says how the runs end. Each
-# must end with status 4, `fragdb: out of memory` and the beginning of the whole output, or go on as if nothing had
-# happened. It wants a C compiler (cc), for a library that stands before the system's allocator.
+# Refuses each allocation of the program in turn, and says how the runs end: of `solo` on scripts, one of them with
+# transactions over a catalogue of a file, over lists, SQLite in memory and a folder; of a session; of `play`, over lists and
+# SQLite; of `run`, whose sites and sessions are threads; of `check` on catalogues, and of `plan` on a join and an update.
+# Each must end with status 4, `fragdb: out of memory` alone and the beginning of the whole output, or go on as if nothing had
+# happened. A folder has to open afterwards, with what was answered. In `run` a letter may get lost, so a statement may be
+# told to have aborted; what was not has to be there. A session that waits for ever there, since its reply was lost, is
+# ended after a while and counted by itself: docs/THREADS.md says which can be.
+# It wants a C compiler (cc), for a library that stands before the system's allocator.
 #
 # usage: bench/refused_memory.sh [PROGRAM [COMMAND ARGUMENT ..]]
-# (default: crates/fragdb/out/fragdb, and `solo` on crates/fragdb/stdin and on transactions, `check` on each catalogue of crates/fragdb/data
-# and `plan` of two statements on one)
+# (default: crates/fragdb/out/fragdb, and all of the above; COMMAND may be `folder` or `threads`, for those alone)
+#
+# STRIDE=N refuses each N-th allocation alone, from the first one on: over a folder there are ten thousand and more. With
+# LATER=1 all allocations after it are refused too.
 set -eu
 top=$(cd "$(dirname "$0")/.." && pwd)
-program=${1:-$top/crates/fragdb/out/fragdb}
-folder=$(mktemp -d)
+program=$(realpath "${1:-$top/crates/fragdb/out/fragdb}")
+employees=$top/crates/fragdb/data/emp_and_dept.toml
+stride=${STRIDE:-1}
+on=/dev/shm
+[ -d $on ] || on=/tmp
+folder=$(mktemp -d -p $on)
 trap 'rm -rf "$folder"' EXIT
 
 cc -shared -fPIC -O1 -o "$folder/refuse.so" "$top/bench/refuse.c" -ldl
@@ -20,7 +30,7 @@ run() {
     local number=$1
     shift
     status=0
-    REFUSE=$number LD_PRELOAD=$folder/refuse.so "$program" "$@" \
+    timeout "${seconds:-60}" env REFUSE="$number" LD_PRELOAD="$folder/refuse.so" "$program" "$@" \
         9> "$folder/calls" > "$folder/output" 2> "$folder/errors" || status=$?
     calls=$(cat "$folder/calls")
 }
@@ -65,6 +75,69 @@ INSERT INTO emp VALUES (3, 'Cy', 7, 5)
 SCRIPT
 }
 
+# Fewer of them, for stores that allocate much more.
+few_transactions() {
+    cat << 'SCRIPT'
+INSERT INTO emp VALUES (1, 'Ada', 7, 100)
+BEGIN
+UPDATE emp SET dept = dept + 5 WHERE id = 1
+INSERT INTO dept VALUES (12, 'dock')
+COMMIT
+SELECT emp.name, dept.title FROM emp JOIN dept ON emp.dept = dept.no
+DELETE FROM emp WHERE id = 1
+.show emp
+.leaf emp.3
+SCRIPT
+}
+
+# What is typed in a session, of which nothing is refused.
+typed() {
+    cat << 'SCRIPT'
+.tables
+.schema
+.leaves
+INSERT INTO emp
+VALUES (1, 'Ada', 7, 100); INSERT INTO dept VALUES (7, 'paint');
+.plan SELECT name FROM emp
+BEGIN
+UPDATE emp SET dept = 12
+.mode json
+SELECT name, pay FROM emp
+COMMIT
+.mode columns
+.show emp
+.leaf emp.3
+.quit
+SCRIPT
+}
+
+# A schedule with a moved row, a lost letter, a repeated one, a refused store call, and restarts.
+schedule() {
+    cat << 'SCRIPT'
+load INSERT INTO emp VALUES (1, 'Ada', 7, 100)
+begin T1
+do T1 UPDATE emp SET dept = dept + 5 WHERE id = 1
+all
+commit T1
+all but 16
+restart desk
+deliver 16
+inquire south
+all
+begin T2
+do T2 UPDATE emp SET name = 'Eve'
+all
+giveup north 1.1
+commit T2
+deliver 1
+restart north
+all
+.committed
+.show emp
+.leaf emp.2
+SCRIPT
+}
+
 all_wrong=0
 # Refuses each allocation of the program on these arguments.
 refuse_each() {
@@ -72,9 +145,10 @@ refuse_each() {
     mv "$folder/output" "$folder/whole"
     mv "$folder/errors" "$folder/whole_errors"
     whole_status=$status
-    local last=$calls number=1 ended=0 same=0 wrong=0
+    local last=$calls number=1 ended=0 same=0 wrong=0 tries=0
     while [ "$number" -le "$last" ]; do
         run "$number" "$@"
+        tries=$((tries + 1))
         if is_ended; then
             ended=$((ended + 1))
         elif is_same; then
@@ -83,23 +157,174 @@ refuse_each() {
             wrong=$((wrong + 1))
             echo "$*: allocation $number: status $status: $(cat "$folder/errors")"
         fi
-        number=$((number + 1))
+        number=$((number + stride))
     done
-    echo "$*: $last allocations refused in turn: $ended ended for want of memory, $same went on the same, $wrong wrong"
+    echo "$*: $last allocations, $tries refused in turn: $ended ended for want of memory, $same went on the same, $wrong wrong"
     all_wrong=$((all_wrong + wrong))
 }
 
-if [ $# -ge 2 ]; then
-    shift
-    refuse_each "$@"
-else
+# The statements that are run over a folder, each a transaction of its own with another state behind it.
+statements() {
+    cat << 'SCRIPT'
+INSERT INTO emp VALUES (1, 'Ada', 7, 100)
+INSERT INTO dept VALUES (12, 'dock')
+UPDATE emp SET dept = dept + 5 WHERE id = 1
+DELETE FROM dept WHERE no = 12
+SCRIPT
+}
+
+# What stands in the relations, over a folder or, without a second word, over lists, behind the first statements.
+shown() {
+    { head -n "$1" "$folder/statements"; printf '.show dept\n.show emp\n'; } \
+        | "$program" solo --catalog "$employees" ${2:+--dir "$2"} - 2>&1 | tail -n +$(($1 + 1))
+}
+
+# Refuses each allocation over a folder: one that isn't there yet with $1 = new, else one with a row.
+refuse_over_folder() {
+    statements > "$folder/statements"
+    local last=1 number=0 ended=0 same=0 wrong=0 answered=0 first=0 tries=0 count
+    count=$(wc -l < "$folder/statements")
+    for number in $(seq 0 "$count"); do
+        shown "$number" > "$folder/state$number"
+    done
+    if [ "$1" = kept ]; then
+        first=1
+        head -n 1 "$folder/statements" | "$program" solo --catalog "$employees" --dir "$folder/kept" - > "$folder/discarded"
+    fi
+    tail -n +$((first + 1)) "$folder/statements" > "$folder/script"
+    number=0
+    while [ "$number" -le "$last" ]; do
+        rm -rf "$folder/D"
+        [ "$1" = new ] || cp -r "$folder/kept" "$folder/D"
+        run "$number" solo --catalog "$employees" --dir "$folder/D" "$folder/script"
+        if [ "$number" = 0 ]; then
+            last=$calls whole_status=$status
+            mv "$folder/output" "$folder/whole"
+            mv "$folder/errors" "$folder/whole_errors"
+            number=1
+            continue
+        fi
+        tries=$((tries + 1))
+        answered=$((first + $(wc -l < "$folder/output")))
+        shown 0 "$folder/D" > "$folder/now"
+        if is_same && cmp -s "$folder/now" "$folder/state$count"; then
+            same=$((same + 1))
+        elif is_ended && { cmp -s "$folder/now" "$folder/state$answered" || cmp -s "$folder/now" "$folder/state$((answered + 1))"; }; then
+            ended=$((ended + 1))
+        else
+            wrong=$((wrong + 1))
+            echo "over a folder that is $1: allocation $number: status $status: $(cat "$folder/errors"), $answered answered, then $(cat "$folder/now")"
+        fi
+        number=$((number + stride))
+    done
+    echo "solo over a folder that is $1: $last allocations, $tries refused in turn: $ended ended for want of memory and opened again, $same went on the same, $wrong wrong"
+    all_wrong=$((all_wrong + wrong))
+}
+
+# Two sessions that are never in each other's way.
+sessions() {
+    cat << 'SCRIPT'
+a INSERT INTO dept VALUES (1, 'x')
+b INSERT INTO dept VALUES (50, 'y')
+a INSERT INTO dept VALUES (2, 'v')
+b SELECT title FROM dept WHERE no = 50
+SCRIPT
+}
+
+# Whether the run went on rightly: what was answered is there, and what was told to have aborted isn't.
+is_right() {
+    [ "$status" = 0 ] && [ ! -s "$folder/errors" ] && grep -q '^weave yes$' "$folder/output" && python3 - "$folder/output" << 'PYTHON'
+import sys
+
+lines = open(sys.argv[1], encoding="utf-8").read().split("\n")[:-1]
+end = lines.index("weave yes")
+heard = {name: [line[3:] for line in lines[:end] if line.startswith(f"{name}: ")] for name in "ab"}
+
+
+def is_done(answer):
+    return answer == "changed 1"
+
+
+def is_known(answer):
+    return is_done(answer) or answer.startswith("aborted ")
+
+
+one, two = heard["a"]
+three, select = heard["b"][0], heard["b"][1:]
+wanted = [row for row, answer in (("1\tx", one), ("2\tv", two), ("50\ty", three)) if is_done(answer)]
+found = ["title", "y", "1 row"] if is_done(three) else ["title", "0 rows"]
+count = f"{len(wanted)} row" + ("" if len(wanted) == 1 else "s")
+is_read = select == found or len(select) == 1 and select[0].startswith("aborted ")
+is_shown = lines[end + 1 :] == ["dept", "no\ttitle", *wanted, count, "emp", "id\tname\tdept\tpay", "0 rows"]
+sys.exit(not (all(map(is_known, (one, two, three))) and is_read and is_shown))
+PYTHON
+}
+
+# Refuses the allocations of `run`, whose number differs from run to run, so that some are refused twice and some never.
+refuse_in_threads() {
+    sessions > "$folder/sessions"
+    run 0 run --catalog "$employees" "$@" "$folder/sessions"
+    mv "$folder/output" "$folder/whole"
+    mv "$folder/errors" "$folder/whole_errors"
+    whole_status=$status
+    local last=$((calls + calls / 20 + 20)) number=1 ended=0 same=0 right=0 waits=0 wrong=0 tries=0
+    seconds=10
+    while [ "$number" -le "$last" ]; do
+        run "$number" run --catalog "$employees" "$@" "$folder/sessions"
+        tries=$((tries + 1))
+        if is_ended; then
+            ended=$((ended + 1))
+        elif is_same; then
+            same=$((same + 1))
+        elif [ "$status" = 124 ]; then
+            waits=$((waits + 1))
+            echo "run $*: allocation $number: a session waits"
+        elif is_right; then
+            right=$((right + 1))
+        else
+            wrong=$((wrong + 1))
+            echo "run $*: allocation $number: status $status: $(cat "$folder/errors" "$folder/output")"
+        fi
+        number=$((number + stride))
+    done
+    seconds=60
+    echo "run $*: $last allocations, $tries refused in turn: $ended ended for want of memory, $same went on the same, $right with a transaction aborted, $waits wait, $wrong wrong"
+    all_wrong=$((all_wrong + wrong))
+}
+
+over_folders() {
+    refuse_over_folder new
+    refuse_over_folder kept
+}
+
+in_threads() {
+    refuse_in_threads
+    refuse_in_threads --sqlite
+}
+
+shift $(($# > 0))
+case ${1:-all} in
+folder) over_folders ;;
+threads) in_threads ;;
+all)
     refuse_each solo "$top/crates/fragdb/stdin"
     transactions > "$folder/transactions"
-    refuse_each solo --catalog "$top/crates/fragdb/data/emp_and_dept.toml" "$folder/transactions"
+    refuse_each solo --catalog "$employees" "$folder/transactions"
+    few_transactions > "$folder/few_transactions"
+    refuse_each solo --catalog "$employees" --sqlite "$folder/few_transactions"
+    typed > "$folder/typed"
+    refuse_each solo --catalog "$employees" --interactive "$folder/typed"
+    schedule > "$folder/schedule"
+    refuse_each play --catalog "$employees" "$folder/schedule"
+    refuse_each play --catalog "$employees" --sqlite "$folder/schedule"
     for catalogue in "$top"/crates/fragdb/data/*.toml; do
         refuse_each check "$catalogue"
     done
-    refuse_each plan "$top/crates/fragdb/data/emp_and_dept.toml" "SELECT emp.id, dept.title FROM emp JOIN dept ON emp.dept = dept.no WHERE dept.no = 12"
-    refuse_each plan "$top/crates/fragdb/data/emp_and_dept.toml" "UPDATE emp SET dept = dept + 5 WHERE id = 1"
-fi
+    refuse_each plan "$employees" "SELECT emp.id, dept.title FROM emp JOIN dept ON emp.dept = dept.no WHERE dept.no = 12"
+    refuse_each plan "$employees" "UPDATE emp SET dept = dept + 5 WHERE id = 1"
+    over_folders
+    in_threads
+    ;;
+*) refuse_each "$@" ;;
+esac
 [ "$all_wrong" = 0 ]

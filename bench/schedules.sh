@@ -1,7 +1,11 @@
 #!/usr/bin/env bash
 # Plays schedules that nobody wrote, and compares each with what its committed transactions mean one after another.
 #
-#   bench/schedules.sh [HOW MANY [FIRST SEED]]      2,000 from seed 1, without words
+#   bench/schedules.sh [--lcg] [--sqlite] [HOW MANY [FIRST SEED]]      2,000 from seed 1, without words
+#
+# With --lcg a schedule has four transactions and 300 events, chosen by the numbers that follow its seed by
+# x * 6364136223846793005 + 1442695040888963407 in wrapping u64. With --sqlite each schedule is played over SQLite besides,
+# and has to print the same, byte for byte, as has `solo --sqlite`.
 #
 # A schedule has four to six transactions over two relations in fragments, and events in an order of chance: calls of
 # clients, letters that come late, never or again, store calls that are refused, restarts, inquiries, visits and
@@ -22,8 +26,13 @@ import re
 import subprocess
 import sys
 
-HOW_MANY = int(sys.argv[1]) if len(sys.argv) > 1 else 2000
-FIRST = int(sys.argv[2]) if len(sys.argv) > 2 else 1
+OPTIONS = [word for word in sys.argv[1:] if word.startswith("--")]
+NUMBERS = [int(word) for word in sys.argv[1:] if not word.startswith("--")]
+HOW_MANY = NUMBERS[0] if NUMBERS else 2000
+FIRST = NUMBERS[1] if len(NUMBERS) > 1 else 1
+IS_LCG = "--lcg" in OPTIONS
+STORES = [[], ["--sqlite"]] if "--sqlite" in OPTIONS else [[]]
+EVENTS = 300
 PROGRAM = os.environ.get("FRAGDB", "crates/fragdb/out/fragdb")
 CATALOGUE = "crates/fragdb/data/emp_and_dept.toml"
 # No letter has this number, so `deliver` of it prints one line, and what each event printed stands between two of them.
@@ -100,11 +109,29 @@ def table(names, rows):
     return ["\t".join(names), *("\t".join(map(str, row)) for row in rows), f"{len(rows)} row{'' if len(rows) == 1 else 's'}"]
 
 
+class Linear(random.Random):
+    """Numbers of chance, each made of the one before it."""
+
+    def __init__(self, first):
+        super().__init__()
+        self.last = first
+
+    def next(self):
+        self.last = (self.last * 6364136223846793005 + 1442695040888963407) % 2**64
+        return self.last
+
+    def random(self):
+        return (self.next() >> 11) / 2**53
+
+    def getrandbits(self, count):
+        return self.next() >> 64 - count
+
+
 class Schedule:
     """A schedule as it grows: the lines so far, what the program printed for each, and what is known of letters."""
 
     def __init__(self, seed):
-        self.chance = random.Random(seed)
+        self.chance = Linear(seed) if IS_LCG else random.Random(seed)
         self.loads, self.lines, self.printed = [], [], []
         self.letters, self.given = [], {}
         self.start = {"dept": {}, "emp": {}}
@@ -112,12 +139,12 @@ class Schedule:
             self.load("dept", [key, self.chance.choice(["paint", "dock"])])
         for key in range(1, self.chance.randint(2, 5)):
             self.load("emp", [key, "Ada", self.chance.choice([1, 7, 12]), 10 * key])
-        self.names = [f"T{n}" for n in range(1, self.chance.randint(5, 7))]
+        self.names = [f"T{n}" for n in range(1, 5 if IS_LCG else self.chance.randint(5, 7))]
         self.left = {name: self.calls(name) for name in self.names}
         self.accepted = {name: [] for name in self.names}
         self.slow = {(site, name): self.chance.random() < 0.4 for site in ("north", "south") for name in self.names}
         # How often something breaks: in most schedules seldom, since little is committed where much does.
-        self.trouble = self.chance.choice([0.0, 0.0, 0.01, 0.03])
+        self.trouble = self.chance.choice([0.0, 0.01, 0.02, 0.04] if IS_LCG else [0.0, 0.0, 0.01, 0.03])
 
     def load(self, relation, row):
         self.start[relation][row[0]] = row
@@ -132,11 +159,14 @@ class Schedule:
         step = self.left[name][0]
         return f"do {name} {step.text()}" if isinstance(step, Statement) else f"{step} {name}"
 
+    def script(self, lines):
+        return "\n".join(self.loads + [part for line in lines for part in (line, f"deliver {MARK}")]) + "\n"
+
     def play(self, more):
         """Plays the schedule with these lines behind it, and keeps what was printed for each of them."""
         lines = self.lines + more
-        script = "\n".join(self.loads + [part for line in lines for part in (line, f"deliver {MARK}")]) + "\n"
-        ran = subprocess.run([PROGRAM, "play", "--catalog", CATALOGUE, "-"], input=script, capture_output=True, text=True)
+        script = self.script(lines)
+        ran = run("play", script)
         parts = ran.stdout.split(f"no letter {MARK}\n")
         if ran.stderr or len(parts) != len(lines) + 1 or parts[-1]:
             raise SystemExit(f"the program stopped, status {ran.returncode}: {ran.stderr}\n{script}")
@@ -171,10 +201,12 @@ class Schedule:
         number = some[0] if some and self.chance.random() < 0.93 else self.chance.randrange(len(self.letters))
         return f"deliver {number + 1}" + (" refuse" if self.chance.random() < self.trouble else "")
 
-    def grow(self):
-        """Some more events; calls of one transaction wait for what its last one printed."""
+    def grow(self, most):
+        """Some more events, and not more than these; calls of one transaction wait for what its last one printed."""
         more, called = [], set()
-        for _ in range(self.chance.randint(2, 6)):
+        # Where many letters wait, many events can be chosen at once.
+        many = (len(self.letters) - len(self.given)) // 2 if IS_LCG else 0
+        for _ in range(min(most, self.chance.randint(2, 6) + many)):
             line = self.chosen()
             words = line.split()
             if words[0] in ("begin", "do", "commit", "rollback"):
@@ -225,7 +257,17 @@ class Schedule:
             wanted = table(COLUMNS[relation], [row for _, row in sorted(relations[relation].items())])
             if rows != wanted:
                 return f"{relation} is {rows}, and in turn it is {wanted}"
-        return self.alone(committed, shown)
+        return self.over_others() or self.alone(committed, shown)
+
+    def over_others(self):
+        """What other stores print otherwise."""
+        script = self.script(self.lines)
+        wanted = "".join(f"{text}\n" for out in self.printed for text in [*out, f"no letter {MARK}"])
+        for stores in STORES[1:]:
+            ran = run("play", script, stores)
+            if ran.stdout != wanted or ran.stderr or ran.returncode:
+                return f"play {' '.join(stores)} printed {ran.stdout}{ran.stderr}\nand this was wanted:\n{wanted}"
+        return None
 
     def alone(self, committed, shown):
         """What `solo` prints otherwise, of the committed transactions one after another; nothing where it prints the same."""
@@ -235,10 +277,27 @@ class Schedule:
             wanted += ["begun", *self.answers(name), "committed"]
         lines += [".show dept", ".show emp"]
         script = "\n".join(lines) + "\n"
-        ran = subprocess.run([PROGRAM, "solo", "--catalog", CATALOGUE, "-"], input=script, capture_output=True, text=True)
-        printed = ran.stdout.splitlines()
         wanted += [text for rows in shown for text in rows]
-        return None if printed == wanted else f"solo printed {printed}, and {wanted} was wanted of\n{script}{ran.stderr}"
+        for stores in STORES:
+            ran = run("solo", script, stores)
+            printed = ran.stdout.splitlines()
+            if printed != wanted:
+                return f"solo {' '.join(stores)} printed {printed}, and {wanted} was wanted of\n{script}{ran.stderr}"
+        return None
+
+
+def run(command, script, stores=()):
+    return subprocess.run([PROGRAM, command, "--catalog", CATALOGUE, *stores, "-"], input=script, capture_output=True, text=True)
+
+
+def kinds(lines):
+    """How many events of each kind there were that break something or come again."""
+    delivered = [line.split()[1] for line in lines if line.startswith("deliver ")]
+    return {
+        "letters that came again": len(delivered) - len(set(delivered)),
+        "refused": sum(line.endswith(" refuse") for line in lines),
+        **{word: sum(line.startswith(word) for line in lines) for word in ("giveup", "inquire", "restart")},
+    }
 
 
 def told(schedule):
@@ -249,8 +308,12 @@ def told(schedule):
 count = {"schedules": 0, "events": 0, "committed": 0, "aborted": 0, "schedules told in another order than that of first phases": 0}
 for seed in range(FIRST, FIRST + HOW_MANY):
     schedule = Schedule(seed)
-    for _ in range(schedule.chance.randint(25, 45)):
-        schedule.grow()
+    if IS_LCG:
+        while len(schedule.lines) < EVENTS:
+            schedule.grow(EVENTS - len(schedule.lines))
+    else:
+        for _ in range(schedule.chance.randint(25, 45)):
+            schedule.grow(EVENTS)
     if schedule.chance.random() < 0.5:
         schedule.play(["all"])
     difference = schedule.compare()
@@ -260,6 +323,8 @@ for seed in range(FIRST, FIRST + HOW_MANY):
     count["schedules"] += 1
     count["events"] += len(schedule.lines)
     count["committed"] += len(schedule.printed[-3])
+    for kind, number in kinds(schedule.lines).items():
+        count[kind] = count.get(kind, 0) + number
     count["aborted"] += sum(": aborted " in text for out in schedule.printed for text in out)
     count["schedules told in another order than that of first phases"] += told(schedule) != schedule.printed[-3]
 print(", ".join(f"{number} {what}" for what, number in count.items()) + ", no difference")

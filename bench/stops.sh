@@ -1,0 +1,307 @@
+#!/usr/bin/env bash
+# Stops `fragdb solo --dir` at each of its calls that change a file or make it durable, in turn, and looks at what is there
+# when the folder is opened again.
+#
+#   bench/stops.sh [SCHEDULE [MANNER]]      without words all of both
+#
+# SCHEDULES, each over a folder with two employees and two departments that an earlier process has loaded, but for `first`:
+#   move         an employee goes to a department whose fragment is at another site
+#   insert, delete
+#   transaction  four statements over three sites, between BEGIN and COMMIT
+#   several      three lone statements and a transaction, in a session that shows each answer at once
+#   first        a folder that isn't there, and one statement
+#   settle       a folder that the stops of `move` have left in doubt, each such one; the next opening settles it
+# MANNERS (bench/stop.c):
+#   before, half          the process ends before the call; or when half of a write is written
+#   lost, torn            it ends before the call, and the machine loses what was not made durable since, or parts of it
+#   refuse, once, full    that call and all later ones answer EIO; that call alone; they answer ENOSPC; of all files of
+#                         the folder, and then of each file alone. The process goes on.
+#
+# After each the folder is opened again, which settles it. Each site has to keep exactly the parts, byte by byte, of the
+# relations before or after a transaction, as they are computed here, and no row of a transaction in doubt is left; of each
+# transaction that was answered it has to be the relations after it. `.show` of the program has to say the same. With a
+# manner that refuses, the program has to end with status 3 and one line, or to go on rightly.
+#
+# The program is crates/fragdb/out/fragdb, or the one that FRAGDB names. It wants a C compiler (cc) and Python. STOPS_ON
+# names the folder to work in, in memory where it isn't given. Ends with 1 where one stop left something wrong.
+set -u
+cd "$(dirname "$0")/.."
+exec python3 - "$@" <<'PYTHON'
+import collections
+import os
+import re
+import shutil
+import sqlite3
+import subprocess
+import sys
+import tempfile
+
+TOP = os.getcwd()
+sys.path.insert(0, f"{TOP}/bench")
+sys.dont_write_bytecode = True
+from folders import THREE_SITES, THREE_SITES_TEXT, TWO_SITES, content, kept, table
+
+PROGRAM = os.path.abspath(os.environ.get("FRAGDB", "crates/fragdb/out/fragdb"))
+COLUMNS = {"dept": ["no", "title"], "emp": ["id", "name", "dept", "pay"]}
+ENDING, REFUSING = ("before", "half", "lost", "torn"), ("refuse", "once", "full")
+LOAD = [
+    "INSERT INTO dept VALUES (7, 'paint')",
+    "INSERT INTO dept VALUES (12, 'dock')",
+    "INSERT INTO emp VALUES (1, 'Ada', 7, 100)",
+    "INSERT INTO emp VALUES (2, 'Bo', 12, 200)",
+]
+LOADED = {"dept": {7: (7, "paint"), 12: (12, "dock")}, "emp": {1: (1, "Ada", 7, 100), 2: (2, "Bo", 12, 200)}}
+PROMPT = re.compile(r"fragdb\*?> |^fragdb 0\.1\.0.*$", re.M)
+# The status of a process that was stopped, as bench/stop.c has it.
+SECONDS, STOPPED = 60, 77
+
+
+class Step:
+    """A statement, as text and as what it does to relations: a row that goes in, or what rows of a relation become."""
+
+    def __init__(self, text, relation, key, change):
+        self.text, self.relation, self.key, self.change = text, relation, key, change
+
+    def run(self, relations):
+        """The answer; changes the relations. A change of None takes a row out; a row in its place goes in."""
+        rows = relations[self.relation]
+        if isinstance(self.change, tuple):
+            if self.key in rows:
+                return "exists"
+            rows[self.key] = self.change
+            return "changed 1"
+        met = [row for row in rows.values() if self.key(row)]
+        for row in met:
+            del rows[row[0]]
+            if self.change:
+                rows[row[0]] = self.change(row)
+        return f"changed {len(met)}"
+
+
+class Transaction:
+    def __init__(self, *steps, is_lone=False):
+        self.steps, self.is_lone = steps, is_lone
+
+    def lines(self):
+        lines = [step.text for step in self.steps]
+        return lines if self.is_lone else ["BEGIN", *lines, "COMMIT"]
+
+    def run(self, relations):
+        """The answers, and the relations after it."""
+        after = {name: dict(rows) for name, rows in relations.items()}
+        answers = [step.run(after) for step in self.steps]
+        return answers if self.is_lone else ["begun", *answers, "committed"], after
+
+
+class Schedule:
+    """Transactions in turn, over a folder of these relations; None where it isn't there yet."""
+
+    def __init__(self, name, leaves, text, start, transactions, in_session=False):
+        self.name, self.leaves, self.text, self.start, self.transactions = name, leaves, text, start, transactions
+        self.in_session = in_session
+
+    def lines(self):
+        return [line for it in self.transactions for line in it.lines()]
+
+
+def schedules():
+    with open("crates/fragdb/data/emp_and_dept.toml", encoding="utf-8") as file:
+        two = file.read()
+    move = Step("UPDATE emp SET dept = 12 WHERE id = 1", "emp", lambda row: row[0] == 1, lambda row: (row[0], row[1], 12, row[3]))
+    insert = Step("INSERT INTO emp VALUES (3, 'Cy', 12, 300)", "emp", 3, (3, "Cy", 12, 300))
+    delete = Step("DELETE FROM emp WHERE id = 1", "emp", lambda row: row[0] == 1, None)
+    together = Transaction(
+        move,
+        Step("INSERT INTO emp VALUES (3, 'Cy', 7, 300)", "emp", 3, (3, "Cy", 7, 300)),
+        Step("UPDATE dept SET title = 'pier' WHERE no = 12", "dept", lambda row: row[0] == 12, lambda row: (row[0], "pier")),
+        Step("DELETE FROM emp WHERE id = 2", "emp", lambda row: row[0] == 2, None),
+    )
+    several = [
+        Transaction(insert, is_lone=True),
+        Transaction(Step("UPDATE emp SET dept = 5 WHERE dept = 12", "emp", lambda row: row[2] == 12, lambda row: (row[0], row[1], 5, row[3])), is_lone=True),
+        Transaction(Step("DELETE FROM dept WHERE no = 7", "dept", lambda row: row[0] == 7, None), is_lone=True),
+        Transaction(
+            Step("UPDATE emp SET pay = pay + 1", "emp", lambda row: True, lambda row: (*row[:3], row[3] + 1)),
+            Step("INSERT INTO dept VALUES (30, 'roof')", "dept", 30, (30, "roof")),
+        ),
+    ]
+    first = Step("INSERT INTO dept VALUES (7, 'paint')", "dept", 7, (7, "paint"))
+    return [
+        Schedule("move", TWO_SITES, two, LOADED, [Transaction(move, is_lone=True)]),
+        Schedule("insert", TWO_SITES, two, LOADED, [Transaction(insert, is_lone=True)]),
+        Schedule("delete", TWO_SITES, two, LOADED, [Transaction(delete, is_lone=True)]),
+        Schedule("transaction", THREE_SITES, THREE_SITES_TEXT, LOADED, [together]),
+        Schedule("several", TWO_SITES, two, LOADED, several, in_session=True),
+        Schedule("first", TWO_SITES, two, None, [Transaction(first, is_lone=True)]),
+    ]
+
+
+class Bench:
+    def __init__(self, room):
+        self.room, self.folder = room, f"{room}/D"
+        self.library = f"{room}/stop.so"
+        subprocess.run(["cc", "-shared", "-fPIC", "-O1", "-o", self.library, f"{TOP}/bench/stop.c", "-ldl"], check=True)
+        self.count, self.wrong, self.left_in_doubt = collections.Counter(), [], []
+
+    def made(self, schedule):
+        """The folder with which a schedule begins, under a name of its own."""
+        with open(f"{self.room}/catalogue.toml", "w", encoding="utf-8") as file:
+            file.write(schedule.text)
+        loaded = f"{self.room}/loaded-{schedule.name}"
+        if schedule.start and not os.path.exists(loaded):
+            ran = self.run(loaded, LOAD, {})
+            if ran.stdout != "changed 1\n" * len(LOAD):
+                sys.exit(f"the program can't load: {ran.stdout}{ran.stderr}")
+        return loaded if schedule.start else None
+
+    def run(self, folder, lines, stop, in_session=False):
+        """Runs lines over a folder. With a stop, its library stands before the system's."""
+        script = f"{self.room}/script"
+        with open(script, "w", encoding="utf-8") as file:
+            file.write("".join(f"{line}\n" for line in lines))
+        words = [PROGRAM, "solo", "--catalog", f"{self.room}/catalogue.toml", *(["--interactive"] if in_session else []), "--dir", folder, script]
+        told = os.open(f"{self.room}/told", os.O_RDWR | os.O_CREAT | os.O_TRUNC)
+        os.dup2(told, 9)
+        os.set_inheritable(9, True)
+        more = {"LD_PRELOAD": self.library, "STOP_IN": folder, **{name: str(value) for name, value in stop.items()}} if stop else {}
+        try:
+            return subprocess.run(words, env={**os.environ, **more}, pass_fds=(9,), capture_output=True, text=True, timeout=SECONDS)
+        finally:
+            os.close(told)
+            os.close(9)
+
+    def stopped(self):
+        """The name of the file of the call that was stopped, if one was."""
+        with open(f"{self.room}/told", encoding="utf-8") as file:
+            return file.read().strip().partition(" ")[2]
+
+    def begin(self, begun):
+        shutil.rmtree(self.folder, ignore_errors=True)
+        if begun:
+            shutil.copytree(begun, self.folder)
+
+    def each(self, schedule, how, of="*", begun=None):
+        """Stops at each call in turn, until a run meets no stop."""
+        begun = begun or self.made(schedule)
+        number, here = 0, collections.Counter()
+        for number in range(1, 100000):
+            self.begin(begun)
+            ran = self.run(self.folder, schedule.lines(), {"STOP_AT": number, "STOP_HOW": how, "STOP_OF": of}, schedule.in_session and how in ENDING)
+            name = self.stopped()
+            if not name:
+                break
+            here[re.sub(r"^(\w+)\.db.*", r"\1", name) if ".db" in name else "folder"] += 1
+            if schedule.name == "move" and how == "before":
+                self.keep_in_doubt()
+            fault = self.judged(schedule, how, ran)
+            if fault:
+                self.wrong.append(f"{schedule.name}, {how} {of}, call {number} ({name}): {fault}")
+                print(self.wrong[-1], flush=True)
+        if ran.returncode or self.judged(schedule, how, ran):
+            self.wrong.append(f"{schedule.name}, {how} {of}: without a stop: status {ran.returncode} {ran.stderr}{self.judged(schedule, how, ran)}")
+            print(self.wrong[-1], flush=True)
+        self.count[how] += number - 1
+        return here
+
+    def keep_in_doubt(self):
+        """Keeps a copy of the folder, if a transaction is in doubt there as in no other one."""
+        copy = f"{self.room}/doubt-{len(self.left_in_doubt)}"
+        shutil.copytree(self.folder, copy)
+        look = f"{self.room}/look"
+        shutil.copytree(self.folder, look)
+        parts, in_doubt = kept(look)
+        tables = []
+        for name in ("desk", "north", "south"):
+            base = sqlite3.connect(f"{look}/{name}.db")
+            tables.append([line for line in base.iterdump() if '"state"' not in line])
+            base.close()
+        shutil.rmtree(look)
+        if in_doubt and all(tables != other for _, other in self.left_in_doubt):
+            self.left_in_doubt.append((copy, tables))
+        else:
+            shutil.rmtree(copy)
+
+    def judged(self, schedule, how, ran):
+        """What is wrong after a run that met a stop; nothing where all is well."""
+        printed = [line for line in PROMPT.sub("", ran.stdout).splitlines() if line]
+        ended, refused = how in ENDING and ran.returncode == STOPPED, ran.returncode == 3
+        is_silent = schedule.in_session and how in ENDING or not ran.stderr
+        if not is_silent and not (refused and ran.stderr in ("fragdb: store 2 Refused\n", "fragdb: store 3 Damaged\n")):
+            return f"status {ran.returncode} with {ran.stderr!r}"
+        if not ended and not refused and ran.returncode not in (0, 1):
+            return f"status {ran.returncode}, {ran.stderr!r}"
+        self.count[f"status 3 {ran.stderr.split()[-1]}" if refused else "went on" if not ended else "ended"] += 1
+        now, states = schedule.start or {"dept": {}, "emp": {}}, []
+        for it in schedule.transactions:
+            answers, after = it.run(now)
+            had, printed = printed[: len(answers)], printed[len(answers) :]
+            if had == answers:
+                now = after
+            elif had and had[:-1] == answers[:-1] and had[-1].startswith("aborted "):
+                # What was told to be aborted is not there, also where the program ended after it.
+                self.count["aborted"] += 1
+            elif (ended or refused) and had == answers[: len(had)]:
+                states = [after]
+                break
+            else:
+                return f"it printed {had}, and {answers} is wanted"
+        return self.looked(schedule, [now, *states]) if not printed else f"it printed {printed} besides"
+
+    def looked(self, schedule, states):
+        """What is wrong with the folder, which has to have one of these states once it is opened again."""
+        again = self.run(self.folder, [".show dept", ".show emp"], {})
+        if again.returncode or again.stderr:
+            return f"the next opening: status {again.returncode}, {again.stderr!r}"
+        parts, in_doubt = kept(self.folder)
+        if in_doubt:
+            return f"{in_doubt} rows are left in doubt"
+        for place, state in enumerate(states):
+            shown = [line for relation in ("dept", "emp") for line in table(COLUMNS[relation], [row for _, row in sorted(state[relation].items())])]
+            if parts == content(schedule.leaves, state) and again.stdout.splitlines() == shown:
+                self.count[("the state before", "the state after")[place] if len(states) > 1 else "as answered"] += 1
+                return None
+        return f"the parts are {parts}, and it shows {again.stdout!r}"
+
+
+def main(room):
+    wanted = sys.argv[1:]
+    bench = Bench(room)
+    manners = [how for how in (*ENDING, *REFUSING) if not wanted[1:] or how in wanted[1:]]
+    all_schedules = schedules()
+    for schedule in all_schedules:
+        if wanted and wanted[0] not in (schedule.name, "all"):
+            continue
+        for how in manners:
+            here = bench.each(schedule, how)
+            print(f"{schedule.name}, {how}: {sum(here.values())} stops: " + ", ".join(f"{name} {number}" for name, number in sorted(here.items())), flush=True)
+        sites = sorted({leaf.site for leaf in schedule.leaves})
+        names = [f"{name}.db{end}" for name in [*sites, "desk"] for end in ("", "-wal")]
+        for how in manners:
+            if how in REFUSING:
+                alone = {name: sum(bench.each(schedule, how, name).values()) for name in names}
+                print(f"{schedule.name}, {how}, one file alone: " + ", ".join(f"{name} {number}" for name, number in alone.items()), flush=True)
+    if not wanted or wanted[0] in ("settle", "all"):
+        move = all_schedules[0]
+        if not bench.left_in_doubt:
+            bench.each(move, "before")
+        for how in manners:
+            stops = 0
+            for folder, tables in bench.left_in_doubt:
+                # Nothing is asked for. What is there once it is settled follows from whether a commit row stands.
+                is_decided = any(line.startswith('INSERT INTO "decided"') for line in tables[0])
+                settle = Schedule("settle", move.leaves, move.text, move.transactions[0].run(move.start)[1] if is_decided else move.start, [])
+                stops += sum(bench.each(settle, how, begun=folder).values())
+            print(f"settle, {how}: {stops} stops over {len(bench.left_in_doubt)} folders in doubt", flush=True)
+    stops = sum(bench.count[how] for how in (*ENDING, *REFUSING))
+    print(", ".join(f"{how} {bench.count[how]}" for how in manners) + f": {stops} stops")
+    print(", ".join(f"{name}: {number}" for name, number in sorted(bench.count.items()) if name not in manners) + f"; {len(bench.wrong)} wrong")
+    return 1 if bench.wrong or not stops else 0
+
+
+room = tempfile.mkdtemp(prefix="stops-", dir=os.environ.get("STOPS_ON", "/dev/shm" if os.path.isdir("/dev/shm") else None))
+try:
+    status = main(room)
+finally:
+    shutil.rmtree(room, ignore_errors=True)
+sys.exit(status)
+PYTHON
