@@ -4,9 +4,12 @@
 # stands before the system's allocator.
 #
 # usage: bench/refused_in_tests.sh CRATE [TESTS]      (default: crates/CRATE/out/CRATE_tests)
+#
+# STRIDE=N refuses each N-th allocation of a test alone, from the first one on: those over SQLite make ten thousands.
 set -eu
 top=$(cd "$(dirname "$0")/.." && pwd)
 crate=$1
+stride=${STRIDE:-1}
 tests=${2:-$top/crates/$crate/out/${crate}_tests}
 folder=$(mktemp -d)
 trap 'rm -rf "$folder"' EXIT
@@ -23,9 +26,10 @@ all_wrong=0
 for name in $("$tests" --list | sed -n 's/: test$//p'); do
     run "$name" 0
     [ "$status" = 0 ] || { echo "$name: status $status with ample memory"; exit 1; }
-    last=$calls number=1 passed=0 ended=0 wrong=0
+    last=$calls number=1 passed=0 ended=0 wrong=0 tries=0
     while [ "$number" -le "$last" ]; do
         run "$name" "$number"
+        tries=$((tries + 1))
         if [ "$status" = 0 ]; then
             passed=$((passed + 1))
         elif grep -Eq 'AllocError|AllocFailed|[Mm]emory' "$folder/said"; then
@@ -34,9 +38,9 @@ for name in $("$tests" --list | sed -n 's/: test$//p'); do
             wrong=$((wrong + 1))
             echo "$name: allocation $number: status $status: $(head -1 "$folder/said")"
         fi
-        number=$((number + 1))
+        number=$((number + stride))
     done
-    echo "$name: $last allocations refused in turn: $passed passed, $ended ended for want of memory, $wrong wrong"
+    echo "$name: $last allocations, $tries refused in turn: $passed passed, $ended ended for want of memory, $wrong wrong"
     all_wrong=$((all_wrong + wrong))
 done
 [ "$all_wrong" = 0 ]

@@ -4,8 +4,8 @@
 # SQLite; of `run`, whose sites and sessions are threads; of `check` on catalogues, and of `plan` on a join and an update.
 # Each must end with status 4, `fragdb: out of memory` alone and the beginning of the whole output, or go on as if nothing had
 # happened. A folder has to open afterwards, with what was answered. In `run` a letter may get lost, so a statement may be
-# told to have aborted; what was not has to be there. A session that waits for ever there, since its reply was lost, is
-# ended after a while and counted by itself: docs/THREADS.md says which can be.
+# told to have aborted; what was not has to be there. No session may wait for ever: one that takes too long is ended, and
+# is wrong.
 # It wants a C compiler (cc), for a library that stands before the system's allocator.
 #
 # usage: bench/refused_memory.sh [PROGRAM [COMMAND ARGUMENT ..]]
@@ -267,8 +267,8 @@ refuse_in_threads() {
     mv "$folder/output" "$folder/whole"
     mv "$folder/errors" "$folder/whole_errors"
     whole_status=$status
-    local last=$((calls + calls / 20 + 20)) number=1 ended=0 same=0 right=0 waits=0 wrong=0 tries=0
-    seconds=10
+    local last=$((calls + calls / 20 + 20)) number=1 ended=0 same=0 right=0 wrong=0 tries=0
+    seconds=120
     while [ "$number" -le "$last" ]; do
         run "$number" run --catalog "$employees" "$@" "$folder/sessions"
         tries=$((tries + 1))
@@ -276,19 +276,17 @@ refuse_in_threads() {
             ended=$((ended + 1))
         elif is_same; then
             same=$((same + 1))
-        elif [ "$status" = 124 ]; then
-            waits=$((waits + 1))
-            echo "run $*: allocation $number: a session waits"
         elif is_right; then
             right=$((right + 1))
         else
             wrong=$((wrong + 1))
+            [ "$status" != 124 ] || echo "a session waits"
             echo "run $*: allocation $number: status $status: $(cat "$folder/errors" "$folder/output")"
         fi
         number=$((number + stride))
     done
     seconds=60
-    echo "run $*: $last allocations, $tries refused in turn: $ended ended for want of memory, $same went on the same, $right with a transaction aborted, $waits wait, $wrong wrong"
+    echo "run $*: $last allocations, $tries refused in turn: $ended ended for want of memory, $same went on the same, $right with a transaction aborted, $wrong wrong"
     all_wrong=$((all_wrong + wrong))
 }
 

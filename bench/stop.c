@@ -11,12 +11,14 @@
               refuse   answers EIO to that call and to all later ones; once: to that call alone
               full     answers ENOSPC to that call and to all later ones, if they are writes, make files or make durable
 
-   Where it stops one, it writes its number and the name of its file to descriptor 9. */
+   Where it stops one, it writes its number and the name of its file to descriptor 9. Calls of threads are made one after
+   another, so that what one writes and what is noted of it belong together. */
 #define _GNU_SOURCE
 #include <dlfcn.h>
 #include <errno.h>
 #include <fcntl.h>
 #include <limits.h>
+#include <pthread.h>
 #include <stdarg.h>
 #include <stdio.h>
 #include <stdlib.h>
@@ -49,6 +51,18 @@ static struct undo *undone;
 static long calls;
 /* The file of the last call that counted. */
 static char last[PATH_MAX];
+
+/* A call that counts is made under this lock, which is free again where the caller's block ends. */
+static pthread_mutex_t one_at_a_time = PTHREAD_RECURSIVE_MUTEX_INITIALIZER_NP;
+
+static void let_go(pthread_mutex_t **held)
+{
+    pthread_mutex_unlock(*held);
+}
+
+#define ALONE                                                                    \
+    __attribute__((cleanup(let_go))) pthread_mutex_t *held = &one_at_a_time;     \
+    pthread_mutex_lock(held)
 
 static const char *word(const char *name, const char *otherwise)
 {
@@ -218,6 +232,7 @@ static int is_of(int fd)
 
 ssize_t write(int fd, const void *bytes, size_t size)
 {
+    ALONE;
     if (is_of(fd)) {
         if (is_stop(1)) {
             if (is_how("half")) (NEXT(write))(fd, bytes, size / 2);
@@ -230,6 +245,7 @@ ssize_t write(int fd, const void *bytes, size_t size)
 
 ssize_t writev(int fd, const struct iovec *parts, int count)
 {
+    ALONE;
     if (is_of(fd)) {
         if (is_stop(1)) {
             if (is_how("half")) (NEXT(writev))(fd, parts, count / 2);
@@ -244,6 +260,7 @@ ssize_t writev(int fd, const struct iovec *parts, int count)
 
 static ssize_t put(int fd, const void *bytes, size_t size, off_t at)
 {
+    ALONE;
     if (is_of(fd)) {
         if (is_stop(1)) {
             if (is_how("half")) (NEXT(pwrite))(fd, bytes, size / 2, at);
@@ -259,6 +276,7 @@ ssize_t pwrite64(int fd, const void *bytes, size_t size, off64_t at) { return pu
 
 static ssize_t putv(int fd, const struct iovec *parts, int count, off_t at)
 {
+    ALONE;
     if (is_of(fd)) {
         if (is_stop(1)) {
             if (is_how("half")) (NEXT(pwritev))(fd, parts, count / 2, at);
@@ -276,6 +294,7 @@ ssize_t pwritev64(int fd, const struct iovec *parts, int count, off64_t at) { re
 
 static int cut(int fd, off_t length)
 {
+    ALONE;
     if (is_of(fd)) {
         if (is_stop(0)) return refuse();
         struct stat found;
@@ -290,6 +309,7 @@ int ftruncate64(int fd, off64_t length) { return cut(fd, length); }
 
 int fsync(int fd)
 {
+    ALONE;
     if (is_of(fd)) {
         if (is_stop(1)) return refuse();
         settle(fd);
@@ -299,6 +319,7 @@ int fsync(int fd)
 
 int fdatasync(int fd)
 {
+    ALONE;
     if (is_of(fd)) {
         if (is_stop(1)) return refuse();
         settle(fd);
@@ -309,6 +330,7 @@ int fdatasync(int fd)
 /* Opens a file. What makes one, or cuts one, counts. */
 static int opened(int folder, const char *name, int flags, mode_t mode)
 {
+    ALONE;
     char room[PATH_MAX];
     const char *path = path_at(folder, name, room);
     int is_making = (flags & (O_CREAT | O_TRUNC)) && counts(path);
@@ -343,18 +365,21 @@ static int is_named(int folder, const char *name)
 
 int mkdir(const char *path, mode_t mode)
 {
+    ALONE;
     if (is_named(AT_FDCWD, path) && is_stop(1)) return refuse();
     return (NEXT(mkdir))(path, mode);
 }
 
 int unlink(const char *path)
 {
+    ALONE;
     if (is_named(AT_FDCWD, path) && is_stop(0)) return refuse();
     return (NEXT(unlink))(path);
 }
 
 int rename(const char *path, const char *other)
 {
+    ALONE;
     char room[PATH_MAX], more[PATH_MAX];
     int is_counted = is_named(AT_FDCWD, other);
     if (is_counted && is_stop(0)) return refuse();
@@ -366,18 +391,21 @@ int rename(const char *path, const char *other)
 
 int link(const char *path, const char *other)
 {
+    ALONE;
     if (is_named(AT_FDCWD, other) && is_stop(0)) return refuse();
     return (NEXT(link))(path, other);
 }
 
 int fchmod(int fd, mode_t mode)
 {
+    ALONE;
     if (is_of(fd) && is_stop(0)) return refuse();
     return (NEXT(fchmod))(fd, mode);
 }
 
 int fchown(int fd, uid_t user, gid_t group)
 {
+    ALONE;
     if (is_of(fd) && is_stop(0)) return refuse();
     return (NEXT(fchown))(fd, user, group);
 }

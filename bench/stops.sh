@@ -1,6 +1,6 @@
 #!/usr/bin/env bash
-# Stops `fragdb solo --dir` at each of its calls that change a file or make it durable, in turn, and looks at what is there
-# when the folder is opened again.
+# Stops `fragdb solo --dir`, and `fragdb run --dir`, at each of its calls that change a file or make it durable, in turn, and
+# looks at what is there when the folder is opened again.
 #
 #   bench/stops.sh [SCHEDULE [MANNER]]      without words all of both
 #
@@ -10,6 +10,8 @@
 #   transaction  four statements over three sites, between BEGIN and COMMIT
 #   several      three lone statements and a transaction, in a session that shows each answer at once
 #   first        a folder that isn't there, and one statement
+#   sessions     two sessions of `fragdb run`, one with statements of one site, the other with one of the other site and with
+#                a transaction of both; none is in another's way
 #   settle       a folder that the stops of `move` have left in doubt, each such one; the next opening settles it
 # MANNERS (bench/stop.c):
 #   before, half          the process ends before the call; or when half of a write is written
@@ -22,12 +24,18 @@
 # transaction that was answered it has to be the relations after it. `.show` of the program has to say the same. With a
 # manner that refuses, the program has to end with status 3 and one line, or to go on rightly.
 #
+# In which order the calls of sessions come is not determined, so a call of some number is another one in each run. They show
+# their answers at the end. Where a process was stopped before that, each session has done its first transactions, so many or
+# none; where a store refused and the process ended, each transaction is there or not; where it went on, just those that were
+# answered are, `weave` has to say yes, and the relations that it shows have to be those.
+#
 # The program is crates/fragdb/out/fragdb, or the one that FRAGDB names. It wants a C compiler (cc) and Python. STOPS_ON
 # names the folder to work in, in memory where it isn't given. Ends with 1 where one stop left something wrong.
 set -u
 cd "$(dirname "$0")/.."
 exec python3 - "$@" <<'PYTHON'
 import collections
+import itertools
 import os
 import re
 import shutil
@@ -104,16 +112,45 @@ class Schedule:
         return [line for it in self.transactions for line in it.lines()]
 
 
+class AtOnce(Schedule):
+    """Sessions of `fragdb run`, each with transactions in turn. None is in another's way, so what they do stands side by side."""
+
+    def __init__(self, name, leaves, text, start, sessions):
+        super().__init__(name, leaves, text, start, [it for turns in sessions.values() for it in turns])
+        self.sessions = sessions
+
+    def lines(self):
+        said = [[f"{name} {line}" for it in turns for line in it.lines()] for name, turns in self.sessions.items()]
+        return [line for together in itertools.zip_longest(*said) for line in together if line]
+
+    def after(self, done):
+        """The relations after these transactions."""
+        now = self.start
+        for it in done:
+            _, now = it.run(now)
+        return now
+
+    def beginnings(self):
+        """What of all sessions may have been done where each was stopped at some transaction."""
+        counts = itertools.product(*(range(len(turns) + 1) for turns in self.sessions.values()))
+        return [[it for count, turns in zip(each, self.sessions.values()) for it in turns[:count]] for each in counts]
+
+    def choices(self):
+        """Any of the transactions."""
+        return [[it for it, is_in in zip(self.transactions, each) if is_in] for each in itertools.product((False, True), repeat=len(self.transactions))]
+
+
 def schedules():
     with open("crates/fragdb/data/emp_and_dept.toml", encoding="utf-8") as file:
         two = file.read()
     move = Step("UPDATE emp SET dept = 12 WHERE id = 1", "emp", lambda row: row[0] == 1, lambda row: (row[0], row[1], 12, row[3]))
     insert = Step("INSERT INTO emp VALUES (3, 'Cy', 12, 300)", "emp", 3, (3, "Cy", 12, 300))
     delete = Step("DELETE FROM emp WHERE id = 1", "emp", lambda row: row[0] == 1, None)
+    retitled = Step("UPDATE dept SET title = 'pier' WHERE no = 12", "dept", lambda row: row[0] == 12, lambda row: (row[0], "pier"))
     together = Transaction(
         move,
         Step("INSERT INTO emp VALUES (3, 'Cy', 7, 300)", "emp", 3, (3, "Cy", 7, 300)),
-        Step("UPDATE dept SET title = 'pier' WHERE no = 12", "dept", lambda row: row[0] == 12, lambda row: (row[0], "pier")),
+        retitled,
         Step("DELETE FROM emp WHERE id = 2", "emp", lambda row: row[0] == 2, None),
     )
     several = [
@@ -126,6 +163,16 @@ def schedules():
         ),
     ]
     first = Step("INSERT INTO dept VALUES (7, 'paint')", "dept", 7, (7, "paint"))
+    sessions = {
+        "a": [
+            Transaction(Step("INSERT INTO dept VALUES (1, 'x')", "dept", 1, (1, "x")), is_lone=True),
+            Transaction(move, insert),
+        ],
+        "b": [
+            Transaction(Step("INSERT INTO dept VALUES (50, 'y')", "dept", 50, (50, "y")), is_lone=True),
+            Transaction(retitled, is_lone=True),
+        ],
+    }
     return [
         Schedule("move", TWO_SITES, two, LOADED, [Transaction(move, is_lone=True)]),
         Schedule("insert", TWO_SITES, two, LOADED, [Transaction(insert, is_lone=True)]),
@@ -133,7 +180,13 @@ def schedules():
         Schedule("transaction", THREE_SITES, THREE_SITES_TEXT, LOADED, [together]),
         Schedule("several", TWO_SITES, two, LOADED, several, in_session=True),
         Schedule("first", TWO_SITES, two, None, [Transaction(first, is_lone=True)]),
+        AtOnce("sessions", TWO_SITES, two, LOADED, sessions),
     ]
+
+
+def shown_as(relations, name):
+    """The lines by which a relation is shown."""
+    return table(COLUMNS[name], [row for _, row in sorted(relations[name].items())])
 
 
 class Bench:
@@ -154,12 +207,12 @@ class Bench:
                 sys.exit(f"the program can't load: {ran.stdout}{ran.stderr}")
         return loaded if schedule.start else None
 
-    def run(self, folder, lines, stop, in_session=False):
+    def run(self, folder, lines, stop, *more_words, command="solo"):
         """Runs lines over a folder. With a stop, its library stands before the system's."""
         script = f"{self.room}/script"
         with open(script, "w", encoding="utf-8") as file:
             file.write("".join(f"{line}\n" for line in lines))
-        words = [PROGRAM, "solo", "--catalog", f"{self.room}/catalogue.toml", *(["--interactive"] if in_session else []), "--dir", folder, script]
+        words = [PROGRAM, command, "--catalog", f"{self.room}/catalogue.toml", *more_words, "--dir", folder, script]
         told = os.open(f"{self.room}/told", os.O_RDWR | os.O_CREAT | os.O_TRUNC)
         os.dup2(told, 9)
         os.set_inheritable(9, True)
@@ -186,7 +239,11 @@ class Bench:
         number, here = 0, collections.Counter()
         for number in range(1, 100000):
             self.begin(begun)
-            ran = self.run(self.folder, schedule.lines(), {"STOP_AT": number, "STOP_HOW": how, "STOP_OF": of}, schedule.in_session and how in ENDING)
+            stop = {"STOP_AT": number, "STOP_HOW": how, "STOP_OF": of}
+            if isinstance(schedule, AtOnce):
+                ran = self.run(self.folder, schedule.lines(), stop, command="run")
+            else:
+                ran = self.run(self.folder, schedule.lines(), stop, *(["--interactive"] if schedule.in_session and how in ENDING else []))
             name = self.stopped()
             if not name:
                 break
@@ -223,6 +280,8 @@ class Bench:
 
     def judged(self, schedule, how, ran):
         """What is wrong after a run that met a stop; nothing where all is well."""
+        if isinstance(schedule, AtOnce):
+            return self.judged_at_once(schedule, how, ran)
         printed = [line for line in PROMPT.sub("", ran.stdout).splitlines() if line]
         ended, refused = how in ENDING and ran.returncode == STOPPED, ran.returncode == 3
         is_silent = schedule.in_session and how in ENDING or not ran.stderr
@@ -247,6 +306,36 @@ class Bench:
                 return f"it printed {had}, and {answers} is wanted"
         return self.looked(schedule, [now, *states]) if not printed else f"it printed {printed} besides"
 
+    def judged_at_once(self, schedule, how, ran):
+        """The same of sessions at once."""
+        ended, refused = how in ENDING and ran.returncode == STOPPED, ran.returncode == 3
+        if ran.stderr and not (refused and ran.stderr in ("fragdb: store 2 Refused\n", "fragdb: store 3 Damaged\n")):
+            return f"status {ran.returncode} with {ran.stderr!r}"
+        if ended or refused:
+            self.count["ended" if ended else f"status 3 {ran.stderr.split()[-1]}"] += 1
+            done = schedule.beginnings() if ended else schedule.choices()
+            return self.looked(schedule, [schedule.after(it) for it in done]) if not ran.stdout else f"it printed {ran.stdout!r}"
+        self.count["went on"] += 1
+        heard, woven, shown = ran.stdout.partition("weave yes\n")
+        if ran.returncode or not woven:
+            return f"status {ran.returncode}, it printed {ran.stdout!r}"
+        done, printed = [], heard.splitlines()
+        for name, turns in schedule.sessions.items():
+            for it in turns:
+                answers = [f"{name}: {answer}" for answer in it.run(schedule.start)[0]]
+                had, printed = printed[: len(answers)], printed[len(answers) :]
+                if had == answers:
+                    done.append(it)
+                elif had[:-1] == answers[:-1] and had[-1].startswith(f"{name}: aborted "):
+                    self.count["aborted"] += 1
+                else:
+                    return f"it printed {had}, and {answers} is wanted"
+        state = schedule.after(done)
+        wanted = [line for relation in ("dept", "emp") for line in [relation, *shown_as(state, relation)]]
+        if printed or shown.splitlines() != wanted:
+            return f"it showed {printed} and {shown!r}, and {wanted} is wanted"
+        return self.looked(schedule, [state])
+
     def looked(self, schedule, states):
         """What is wrong with the folder, which has to have one of these states once it is opened again."""
         again = self.run(self.folder, [".show dept", ".show emp"], {})
@@ -256,9 +345,10 @@ class Bench:
         if in_doubt:
             return f"{in_doubt} rows are left in doubt"
         for place, state in enumerate(states):
-            shown = [line for relation in ("dept", "emp") for line in table(COLUMNS[relation], [row for _, row in sorted(state[relation].items())])]
+            shown = [line for relation in ("dept", "emp") for line in shown_as(state, relation)]
             if parts == content(schedule.leaves, state) and again.stdout.splitlines() == shown:
-                self.count[("the state before", "the state after")[place] if len(states) > 1 else "as answered"] += 1
+                names = {1: ["as answered"], 2: ["the state before", "the state after"]}.get(len(states))
+                self.count[names[place] if names else "some of the transactions"] += 1
                 return None
         return f"the parts are {parts}, and it shows {again.stdout!r}"
 

@@ -2,7 +2,7 @@
 
 ghost use Rattle.std.specs.Borrow.{follows_so, sem};
 ghost use mathlib.Core.Option.{none};
-ghost use Rattle.std.specs.Prelude.{◌≡◌, ⊤, [], All, IfOk, OnErr};
+ghost use Rattle.std.specs.Prelude.{◌≡◌, ⊤, [], All, IfOk, IfSome, OnErr, Some};
 ghost use Rattle.protocol.specs.Parts.{In};
 ghost use Rattle.history.specs.Called.{DeskCalled};
 ghost use Rattle.history.specs.DeskHistory.{StaysDesk};
@@ -63,6 +63,8 @@ pub(crate) struct Done {
     pub given: Vec<Given>,
     /// Those of the call that gave a transaction up, a letter of which was lost.
     pub given_up: Vec<Given>,
+    /// The transaction of a letter that was lost, where memory ran out for giving it up too.
+    pub stuck: Option<Txn>,
     /// Why the call was refused, if it was.
     pub fault: Option<Fault>,
 }
@@ -101,15 +103,16 @@ impl<D: DeskStore> Front<D> {
         let mut given = Vec::with_capacity(alloc, REPLIES)?;
         let mut given_up = Vec::with_capacity(alloc, REPLIES)?;
         let Put { fault, lost } = self.put_through(rt, errand, counter, &mut given)?;
-        self.give_up(rt, lost, counter, &mut given_up);
+        let stuck = self.give_up(rt, lost, counter, &mut given_up);
         Ok(Done {
             given,
             given_up,
+            stuck,
             fault,
         })
     }
 
-    /// Gives a transaction up, a letter of which was lost, if one was. For want of memory it isn't.
+    /// Gives a transaction up, a letter of which was lost, if one was. Where memory runs out it isn't, and is answered.
     #[tactic(auto, using(crate::proofs::Handed::gives_up))]
     fn give_up<R: Wait>(
         &mut self,
@@ -117,14 +120,19 @@ impl<D: DeskStore> Front<D> {
         lost: Option<Txn>,
         counter: &AtomicU64,
         given: &mut Vec<Given>,
-    )
+    ) -> Option<Txn>
         requires { given.old.items ≡ [] }
+        ensures stuck { IfSome result (λ txn. (lost ≡ Some txn) × (given.new.items ≡ [])) }
         ensures given_up { MayGiveUp D.is_clean D.kept self.old.cell self.new.cell given.new.items }
         ensures ways { self.new.ways ≡ self.old.ways }
     {
         if let Some(txn) = lost {
-            let _ = self.put_through(rt, Errand::GiveUp(txn), counter, given);
+            let put = self.put_through(rt, Errand::GiveUp(txn), counter, given);
+            if put.is_err() {
+                return Some(txn);
+            }
         }
+        None
     }
 
     /// Calls the coordinator once, and puts out what the call's entry has.

@@ -1,6 +1,6 @@
 //! Who waits for replies.
 
-ghost use Rattle.std.specs.Prelude.{◌≡◌, IfSome};
+ghost use Rattle.std.specs.Prelude.{◌≡◌, IfSome, None};
 
 use crossbeam_channel::Sender;
 use desk::reply::{Notice, Reply};
@@ -13,14 +13,27 @@ use terms::memory::Memory;
 /// A reply on its way to its session.
 #[derive(Drop)]
 pub(crate) struct Given {
-    /// The number of the coordinator's entry that put it out.
+    /// The number of the coordinator's entry that put it out; 0 of one that was lost.
     pub number: u64,
     pub txn: Txn,
-    /// The reply. There is none where memory ran out for its copy: only an answer takes any.
+    /// The reply. There is none where memory ran out for its copy, of which only an answer takes any, or on its way.
     pub reply: Option<Reply>,
 }
 
 impl Given {
+    /// No reply: it is lost for want of memory.
+    pub fn lost(txn: Txn) -> Given
+        ensures number { result.number ≡ 0 }
+        ensures txn { result.txn ≡ txn }
+        ensures reply { result.reply ≡ None }
+    {
+        Given {
+            number: 0,
+            txn,
+            reply: None,
+        }
+    }
+
     /// A copy of what an entry of this number put out.
     pub fn of(number: u64, notice: &Notice) -> Given
         ensures number { result.number ≡ number }
@@ -44,6 +57,8 @@ impl Given {
 struct Seat {
     txn: Txn,
     to: Sender<Given>,
+    /// Whether the session was told that memory ran out on the way of a reply.
+    is_lost: bool,
 }
 
 /// The sessions that wait, by their transactions. They lie under a lock, which forgets what was known of them, so no
@@ -63,7 +78,11 @@ impl Seats {
 
     /// The replies of a transaction go this way from now on.
     pub fn enter(&mut self, txn: Txn, to: Sender<Given>) -> Result<(), Memory> {
-        self.seats.push(Seat { txn, to })?;
+        self.seats.push(Seat {
+            txn,
+            to,
+            is_lost: false,
+        })?;
         Ok(())
     }
 
@@ -72,11 +91,29 @@ impl Seats {
         self.seats.retain(|seat| seat.txn != txn);
     }
 
-    /// Sends a reply to the session that waits for it. Where none does, or there is no memory, the reply is lost.
+    /// Sends a reply to the session that waits for it, whose channel has room. Where none waits, the reply is lost.
     pub fn tell<R: Wait>(&self, rt: &R, given: Given) {
         let seat = self.seats.iter().find(|seat| seat.txn == given.txn);
         if let Some(seat) = seat {
-            let _ = seat.to.send(rt, given);
+            let _ = seat.to.try_send(rt, given);
         }
+    }
+
+    /// A letter without which a transaction doesn't go on was lost for want of memory: the session that waits for its reply is
+    /// told so, once.
+    pub fn lose<R: Wait>(&mut self, rt: &R, txn: Txn) {
+        for seat in self.seats.iter_mut() {
+            if seat.txn == txn && !seat.is_lost {
+                seat.is_lost = true;
+                let _ = seat.to.try_send(rt, Given::lost(txn));
+            }
+        }
+    }
+
+    /// Whether such a letter of a transaction was lost.
+    pub fn has_lost(&self, txn: Txn) -> bool {
+        self.seats
+            .iter()
+            .any(|seat| seat.txn == txn && seat.is_lost)
     }
 }

@@ -26,6 +26,11 @@ use terms::copy::TryCopy;
 use terms::memory::Memory;
 use terms::text::Text;
 
+/// How many replies may be on their way to a session. A transaction has two at most that its session hasn't heard, an answer and an
+/// abort, and those of a transaction that has ended are passed over as the next one begins. The room is taken as the session
+/// opens, so that no reply needs memory on its way.
+const REPLIES_ON_THEIR_WAY: usize = 8;
+
 /// A client's session: it executes one text after another, and keeps what it told.
 #[derive(Drop)]
 pub struct Session<'a, D: DeskStore, G> {
@@ -51,7 +56,7 @@ impl<'a, D: DeskStore, G> Session<'a, D, G> {
         ensures told { IfOk result (λ session. session.told ≡ []) }
         ensures closed { IfOk result (λ session. session.is_open ≡ false) }
     {
-        let (to, given) = crossbeam_channel::unbounded::<Given, Global>(alloc)?;
+        let (to, given) = crossbeam_channel::bounded::<Given, Global>(alloc, REPLIES_ON_THEIR_WAY)?;
         Ok(Session {
             talk: Talk {
                 shared,

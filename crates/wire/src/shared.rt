@@ -8,8 +8,9 @@ use std::alloc::Global;
 use std::sync::atomic::AtomicU64;
 use std::sync::{Mutex, Wait};
 use store::desk_store::DeskStore;
-use store::letter::Letter;
+use store::letter::{Body, Letter};
 use store::name::Txn;
+use store::reply::Reply;
 use terms::memory::Memory;
 
 /// How often a site's thread calls the coordinator for one letter, where memory runs out.
@@ -42,10 +43,14 @@ impl<D: DeskStore, G> Shared<D, G> {
         let Done {
             given,
             given_up,
+            stuck,
             fault,
         } = self.call(rt, errand)?;
         self.hand_out(rt, given);
         self.hand_out(rt, given_up);
+        if let Some(txn) = stuck {
+            self.lose(rt, txn);
+        }
         match fault {
             Some(fault) => Err(CallFault::from(fault)),
             None => Ok(()),
@@ -59,23 +64,40 @@ impl<D: DeskStore, G> Shared<D, G> {
         }
     }
 
-    /// Calls the coordinator, again where memory runs out, three times in all.
-    fn insist<R: Wait>(&self, rt: &R, errand: Errand<'_>) {
+    /// Calls the coordinator, again where memory runs out, three times in all. Answers whether it had memory.
+    fn insist<R: Wait>(&self, rt: &R, errand: Errand<'_>) -> bool {
         for _ in 0..TRIES {
             match self.ask(rt, errand) {
                 Err(CallFault::Memory) => {}
-                _ => break,
+                _ => return true,
             }
+        }
+        false
+    }
+
+    /// Brings a site's letter to the coordinator. Where memory runs out three times, the letter is lost, and the session that
+    /// waits for what comes of it is told so.
+    pub fn bring<R: Wait>(&self, rt: &R, letter: &Letter) {
+        if !self.insist(rt, Errand::Take(letter)) && is_awaited(letter) {
+            self.lose(rt, letter.txn);
         }
     }
 
-    /// Brings a site's letter to the coordinator. Where memory runs out three times, the letter is lost.
-    pub fn bring<R: Wait>(&self, rt: &R, letter: &Letter) {
-        self.insist(rt, Errand::Take(letter));
+    /// Gives a transaction up, unless it is decided. Where memory runs out three times, it stays undecided, and the session that
+    /// waits for it is told so.
+    pub fn give_up<R: Wait>(&self, rt: &R, txn: Txn) {
+        if !self.insist(rt, Errand::GiveUp(txn)) {
+            self.lose(rt, txn);
+        }
     }
 
-    /// Gives a transaction up, unless it is decided. Where memory runs out three times, it stays undecided.
-    pub fn give_up<R: Wait>(&self, rt: &R, txn: Txn) {
-        self.insist(rt, Errand::GiveUp(txn));
+    /// Tells the session that waits for a transaction that memory ran out. No clause says so, since none follows a channel.
+    fn lose<R: Wait>(&self, rt: &R, txn: Txn) {
+        self.seats.lock(rt).lose(rt, txn);
     }
+}
+
+/// Whether a transaction goes on by a letter of a site: not by one that a decision is done, nor by a question for it.
+fn is_awaited(letter: &Letter) -> bool {
+    !matches!(&letter.body, Body::Reply(Reply::Ack(_) | Reply::Inquire(_)))
 }

@@ -132,7 +132,8 @@ impl<'a, D: DeskStore, G> Talk<'a, D, G> {
         heard
     }
 
-    /// What a command is answered while a transaction is open.
+    /// What a command is answered while a transaction is open: that memory ran out, once a letter without which it doesn't go on
+    /// was lost for that.
     fn answer<R: Wait>(
         &self,
         rt: &R,
@@ -145,6 +146,9 @@ impl<'a, D: DeskStore, G> Talk<'a, D, G> {
     {
         if let Some(why) = self.aborted(rt, txn) {
             return Err(CallFault::Aborted(why));
+        }
+        if self.has_lost(rt, txn) {
+            return Err(CallFault::Memory);
         }
         match command {
             Command::Begin => Err(CallFault::Busy),
@@ -181,6 +185,7 @@ impl<'a, D: DeskStore, G> Talk<'a, D, G> {
     /// Begins a transaction, whose replies come to this session.
     fn begin<R: Wait>(&self, rt: &R) -> Result<Begun, CallFault> {
         let to = self.to.clone()?;
+        self.pass_over(rt);
         let Done { given, fault, .. } = self.shared.call(rt, Errand::Begin)?;
         if let Some(fault) = fault {
             return Err(CallFault::from(fault));
@@ -192,6 +197,15 @@ impl<'a, D: DeskStore, G> Talk<'a, D, G> {
             return Err(CallFault::Memory);
         }
         Ok(begun)
+    }
+
+    /// Passes over what is left of replies to transactions that have ended.
+    fn pass_over<R: Wait>(&self, rt: &R) {
+        for _ in rt.forever() {
+            if self.given.try_recv(rt).is_err() {
+                break;
+            }
+        }
     }
 
     /// Calls the coordinator for a transaction, and waits for the reply. A transaction that isn't undecided any more has
@@ -231,6 +245,11 @@ impl<'a, D: DeskStore, G> Talk<'a, D, G> {
             }
         }
         None
+    }
+
+    /// Whether memory ran out for a letter without which a transaction doesn't go on.
+    fn has_lost<R: Wait>(&self, rt: &R, txn: Txn) -> bool {
+        self.shared.seats.lock(rt).has_lost(txn)
     }
 
     /// Nobody waits for the replies of a transaction any more.

@@ -2,4 +2,4 @@
 use Rattle.wire.proofs.front.Front.call.Goals as goal
 
 pub returns-clause-ok : goal.returns-clause-ok
-returns-clause-ok g c = record { between = c.put_through.new.self.cell; called = c.in_ok-fault.ensures.ok; rest = c.give_up.ensures.given_up }
+returns-clause-ok g c = record { between = c.put_through.new.self.cell; called = c.in_ok-fault.ensures.ok; rest = c.give_up-stuck.ensures.given_up }
