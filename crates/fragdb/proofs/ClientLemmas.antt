@@ -29,11 +29,10 @@ use Rattle.fragdb.specs.Reply.{Answered, Refused, Told, told_by}
 use Rattle.fragdb.specs.Client.{AnswersTask, GoesOn, IsAnswered, IsDone, Seen, ShowsLeafAs, Standing, StandsStill, heard_text, standing_of}
 use Rattle.std.specs.Io.KnownBytes.{Appends}
 use Rattle.fragdb.specs.declared.fault.ProgramFault.{ProgramFault}
-use Rattle.fragdb.specs.declared.script.Item.{Item}
 use Rattle.fragdb.specs.Origin.{Begins, Origin}
-use Rattle.fragdb.specs.Script.{Nothing, Reading, Runs, ShowsLeaf, ShowsRelation, Unreadable, task_of}
+use Rattle.fragdb.specs.Script.{DumpsRelation, Nothing, Reading, Runs, ShowsLeaf, ShowsRelation, Unreadable}
 use Rattle.fragdb.specs.Shown.{written_leaf}
-use Rattle.fragdb.specs.Solo.{AnswersTasks, IsRun, Stretches, said_by, said_by_tasks}
+use Rattle.fragdb.specs.Solo.{AnswersTasks, IsRun, IsStretch, Stretches, said_by, said_by_tasks}
 
 -- machines without the count of refusals
 abbrev pub uncounted : Machines → Machines
@@ -175,6 +174,8 @@ task_told mode catalogue law (ShowsRelation name) old new (Answered told) entrie
 task_told mode catalogue law (ShowsRelation name) old new (Refused told) entries so answers = absurd answers
 task_told mode catalogue law (ShowsLeaf name) old new (Answered told) entries so answers = still_told catalogue old new entries so (leaf_still mode catalogue name (written_leaf name (catalogue_leaves catalogue)) old new told answers).past
 task_told mode catalogue law (ShowsLeaf name) old new (Refused told) entries so answers = absurd answers
+task_told mode catalogue law (DumpsRelation name) old new (Answered told) entries so answers = still_told catalogue old new entries so answers.0.past
+task_told mode catalogue law (DumpsRelation name) old new (Refused told) entries so answers = absurd answers
 task_told mode catalogue law Unreadable old new told entries so answers = absurd answers
 
 tasks_told : (mode : Mode) (catalogue : Catalogue) (law : MovesFollow (database catalogue)) (answers : List (Reading × Told)) (old new : Standing catalogue) (entries : List Entry) → Tells (database catalogue) entries old.past → (answered : AnswersTasks mode catalogue answers old new) →
@@ -185,29 +186,31 @@ tasks_told mode catalogue law (first ∷ others) old new entries so answered =
     subst (λ es. Tells (database catalogue) es new.past) (append_assoc entries said (said_by_tasks mode catalogue others answered.0 new answered.2))
     (tasks_told mode catalogue law others answered.0 new (entries ++ said) (task_told mode catalogue law first.0 old answered.0 first.1 entries so answered.1) answered.2)
 
--- a script over a database that was opened has run
-pub ran_from : {B : Type 0} (seen : Seen B) (IsOrigin : Origin → Type 0) (mode : Mode) (old new : Option (List ℕ)) (catalogue : Catalogue) (items : List Item) (opened ended : B) (result : Result Bool ProgramFault) → Begins seen IsOrigin catalogue opened → MovesFollow (database catalogue) →
-    (seen.is_clean ended → seen.is_clean opened) → IfOk result (Stretches seen mode (map task_of items) old new opened ended) →
-    IfOk result (λ any_refused. (written : List ℕ) × Appends old new written × IsRun seen IsOrigin mode catalogue (map task_of items) written any_refused)
-ran_from seen IsOrigin mode old new catalogue items opened ended (Ok any_refused) fresh law was_clean works = (
-  works.written,
-  works.told,
-  record {
-    origin = fresh.0;
-    is_origin = fresh.1;
-    ended = ended;
-    ran = λ whole begins clean.
-        let begun = fresh.2.goes_on whole begins (was_clean clean) in
-        let stretch = works.ran catalogue whole [] clean begun in
-        record {
-          opening = standing_of seen catalogue opened [];
-          opened = record { served = begun.served; none = refl; idle = fresh.2.idle };
-          end = standing_of seen catalogue ended stretch.later;
-          work = stretch.work;
-          served = stretch.goes_on.served;
-          stands = stretch.goes_on.stands;
-          serial = law.serial whole (seen.machines ended) _ stretch.later (tasks_told mode catalogue law stretch.work.answers (standing_of seen catalogue opened []) (standing_of seen catalogue ended stretch.later) [] (record { phased = refl; stated = tt; heard = refl }) stretch.work.answered) stretch.goes_on.served;
-        };
-  },
-)
-ran_from seen IsOrigin mode old new catalogue items opened ended (Err fault) fresh law was_clean works = tt
+-- tasks over a database that was opened are a run of them
+pub run_from : {B : Type 0} (seen : Seen B) (IsOrigin : Origin → Type 0) (mode : Mode) (catalogue : Catalogue) (tasks : List Reading) (written : List ℕ) (any_refused : Bool) (opened ended : B) → Begins seen IsOrigin catalogue opened → MovesFollow (database catalogue) → (seen.is_clean ended → seen.is_clean opened) →
+    ((whole : Relations) (past : List (Deed (language (database catalogue)))) → seen.is_clean ended → GoesOn seen catalogue whole past opened → IsStretch seen mode catalogue whole tasks past opened ended written any_refused) → IsRun seen IsOrigin mode catalogue tasks written any_refused
+run_from seen IsOrigin mode catalogue tasks written any_refused opened ended fresh law was_clean works = record {
+  origin = fresh.0;
+  is_origin = fresh.1;
+  ended = ended;
+  ran = λ whole begins clean.
+      let begun = fresh.2.goes_on whole begins (was_clean clean) in
+      let stretch = works whole [] clean begun in
+      record {
+        opening = standing_of seen catalogue opened [];
+        opened = record { served = begun.served; none = refl; idle = fresh.2.idle };
+        end = standing_of seen catalogue ended stretch.later;
+        work = stretch.work;
+        served = stretch.goes_on.served;
+        stands = stretch.goes_on.stands;
+        serial = law.serial whole (seen.machines ended) _ stretch.later (tasks_told mode catalogue law stretch.work.answers (standing_of seen catalogue opened []) (standing_of seen catalogue ended stretch.later) [] (record { phased = refl; stated = tt; heard = refl }) stretch.work.answered) stretch.goes_on.served;
+      };
+}
+
+-- tasks over a database that was opened have run
+pub ran_from : {B : Type 0} (seen : Seen B) (IsOrigin : Origin → Type 0) (mode : Mode) (old new : Option (List ℕ)) (catalogue : Catalogue) (tasks : List Reading) (opened ended : B) (result : Result Bool ProgramFault) → Begins seen IsOrigin catalogue opened → MovesFollow (database catalogue) →
+    (seen.is_clean ended → seen.is_clean opened) → IfOk result (Stretches seen mode tasks old new opened ended) →
+    IfOk result (λ any_refused. (written : List ℕ) × Appends old new written × IsRun seen IsOrigin mode catalogue tasks written any_refused)
+ran_from seen IsOrigin mode old new catalogue tasks opened ended (Ok any_refused) fresh law was_clean works =
+    (works.written, works.told, run_from seen IsOrigin mode catalogue tasks works.written any_refused opened ended fresh law was_clean (λ whole past clean h. works.ran catalogue whole past clean h))
+ran_from seen IsOrigin mode old new catalogue tasks opened ended (Err fault) fresh law was_clean works = tt

@@ -19,6 +19,8 @@ pub mod LoadedLemmas
 pub mod PlayLemmas
 pub mod PerformLemmas
 pub mod SessionLemmas
+pub mod ScriptFileLemmas
+pub mod ImportLemmas
 pub mod SqlStoresLemmas
 pub mod ConversationLemmas
 pub mod RunLemmas

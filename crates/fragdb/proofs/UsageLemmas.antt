@@ -10,12 +10,15 @@ use Rattle.clap.specs.declared.parser.matches.SubCommand.{SubCommand, out-SubCom
 use Rattle.clap.specs.declared.parser.matches.ArgMatches.{ArgMatches, out-ArgMatches}
 use Rattle.fragdb.specs.declared.usage.Request.{Request}
 use Rattle.fragdb.specs.declared.usage.Sessions.{Sessions}
+use Rattle.fragdb.specs.declared.transfer.Dump.{Dump}
+use Rattle.fragdb.specs.declared.transfer.Import.{Import}
+use Rattle.fragdb.specs.declared.transfer.Suggest.{Suggest}
 use Rattle.clap.specs.declared.error.kind.ErrorKind.{ErrorKind}
 use Rattle.clap.specs.declared.error.kind.ErrorKind.TheVariants.{ArgumentConflict, InvalidValue, MissingRequiredArgument, OutOfMemory}
 use Rattle.clap.specs.declared.error.Error.{Error}
 use Rattle.clap.specs.Words.{kind_of}
 use Rattle.shell.specs.declared.mode.Mode.{Mode}
-use Rattle.fragdb.specs.Usage.{Asks, AsksSessions, IsGiven, IsMisuse, IsNoNumber, mode_of_flags, no_memory, no_memory_left, no_number, no_script, two_modes, asked, asked_sessions, retry_of, flags_of, is_interactive, is_set, script_of}
+use Rattle.fragdb.specs.Usage.{Asks, AsksImport, AsksSessions, AsksSuggest, IsGiven, IsNoCount, no_count, no_memory_for_it, IsMisuse, IsNoNumber, mode_of_flags, no_memory, no_memory_left, no_number, no_script, two_modes, asked, asked_dump, asked_import, asked_sessions, asked_suggest, every_of, retry_of, sites_of, flags_of, is_interactive, is_set, script_of}
 use Rattle.fragdb.specs.Grammar.{usage}
 
 pub subcommand_name_of-rows : (m : ArgMatches) → subcommand_name_of m ≡ option_map (λ p. p.0) (subcommand_rows_of m)
@@ -102,6 +105,51 @@ sessions_asked words entered found script e n r s sessions a sqlite retry =
       given = record { rows = rows; command = command_is words entered (codes "run") rows e n r; arguments = (row_of (codes "N"), arguments); set = (ap is_set (row_of (codes "SQLITE")) ∙ sqlite, tt) };
       retries = retry;
     }
+
+-- what `dump` asks for, where its arguments were found so
+pub dump_asked : (words : List Text) (entered : Option (Text × List Row)) (found : Found) → entered ≡ subcommand_of usage words → Some (codes "dump") ≡ option_map (λ p. p.0) entered → Some (rows_of found) ≡ option_map (λ p. p.1) entered → (dump : Dump) →
+    option_map (λ file. file.now) dump.catalog ≡ first_value found (codes "CATALOG") → option_map (λ name. name.now) dump.relation ≡ first_value found (codes "RELATION") → option_map (λ folder. folder.now) dump.dir ≡ first_value found (codes "DIR") → IsGiven words (asked_dump dump) []
+dump_asked words entered found e n r dump catalog relation dir =
+    let row_of : (name : Text) (value : Option Text) → value ≡ first_value found name → first_of name (rows_of found) ≡ value = λ name value is. sym (is ∙ first_value-rows found name) in
+    record { rows = rows_of found; command = command_is words entered (codes "dump") (rows_of found) e n r; arguments = (row_of (codes "CATALOG") _ catalog, (row_of (codes "RELATION") _ relation, (row_of (codes "DIR") _ dir, tt))); set = tt }
+
+-- what `import` asks for, where its arguments were found so
+pub import_asked : (words : List Text) (entered : Option (Text × List Row)) (found : Found) (relation file : Text) → entered ≡ subcommand_of usage words → Some (codes "import") ≡ option_map (λ p. p.0) entered → Some (rows_of found) ≡ option_map (λ p. p.1) entered → Some relation ≡ first_value found (codes "RELATION") → Some file ≡ first_value found (codes "FILE") → (import : Import) →
+    asked_import import ≡ (codes "import", (codes "CATALOG", first_value found (codes "CATALOG")) ∷ (codes "RELATION", Some relation) ∷ (codes "FILE", Some file) ∷ (codes "DIR", first_value found (codes "DIR")) ∷ []) →
+    every_of (first_value found (codes "ROWS")) ≡ Some import.every → AsksImport words import
+import_asked words entered found relation file e n r s t import a every =
+    let rows : List Row = rows_of found in
+    let row_of : (name : Text) → first_of name rows ≡ first_value found name = λ name. sym (first_value-rows found name) in
+    let arguments : AllByRecursion (λ argument. first_of argument.0 rows ≡ argument.1) (asked_import import).1 =
+    subst (λ request. AllByRecursion (λ argument. first_of argument.0 rows ≡ argument.1) request.1) (sym a) (row_of (codes "CATALOG"), (row_of (codes "RELATION") ∙ sym s, (row_of (codes "FILE") ∙ sym t, (row_of (codes "DIR"), tt)))) in
+    record {
+      every = first_value found (codes "ROWS");
+      given = record { rows = rows; command = command_is words entered (codes "import") rows e n r; arguments = (row_of (codes "ROWS"), arguments); set = tt };
+      is = every;
+    }
+
+-- what `suggest` asks for, where its arguments were found so
+pub suggest_asked : (words : List Text) (entered : Option (Text × List Row)) (found : Found) (file key column : Text) → entered ≡ subcommand_of usage words → Some (codes "suggest") ≡ option_map (λ p. p.0) entered → Some (rows_of found) ≡ option_map (λ p. p.1) entered → Some file ≡ first_value found (codes "FILE") → Some key ≡ first_value found (codes "KEY") → Some column ≡ first_value found (codes "COLUMN") → (suggest : Suggest) →
+    asked_suggest suggest ≡ (codes "suggest", (codes "FILE", Some file) ∷ (codes "KEY", Some key) ∷ (codes "COLUMN", Some column) ∷ (codes "NAME", first_value found (codes "NAME")) ∷ []) →
+    sites_of (first_value found (codes "SITES")) ≡ Some suggest.sites → AsksSuggest words suggest
+suggest_asked words entered found file key column e n r f k o suggest a sites =
+    let rows : List Row = rows_of found in
+    let row_of : (name : Text) → first_of name rows ≡ first_value found name = λ name. sym (first_value-rows found name) in
+    let arguments : AllByRecursion (λ argument. first_of argument.0 rows ≡ argument.1) (asked_suggest suggest).1 =
+    subst (λ request. AllByRecursion (λ argument. first_of argument.0 rows ≡ argument.1) request.1) (sym a) (row_of (codes "FILE") ∙ sym f, (row_of (codes "KEY") ∙ sym k, (row_of (codes "COLUMN") ∙ sym o, (row_of (codes "NAME"), tt)))) in
+    record {
+      sites = first_value found (codes "SITES");
+      given = record { rows = rows; command = command_is words entered (codes "suggest") rows e n r; arguments = (row_of (codes "SITES"), arguments); set = tt };
+      is = sites;
+    }
+
+-- what is wrong with the words after `import`
+pub no_rows_counted : (found : Found) (word : Option Text) (every : Option (Option ℕ)) (kind : ErrorKind) → kind ≡ InvalidValue → word ≡ first_value found (codes "ROWS") → every ≡ every_of word → every ≡ None → IsNoCount found kind
+no_rows_counted found word every kind k w r n = subst (IsNoCount found) (sym k) (no_count (ap every_of (sym w) ∙ sym r ∙ n))
+
+pub memory_ran_out_of_import : {T : Type 0} (found : Found) (answered : Result T Error) → IsErrAnd answered (λ error. kind_of error ≡ OutOfMemory) → IfErr answered (λ error. IsNoCount found (kind_of error))
+memory_ran_out_of_import found (Ok request) k = tt
+memory_ran_out_of_import found (Err error) k = subst (IsNoCount found) (sym k) no_memory_for_it
 
 -- what is wrong with the words after `run`
 pub no_retries : (found : Found) (word : Option Text) (retry : Option ℕ) (kind : ErrorKind) → kind ≡ InvalidValue → word ≡ first_value found (codes "N") → retry ≡ retry_of word → retry ≡ None → IsNoNumber found kind

@@ -1,6 +1,7 @@
 -- What the commands of a script come to over a database for one client, and what is shown of it.
 use Rattle.std.specs.Prelude.{◌≡◌, ◌⊎◌, ℕ, false, IfErr, IfOk, List, [], ◌++◌, flat_map, Option, Some, None, Result, Ok, Err}
 use Rattle.terms.specs.declared.leaf.Leaf.{Leaf}
+use Rattle.terms.specs.declared.value.Value.{Value}
 use Rattle.meaning.specs.Whole.{FitsSchema, Relations}
 use Rattle.catalog.specs.Catalogue.{Catalogue}
 use Rattle.catalog.specs.FragmentLeaf.{catalogue_leaves, schemas_of}
@@ -32,8 +33,8 @@ use Rattle.fragdb.specs.declared.fault.ProgramFault.{ProgramFault}
 use Rattle.fragdb.specs.declared.fault.ProgramFault.TheVariants.{Memory, Store}
 use Rattle.fragdb.specs.PlayText.{refused_text, reply_text}
 use Rattle.fragdb.specs.Reply.{Answered, Refused, Told}
-use Rattle.fragdb.specs.Script.{Nothing, Reading, Runs, ShowsLeaf as To_show_leaf, ShowsRelation as To_show_relation, Unreadable}
-use Rattle.fragdb.specs.Shown.{no_leaf_text, parts_text, relation_text, written_leaf}
+use Rattle.fragdb.specs.Script.{DumpsRelation as To_dump_relation, Nothing, Reading, Runs, ShowsLeaf as To_show_leaf, ShowsRelation as To_show_relation, Unreadable}
+use Rattle.fragdb.specs.Shown.{dumped_text, no_leaf_text, parts_text, relation_text, written_leaf}
 
 -- how a database for one client is seen: whether its stores gave back what was written, and keep it as stores leave it; its machines, with how often the medium of each
 -- store has refused; the transaction that the client has begun; what has stopped it; and its catalogue
@@ -118,10 +119,18 @@ abbrev pub AnswersLine : (mode : Mode) (catalogue : Catalogue) → List ℕ → 
 AnswersLine mode catalogue text before after (Answered told) = IsHeard mode catalogue text before after told
 AnswersLine mode catalogue text before after (Refused told) = IsTurnedAway mode catalogue text before after told
 
--- a relation is shown with the rows that it has in the whole database that the settled fragments are those of
+-- the rows of a relation are told that it has in the whole database that the settled fragments are those of; text_of: how they are written
+abbrev pub TellsRows : (catalogue : Catalogue) → (Option (List (List Value)) → List ℕ) → List ℕ → Standing catalogue → Standing catalogue → List ℕ → Type 0
+TellsRows catalogue text_of name before after told =
+    StandsStill before after × ((whole : Relations) → AreThoseOf (database catalogue) before.machines whole → FitsSchema (schemas_of catalogue) whole → told ≡ text_of (rows_shown (database catalogue) whole name))
+
+-- a relation is shown
 abbrev pub ShowsRelation : (mode : Mode) (catalogue : Catalogue) → List ℕ → Standing catalogue → Standing catalogue → List ℕ → Type 0
-ShowsRelation mode catalogue name before after told =
-    StandsStill before after × ((whole : Relations) → AreThoseOf (database catalogue) before.machines whole → FitsSchema (schemas_of catalogue) whole → told ≡ relation_text mode catalogue name (rows_shown (database catalogue) whole name))
+ShowsRelation mode catalogue name before after told = TellsRows catalogue (relation_text mode catalogue name) name before after told
+
+-- a relation is written as statements that make its rows anew
+abbrev pub DumpsRelation : (mode : Mode) (catalogue : Catalogue) → List ℕ → Standing catalogue → Standing catalogue → List ℕ → Type 0
+DumpsRelation mode catalogue name before after told = TellsRows catalogue (dumped_text mode catalogue name) name before after told
 
 -- a leaf is shown with the parts that its site keeps; name: how it was asked for
 abbrev pub ShowsPartsOf : (mode : Mode) (catalogue : Catalogue) → List ℕ → Leaf → Standing catalogue → Standing catalogue → List ℕ → Type 0
@@ -142,6 +151,8 @@ AnswersTask mode catalogue (To_show_relation name) before after (Answered told) 
 AnswersTask mode catalogue (To_show_relation name) before after (Refused told) = ⊥
 AnswersTask mode catalogue (To_show_leaf name) before after (Answered told) = ShowsLeaf mode catalogue name before after told
 AnswersTask mode catalogue (To_show_leaf name) before after (Refused told) = ⊥
+AnswersTask mode catalogue (To_dump_relation name) before after (Answered told) = DumpsRelation mode catalogue name before after told
+AnswersTask mode catalogue (To_dump_relation name) before after (Refused told) = ⊥
 AnswersTask mode catalogue Unreadable before after told = ⊥
 
 -- a task is answered, and the database goes on from what has happened by then

@@ -6,13 +6,20 @@ use Rattle.fragdb.specs.Cut.{cut}
 use Rattle.fragdb.specs.declared.dot.Word.{Word}
 use Rattle.fragdb.specs.declared.dot.Word.TheVariants as word
 
+-- the words that answer a file's lines, or write what makes one
+abbrev pub filing_word : List ℕ → Option Word
+filing_word text =
+    if bytes_eq text (codes ".dump") then Some word.Dump
+    else (if bytes_eq text (codes ".read") then Some word.Read
+    else None)
+
 -- the words that show something by its name, or a plan
 abbrev pub showing_word : List ℕ → Option Word
 showing_word text =
     if bytes_eq text (codes ".show") then Some word.Show
     else (if bytes_eq text (codes ".leaf") then Some word.Leaf
     else (if bytes_eq text (codes ".plan") then Some word.Plan
-    else None))
+    else filing_word text))
 
 -- the words that tell of the database
 abbrev pub telling_word : List ℕ → Option Word

@@ -32,6 +32,28 @@ of_script name = with_rule (with_rule (new_app name) (option_argument (codes "CA
 abbrev pub of_any_script : Text → App
 of_any_script name = with_rule (with_rule (new_app name) (option_argument (codes "CATALOG") (codes "catalog"))) (new_rule (codes "SCRIPT"))
 
+-- a command `NAME [--catalog FILE] [RELATION]`
+abbrev pub of_relation : Text → App
+of_relation name = with_rule (with_rule (new_app name) (option_argument (codes "CATALOG") (codes "catalog"))) (new_rule (codes "RELATION"))
+
+-- an argument that must be given behind this word
+abbrev pub wanted_argument : Text → Text → Rule
+wanted_argument name word = record (option_argument name word) { required = true }
+
+-- the command `suggest FILE --key KEY --rows COLUMN [--sites SITES] [--name NAME]`
+abbrev pub suggesting : App
+suggesting =
+    with_rule (with_rule (with_rule (with_rule (command_with (codes "suggest") (codes "FILE")) (wanted_argument (codes "KEY") (codes "key"))) (wanted_argument (codes "COLUMN") (codes "rows"))) (option_argument (codes "SITES") (codes "sites")))
+    (option_argument (codes "NAME") (codes "name"))
+
+-- a command `NAME [--catalog FILE] RELATION FILE`
+abbrev pub of_file : Text → App
+of_file name = with_rule (with_rule (with_rule (new_app name) (option_argument (codes "CATALOG") (codes "catalog"))) (argument (codes "RELATION"))) (argument (codes "FILE"))
+
+-- the command with an option that says how many rows a transaction has
+abbrev pub counted : App → App
+counted app = with_rule app (option_argument (codes "ROWS") (codes "every"))
+
 -- a flag, which is known by a word
 abbrev pub flag : Text → Text → Rule
 flag name word = record (option_argument name word) { action = Some SetTrue }
@@ -59,14 +81,17 @@ held app = with_rule app (flag (codes "INTERACTIVE") (codes "interactive"))
 abbrev pub in_sqlite : App → App
 in_sqlite app = with_rule app (flag (codes "SQLITE") (codes "sqlite"))
 
+abbrev pub in_folder : App → App
+in_folder app = with_rule app (option_argument (codes "DIR") (codes "dir"))
+
 abbrev pub stored : App → App
-stored app = with_rule (in_sqlite app) (option_argument (codes "DIR") (codes "dir"))
+stored app = in_folder (in_sqlite app)
 
 -- the command with an option that says how often a statement is run again
 abbrev pub retried : App → App
 retried app = with_rule app (option_argument (codes "N") (codes "retry"))
 
--- the command line's grammar: `fragdb solo`, `fragdb check CATALOG`, both with flags, `fragdb plan CATALOG STATEMENT`, `fragdb play` and `fragdb run`
+-- the command line's grammar: `fragdb solo`, `fragdb check CATALOG`, both with flags, `fragdb plan CATALOG STATEMENT`, `fragdb play`, `fragdb run`, `fragdb dump`, `fragdb import` and `fragdb suggest`
 abbrev pub program : App
 program = record {
   top = record (new_shape (codes "fragdb")) { has_version = true; subcommand_required = true };
@@ -75,8 +100,8 @@ program = record {
 
 abbrev pub usage : App
 usage =
-    with_subcommand (with_subcommand (with_subcommand (with_subcommand (with_subcommand program (stored (shown (held (explained (of_any_script (codes "solo")))))).top) (treed (explained (command_with (codes "check") (codes "CATALOG")))).top)
-    (treed (command_with_two (codes "plan") (codes "CATALOG") (codes "STATEMENT"))).top) (in_sqlite (of_script (codes "play"))).top) (retried (stored (of_script (codes "run")))).top
+    with_subcommand (with_subcommand (with_subcommand (with_subcommand (with_subcommand (with_subcommand (with_subcommand (with_subcommand program (stored (shown (held (explained (of_any_script (codes "solo")))))).top) (treed (explained (command_with (codes "check") (codes "CATALOG")))).top)
+    (treed (command_with_two (codes "plan") (codes "CATALOG") (codes "STATEMENT"))).top) (in_sqlite (of_script (codes "play"))).top) (retried (stored (of_script (codes "run")))).top) (in_folder (of_relation (codes "dump"))).top) (counted (in_folder (of_file (codes "import")))).top) suggesting.top
 
 -- an argument of this rule, of its own command alone
 pub record IsRule (rule : Rule) (arg : Arg) : Type 0 where

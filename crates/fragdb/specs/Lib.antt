@@ -30,6 +30,11 @@ pub mod Plan
 pub mod Dot
 pub mod Listing
 pub mod Session
+pub mod Dump
+pub mod Import
+pub mod ImportFile
+pub mod SuggestFile
+pub mod ScriptFile
 pub mod RunText
 pub mod Conversation
 pub mod Conversations

@@ -5,7 +5,10 @@ use Rattle.terms.specs.declared.leaf.Leaf.{Leaf}
 use Rattle.terms.specs.declared.value.Value.{Value}
 use Rattle.terms.specs.Leaf.{leaf_text}
 use Rattle.meaning.specs.declared.answer.Answer.TheVariants.{Rows}
+use Rattle.meaning.specs.declared.schema.RelationSchema.{RelationSchema}
+use Rattle.meaning.specs.Schema.{relation_named}
 use Rattle.meaning.specs.Whole.{Relations}
+use Rattle.exchange.specs.Dump.{dump_bytes}
 use Rattle.catalog.specs.declared.fragment_leaf.FragmentLeaf.{FragmentLeaf}
 use Rattle.catalog.specs.Catalogue.{Catalogue}
 use Rattle.catalog.specs.FragmentLeaf.{catalogue_leaves, leaf_named, schemas_of}
@@ -32,10 +35,22 @@ rows_text mode columns rows = answer_in mode (Rows columns rows)
 abbrev pub failed_text : List ℕ → Fault → List ℕ
 failed_text name why = refusal_text (record { client = name; site = name; missing = [] }) why
 
+abbrev pub no_relation_text : Mode → List ℕ → List ℕ
+no_relation_text mode name = line_in mode (codes "no relation " ++ name)
+
 -- the rows of a relation, if there is one
 abbrev pub relation_text : Mode → Catalogue → List ℕ → Option (List (List Value)) → List ℕ
-relation_text mode catalogue name None = line_in mode (codes "no relation " ++ name)
+relation_text mode catalogue name None = no_relation_text mode name
 relation_text mode catalogue name (Some rows) = rows_text mode (names_of_columns (columns_of (schemas_of catalogue) name)) rows
+
+-- the statements that make the rows of a relation anew, if there is one
+abbrev pub dump_in : Mode → List ℕ → Option RelationSchema → List (List Value) → List ℕ
+dump_in mode name None rows = no_relation_text mode name
+dump_in mode name (Some relation) rows = dump_bytes relation.name rows
+
+abbrev pub dumped_text : Mode → Catalogue → List ℕ → Option (List (List Value)) → List ℕ
+dumped_text mode catalogue name None = no_relation_text mode name
+dumped_text mode catalogue name (Some rows) = dump_in mode name (relation_named name (schemas_of catalogue)) rows
 
 abbrev pub no_leaf_text : Mode → List ℕ → List ℕ
 no_leaf_text mode name = line_in mode (codes "no leaf " ++ name)

@@ -1,5 +1,5 @@
 -- What the words of the command line ask for.
-use Rattle.std.specs.Prelude.{◌≡◌, ◌⊎◌, ℕ, Bool, true, false, List, [], ◌∷◌, Option, Some, None, bytes_eq, codes, if◌then◌else◌, nat_le, option_map}
+use Rattle.std.specs.Prelude.{◌≡◌, ◌⊎◌, ℕ, Bool, true, false, List, [], ◌∷◌, Option, Some, None, bytes_eq, codes, if◌then◌else◌, nat_le, option_map, ◌&&◌}
 use Rattle.std.specs.Option.{option_and_then}
 use Rattle.std.specs.Borrow.{Bor}
 use Rattle.std.specs.List.{AllByRecursion}
@@ -15,7 +15,10 @@ use Rattle.fragdb.specs.declared.outcome.Status.TheVariants as status
 use Rattle.fragdb.specs.Grammar.{usage}
 use Rattle.fragdb.specs.PlayScript.{number_of}
 use Rattle.fragdb.specs.declared.usage.Asked.{Asked}
-use Rattle.fragdb.specs.declared.usage.Asked.TheVariants.{Alone, Sessions as OfSessions}
+use Rattle.fragdb.specs.declared.usage.Asked.TheVariants.{Alone, Dump as ToDump, Import as ToImport, Sessions as OfSessions, Suggest as ToSuggest}
+use Rattle.fragdb.specs.declared.transfer.Suggest.{Suggest}
+use Rattle.fragdb.specs.declared.transfer.Dump.{Dump}
+use Rattle.fragdb.specs.declared.transfer.Import.{Import}
 use Rattle.fragdb.specs.declared.usage.Sessions.{Sessions}
 use Rattle.fragdb.specs.declared.usage.Request.{Request}
 use Rattle.fragdb.specs.declared.usage.Request.TheVariants.{Solo, Check, Plan, Play}
@@ -138,9 +141,51 @@ pub data IsNoNumber (found : Found) : ErrorKind → Type 0 where
   no_number : retry_of (first_value found (codes "N")) ≡ None → IsNoNumber found InvalidValue
   no_memory_left : IsNoNumber found OutOfMemory
 
+-- a dump in words: the command, and its arguments, each with its name
+abbrev pub asked_dump : Dump → Text × List (Text × Option Text)
+asked_dump dump = (codes "dump", (codes "CATALOG", option_map (λ file. file.now) dump.catalog) ∷ (codes "RELATION", option_map (λ name. name.now) dump.relation) ∷ (codes "DIR", option_map (λ folder. folder.now) dump.dir) ∷ [])
+
+-- how many rows a transaction has, by the word for it: a number from 1 to a million; all, where there is no word
+abbrev pub every_of : Option Text → Option (Option ℕ)
+every_of None = Some None
+every_of (Some word) = option_map Some (option_and_then (λ n. if nat_le 1 n && nat_le n 1000000 then Some n else None) (number_of word))
+
+-- an import in words: the command, and its arguments, each with its name
+abbrev pub asked_import : Import → Text × List (Text × Option Text)
+asked_import import = (codes "import", (codes "CATALOG", option_map (λ file. file.now) import.catalog) ∷ (codes "RELATION", Some import.relation.now) ∷ (codes "FILE", Some import.file.now) ∷ (codes "DIR", option_map (λ folder. folder.now) import.dir) ∷ [])
+
+-- the words ask for this import: they give its arguments, and say how many rows a transaction has
+pub record AsksImport (words : List Text) (import : Import) : Type 0 where
+  pub every : Option Text
+  pub given : IsGiven words (codes "import", (codes "ROWS", every) ∷ (asked_import import).1) []
+  pub is : every_of every ≡ Some import.every
+
+-- what is wrong with the words after `import`, though each is known: the word for how many rows a transaction has is no such number; or memory ran out
+pub data IsNoCount (found : Found) : ErrorKind → Type 0 where
+  no_count : every_of (first_value found (codes "ROWS")) ≡ None → IsNoCount found InvalidValue
+  no_memory_for_it : IsNoCount found OutOfMemory
+
+-- how many sites a suggested catalogue has, by the word for it: a number from 1 to 16; two, where there is no word
+abbrev pub sites_of : Option Text → Option ℕ
+sites_of None = Some 2
+sites_of (Some word) = option_and_then (λ n. if nat_le 1 n && nat_le n 16 then Some n else None) (number_of word)
+
+-- a suggestion in words: the command, and its arguments, each with its name
+abbrev pub asked_suggest : Suggest → Text × List (Text × Option Text)
+asked_suggest suggest = (codes "suggest", (codes "FILE", Some suggest.file.now) ∷ (codes "KEY", Some suggest.key.now) ∷ (codes "COLUMN", Some suggest.rows.now) ∷ (codes "NAME", option_map (λ name. name.now) suggest.name) ∷ [])
+
+-- the words ask for this suggestion: they give its arguments, and say how many sites there are to be
+pub record AsksSuggest (words : List Text) (suggest : Suggest) : Type 0 where
+  pub sites : Option Text
+  pub given : IsGiven words (codes "suggest", (codes "SITES", sites) ∷ (asked_suggest suggest).1) []
+  pub is : sites_of sites ≡ Some suggest.sites
+
 -- the words ask for this
 abbrev pub AsksFor : List Text → Bool → Asked → Type 0
+AsksFor words at_terminal (ToSuggest suggest) = AsksSuggest words suggest
+AsksFor words at_terminal (ToImport import) = AsksImport words import
 AsksFor words at_terminal (Alone request) = Asks words at_terminal request
+AsksFor words at_terminal (ToDump dump) = IsGiven words (asked_dump dump) []
 AsksFor words at_terminal (OfSessions sessions) = AsksSessions words sessions
 
 -- what no word asks for: `solo -`, and none of its flags
@@ -149,6 +194,9 @@ AsksForInput (Alone request) =
     (asked request ≡ (codes "solo", (codes "CATALOG", None) ∷ (codes "SCRIPT", Some (codes "-")) ∷ (codes "DIR", None) ∷ []))
     × (flags_of request ≡ (codes "EXPLAIN", false) ∷ (codes "INTERACTIVE", false) ∷ (codes "COLUMNS", false) ∷ (codes "CSV", false) ∷ (codes "JSON", false) ∷ (codes "SQLITE", false) ∷ [])
 AsksForInput (OfSessions sessions) = ⊥
+AsksForInput (ToDump dump) = ⊥
+AsksForInput (ToImport import) = ⊥
+AsksForInput (ToSuggest suggest) = ⊥
 
 -- the exit status where clap gives a text in place of a request
 abbrev pub usage_status : ErrorKind → Status

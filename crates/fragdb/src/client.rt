@@ -7,13 +7,13 @@ ghost use Rattle.fragdb.specs.Client as client;
 ghost use Rattle.fragdb.specs.Client.{IsOfClient, Serves, ShowsParts, seen_over};
 ghost use Rattle.fragdb.specs.PlayText as spec;
 ghost use Rattle.fragdb.specs.Reply.{Answered, Refused, told_by};
-ghost use Rattle.fragdb.specs.Script.{Runs, ShowsLeaf, ShowsRelation, task_of};
+ghost use Rattle.fragdb.specs.Script.{DumpsRelation, Runs, ShowsLeaf, ShowsRelation, task_of};
 
 use crate::fault::ProgramFault;
 use crate::play_text::{refused_text, reply_text};
 use crate::reply::Reply;
 use crate::script::Item;
-use crate::shown::{leaf_written, no_leaf, parts_text, relation_text};
+use crate::shown::{leaf_written, no_leaf, parts_text, relation_dumped, relation_text};
 use desk::refusal::Refusal;
 use desk::reply::{Notice, Reply as Heard};
 use shell::mode::{Mode, put_answer, put_line, show_line};
@@ -40,6 +40,7 @@ pub fn answer<'a, D: DeskStore, S: SiteStore>(
         Item::Statement(text) => command(alloc, mode, database, text),
         Item::Show(name) => Ok(Reply::Answer(relation_shown(alloc, mode, database, name)?)),
         Item::Leaf(name) => Ok(Reply::Answer(leaf_shown(alloc, mode, database, name)?)),
+        Item::Dump(name) => Ok(Reply::Answer(relation_written(alloc, mode, database, name)?)),
     }
 }
 
@@ -109,6 +110,22 @@ fn relation_shown<'a, D: DeskStore, S: SiteStore>(
     let name = Text::copy_of(alloc, name)?;
     match database.rebuilt(&name) {
         Ok(found) => Ok(relation_text(alloc, mode, database.catalog(), &name, found)?),
+        Err(fault) => Err(stopped(fault)),
+    }
+}
+
+/// A relation as the fragments rebuild it, as statements that make its rows anew.
+fn relation_written<'a, D: DeskStore, S: SiteStore>(
+    alloc: Global,
+    mode: Mode,
+    database: &mut Solo<D, S>,
+    name: &str,
+) -> Result<String, ProgramFault<'a>>
+    ensures { Serves (seen_over D.is_clean S.is_clean D.is_sound S.is_sound D.kept S.kept D.refused S.refused) mode (DumpsRelation name.now) (λ text. Answered (string_bytes text)) database.old database.new result }
+{
+    let name = Text::copy_of(alloc, name)?;
+    match database.rebuilt(&name) {
+        Ok(found) => Ok(relation_dumped(alloc, mode, database.catalog(), &name, found)?),
         Err(fault) => Err(stopped(fault)),
     }
 }

@@ -23,6 +23,10 @@ pub enum Word {
     Leaf,
     /// To show which leaves a statement reads.
     Plan,
+    /// To write relations as statements.
+    Dump,
+    /// To answer the lines of a file.
+    Read,
     /// To tell from now on how long answers take, or no longer.
     Timer,
     /// To say how answers are shown.
@@ -32,8 +36,9 @@ pub enum Word {
 }
 
 /// The words, in the order in which help tells them.
-pub const WORDS: [&str; 10] = [
-    ".help", ".tables", ".schema", ".leaves", ".show", ".leaf", ".plan", ".timer", ".mode", ".quit",
+pub const WORDS: [&str; 12] = [
+    ".help", ".tables", ".schema", ".leaves", ".show", ".leaf", ".plan", ".dump", ".read",
+    ".timer", ".mode", ".quit",
 ];
 
 /// The word of a line, if it is one of the shell's, and what stands behind it and its space.
@@ -87,6 +92,19 @@ fn showing_word(text: &str) -> Option<Word>
         Some(Word::Leaf)
     } else if text == ".plan" {
         Some(Word::Plan)
+    } else {
+        filing_word(text)
+    }
+}
+
+/// A word that answers a file's lines, or writes what makes one.
+fn filing_word(text: &str) -> Option<Word>
+    ensures { result ≡ spec.filing_word text.now }
+{
+    if text == ".dump" {
+        Some(Word::Dump)
+    } else if text == ".read" {
+        Some(Word::Read)
     } else {
         None
     }

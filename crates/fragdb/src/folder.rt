@@ -99,7 +99,7 @@ pub fn keep_catalogue<'a>(
 }
 
 /// The path of a file in a folder.
-fn path_in<'a>(alloc: Global, dir: &str, name: &str) -> Result<String, ProgramFault<'a>>
+pub fn path_in<'a>(alloc: Global, dir: &str, name: &str) -> Result<String, ProgramFault<'a>>
     ensures err { IfErr result IsOfClient }
 {
     Ok(format!(in alloc; "{dir}/{name}")?)

@@ -2,10 +2,11 @@
 
 ghost use Rattle.std.specs.Prelude.{◌≡◌, IfOk, codes};
 ghost use Rattle.clap.specs.Words.{App, Rule, app_of, new_app, new_rule, with_rule};
-ghost use Rattle.fragdb.specs.Grammar.{IsCommand, IsRule, argument, command_with, command_with_two, explained, flag, held, in_sqlite, of_any_script, of_script, option_argument, retried, shown, stored, treed, usage};
+ghost use Rattle.fragdb.specs.Grammar.{IsCommand, IsRule, argument, command_with, command_with_two, counted, explained, flag, held, in_folder, in_sqlite, of_any_script, of_file, of_relation, of_script, option_argument, retried, shown, stored, suggesting, treed, usage, wanted_argument};
 
 use crate::help::{
-    AFTER_HELP, AFTER_PLAY, AFTER_RUN, AFTER_SOLO, CATALOG_HELP, DIR_HELP, RETRY_HELP, SQLITE_HELP,
+    AFTER_HELP, AFTER_IMPORT, AFTER_PLAY, AFTER_RUN, AFTER_SOLO, CATALOG_HELP, DIR_HELP,
+    EVERY_HELP, KEY_HELP, NAME_HELP, RETRY_HELP, ROWS_HELP, SITES_HELP, SQLITE_HELP,
 };
 use clap::{Arg, ArgAction, Command};
 use std::alloc::{AllocError, Global};
@@ -23,7 +24,10 @@ pub fn command<'a>(alloc: Global) -> Result<Command<'a>, AllocError>
         .subcommand(check_command(alloc)?)?
         .subcommand(plan_command(alloc)?)?
         .subcommand(play_command(alloc)?)?
-        .subcommand(run_command(alloc)?)
+        .subcommand(run_command(alloc)?)?
+        .subcommand(dump_command(alloc)?)?
+        .subcommand(import_command(alloc)?)?
+        .subcommand(suggest_command(alloc)?)
 }
 
 fn solo_command<'a>(alloc: Global) -> Result<Command<'a>, AllocError>
@@ -130,6 +134,60 @@ fn run_command<'a>(alloc: Global) -> Result<Command<'a>, AllocError>
     with(run, retry)
 }
 
+fn dump_command<'a>(alloc: Global) -> Result<Command<'a>, AllocError>
+    ensures { IfOk result (IsCommand (in_folder (of_relation (codes "dump")))) }
+{
+    let about = "Writes the relations of a folder's database as statements that make them anew";
+    let dump = new_command(alloc, "dump", about);
+    let catalog = option(alloc, "CATALOG", "catalog", CATALOG_HELP);
+    let dump = with(dump, catalog)?;
+    let relation = optional(alloc, "RELATION", "A relation; all where none is named");
+    let dump = with(dump, relation)?;
+    with_folder(alloc, dump)
+}
+
+fn import_command<'a>(alloc: Global) -> Result<Command<'a>, AllocError>
+    ensures { IfOk result (IsCommand (counted (in_folder (of_file (codes "import"))))) }
+{
+    let about = "Inserts the rows of a file of comma-separated values into a relation";
+    let import = new_command(alloc, "import", about);
+    let import = with_notes(import, AFTER_IMPORT);
+    let catalog = option(alloc, "CATALOG", "catalog", CATALOG_HELP);
+    let import = with(import, catalog)?;
+    let relation = required(alloc, "RELATION", "A relation of the catalogue");
+    let import = with(import, relation)?;
+    let file = required(
+        alloc,
+        "FILE",
+        "A file whose first line names the relation's columns, or - for standard input",
+    );
+    let import = with(import, file)?;
+    let import = with_folder(alloc, import)?;
+    let every = option(alloc, "ROWS", "every", EVERY_HELP);
+    with(import, every)
+}
+
+fn suggest_command<'a>(alloc: Global) -> Result<Command<'a>, AllocError>
+    ensures { IfOk result (IsCommand suggesting) }
+{
+    let about = "Suggests a catalogue for a file of comma-separated values";
+    let suggest = new_command(alloc, "suggest", about);
+    let file = required(
+        alloc,
+        "FILE",
+        "A file whose first line names the columns, or - for standard input",
+    );
+    let suggest = with(suggest, file)?;
+    let key = wanted(alloc, "KEY", "key", KEY_HELP);
+    let suggest = with(suggest, key)?;
+    let rows = wanted(alloc, "COLUMN", "rows", ROWS_HELP);
+    let suggest = with(suggest, rows)?;
+    let sites = option(alloc, "SITES", "sites", SITES_HELP);
+    let suggest = with(suggest, sites)?;
+    let name = option(alloc, "NAME", "name", NAME_HELP);
+    with(suggest, name)
+}
+
 /// A command with no argument yet.
 fn new_command<'a>(alloc: Global, name: &'a str, about: &'a str) -> Command<'a>
     ensures { IsCommand (new_app name.entry.now) result }
@@ -172,6 +230,13 @@ fn option<'a>(alloc: Global, name: &'a str, long: &'a str, help: &'a str) -> Arg
     Arg::new(alloc, name).long(long).help(help)
 }
 
+/// An argument that must be given behind this word.
+fn wanted<'a>(alloc: Global, name: &'a str, long: &'a str, help: &'a str) -> Arg<'a>
+    ensures { IsRule (wanted_argument name.entry.now long.entry.now) result }
+{
+    Arg::new(alloc, name).long(long).required(true).help(help)
+}
+
 /// A flag, which is known by a word.
 fn flag<'a>(alloc: Global, name: &'a str, long: &'a str, help: &'a str) -> Arg<'a>
     ensures { IsRule (flag name.entry.now long.entry.now) result }
@@ -187,6 +252,13 @@ fn with_stores<'a>(alloc: Global, command: Command<'a>) -> Result<Command<'a>, A
     ensures { (app : App) → IsCommand app command.entry → IfOk result (IsCommand (stored app)) }
 {
     let command = with_sqlite(alloc, command)?;
+    with_folder(alloc, command)
+}
+
+/// The command with the folder of stores.
+fn with_folder<'a>(alloc: Global, command: Command<'a>) -> Result<Command<'a>, AllocError>
+    ensures { (app : App) → IsCommand app command.entry → IfOk result (IsCommand (in_folder app)) }
+{
     let dir = option(alloc, "DIR", "dir", DIR_HELP);
     with(command, dir)
 }

@@ -21,11 +21,15 @@ Examples:
   fragdb plan --tree catalogue.toml 'SELECT name FROM emp WHERE id = 7'
   fragdb play --catalog catalogue.toml schedule.txt
   fragdb run sessions.txt
-  fragdb run --retry 10 --dir data sessions.txt";
+  fragdb run --retry 10 --dir data sessions.txt
+  fragdb suggest --key id --rows zone --sites 3 items.csv
+  fragdb dump --dir data
+  fragdb import --dir data --every 1000 item items.csv";
 
 /// What stands after the help of `solo`.
 pub const AFTER_SOLO: &str =
-    "A script has one item a line; empty lines and lines that begin with # are passed over:
+    "A script has one item a line, and at most 1,048,576 bytes; --interactive takes a longer one. Empty
+lines and lines that begin with # are passed over:
   INSERT INTO item VALUES (1, 3, 'a')    a statement; so are SELECT, UPDATE and DELETE
   BEGIN                                  a transaction of several statements begins
   COMMIT                                 it is committed
@@ -123,6 +127,30 @@ pub const TWO_MODES: &str =
 
 /// What is told where a script is left out, and no line is to be asked for.
 pub const NO_SCRIPT: &str = "the following required arguments were not provided:\n  <SCRIPT>";
+
+/// What stands after the help of `import`.
+pub const AFTER_IMPORT: &str =
+    "The first line has the names of the relation's columns, in any order; each line behind it is a row. Fields
+are parted by commas; one with a comma, a quote or a line feed stands in quotes, and a quote in it is
+doubled. Integers have digits, and perhaps a minus; a text has at most 200 bytes.
+
+The file is read to its end first. What is wrong with a line is told, with its number, and then no row is
+inserted. A row whose key is there already ends the import, and no row of its transaction stays.";
+
+/// What is told of what a catalogue is suggested by.
+pub const KEY_HELP: &str =
+    "The column that is to be the key: an integer in each row, and no two the same";
+
+pub const ROWS_HELP: &str = "The column by whose quantiles the rows are split";
+
+pub const SITES_HELP: &str = "How many sites there are to be, 1 to 16; 2 if left out";
+
+pub const NAME_HELP: &str =
+    "The name of the relation; that of the file, up to its first dot, if left out";
+
+/// What is told of the rows of a transaction.
+pub const EVERY_HELP: &str =
+    "How many rows a transaction has, 1 to 1000000; all are in one if left out";
 
 /// What is told of how often a statement is run again.
 pub const RETRY_HELP: &str =

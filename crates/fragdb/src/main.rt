@@ -18,6 +18,8 @@ mod cut;
 mod database;
 mod delivering;
 mod dot;
+mod dump;
+mod dump_command;
 mod explaining;
 mod fault;
 mod folder;
@@ -26,6 +28,9 @@ mod found;
 mod fragment_tree;
 mod grammar;
 mod help;
+mod import;
+mod import_command;
+mod import_file;
 mod input;
 mod level;
 mod listing;
@@ -49,6 +54,7 @@ mod run_text;
 mod same_catalog;
 mod schedule;
 mod script;
+mod script_file;
 mod session;
 mod session_word;
 mod sessions;
@@ -56,6 +62,10 @@ mod shown;
 mod solo;
 mod sql_stores;
 mod store_opener;
+mod suggest_command;
+mod suggest_file;
+mod texts;
+mod transfer;
 mod typed;
 mod usage;
 mod world_opener;
@@ -63,15 +73,18 @@ mod written;
 
 use crate::built_in::{BUILT_IN, BUILT_IN_NAME};
 use crate::database::Database;
+use crate::dump_command::do_dump;
 use crate::explaining::explain_outcome;
 use crate::fault::ProgramFault;
 use crate::folder_told::tell_folder;
+use crate::import_command::do_import;
 use crate::opener::{Folder, InMemory, Lists, Opens};
 use crate::outcome::{Outcome, Status, exit};
 use crate::perform::{perform, perform_session};
 use crate::sessions::do_run;
 use crate::solo::SCRIPT_LIMIT;
 use crate::sql_stores::{Files, OpensFiles};
+use crate::suggest_command::do_suggest;
 use crate::usage::{Asked, Request, Stores, read_words, show_usage, unreadable_words};
 use crate::world_opener::OpensWorld;
 use sqlite::Alter;
@@ -110,6 +123,9 @@ fn do_words<H: Threads + Wait + Clock + Copy + Send + Sync + 'static>(
     match read_words(alloc, words.as_slice(), is_at_terminal(rt)) {
         Ok(Asked::Alone(request)) => do_request(rt, request, &mut output, &mut errors),
         Ok(Asked::Sessions(sessions)) => do_run(rt, threads, sessions, &mut output, &mut errors),
+        Ok(Asked::Dump(dump)) => do_dump(rt, dump, &mut output, &mut errors),
+        Ok(Asked::Import(import)) => do_import(rt, import, &mut output, &mut errors),
+        Ok(Asked::Suggest(asked)) => do_suggest(rt, asked, &mut output, &mut errors),
         Err(error) => show_usage(&error, &mut output, &mut errors),
     }
 }

@@ -19,6 +19,7 @@ use crate::plan_text::{PlanFault, plan};
 use crate::play::play_files;
 use crate::session::session_files;
 use crate::solo::solo_files;
+use crate::texts::OpensText;
 use crate::usage::{Request, Stores};
 use crate::world_opener::OpensWorld;
 use shell::mode::Mode;
@@ -212,7 +213,8 @@ pub fn perform_session<
     'a,
     B: Database + Drop,
     O: Opens<B>,
-    K: Clock,
+    K: Clock + OpensText<T>,
+    T: Read + Drop,
     C: Read + Drop,
     R: Read + Drop,
     W: Write,
@@ -220,7 +222,7 @@ pub fn perform_session<
 >(
     alloc: Global,
     opener: &O,
-    clock: &K,
+    host: &K,
     request: Request<'a>,
     catalog_file: &'a str,
     catalog: io::Result<C>,
@@ -237,7 +239,7 @@ pub fn perform_session<
         Ok(catalog) => of_check(session_files(
             alloc,
             opener,
-            clock,
+            host,
             mode,
             catalog_file,
             catalog,
@@ -322,7 +324,7 @@ pub fn unread<'a>(file: &'a str, error: &io::Error) -> Outcome<'a>
 }
 
 /// What a script came to.
-fn of_script(ended: Result<bool, CatalogFault<'_>>) -> Outcome<'_>
+pub fn of_script(ended: Result<bool, CatalogFault<'_>>) -> Outcome<'_>
     ensures { result ≡ spec.outcome_of_script ended.entry }
 {
     match ended {

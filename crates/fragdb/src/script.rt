@@ -17,6 +17,8 @@ pub enum Item<'a> {
     Show(&'a str),
     /// To show a leaf.
     Leaf(&'a str),
+    /// To write a relation as statements that make it anew.
+    Dump(&'a str),
 }
 
 /// Why a script has no items.

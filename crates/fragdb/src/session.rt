@@ -13,7 +13,8 @@ use crate::explaining::explain_text;
 use crate::fault::ProgramFault;
 use crate::opener::Opens;
 use crate::script::Item;
-use crate::session_word::{State, Turn, take_item, take_word, tell};
+use crate::session_word::{State, Turn, take_item, take_plan, take_word, tell};
+use crate::texts::OpensText;
 use crate::typed::{Typed, first_of, is_whole, next_line};
 use crate::written::write_text;
 use catalog::catalogue::Catalog;
@@ -38,7 +39,8 @@ pub fn session_files<
     'a,
     B: Database + Drop,
     O: Opens<B>,
-    K: Clock,
+    K: Clock + OpensText<T>,
+    T: Read + Drop,
     C: Read + Drop,
     R: Read + Drop,
     W: Write,
@@ -46,7 +48,7 @@ pub fn session_files<
 >(
     alloc: Global,
     opener: &O,
-    clock: &K,
+    host: &K,
     mode: Mode,
     catalog_file: &'a str,
     catalog: C,
@@ -60,7 +62,7 @@ pub fn session_files<
     match read_catalog(alloc, catalog_file, catalog) {
         Ok(catalog) => {
             match open_session(
-                alloc, opener, clock, mode, &catalog, file, input, output, errors,
+                alloc, opener, host, mode, &catalog, file, input, output, errors,
             ) {
                 Ok(()) => Ok(()),
                 Err(fault) => Err(CatalogFault::Program(fault)),
@@ -71,10 +73,19 @@ pub fn session_files<
 }
 
 /// Answers what `input` gives, if it could be opened.
-fn open_session<'a, B: Database + Drop, O: Opens<B>, K: Clock, R: Read + Drop, W: Write, E: Write>(
+fn open_session<
+    'a,
+    B: Database + Drop,
+    O: Opens<B>,
+    K: Clock + OpensText<T>,
+    T: Read + Drop,
+    R: Read + Drop,
+    W: Write,
+    E: Write,
+>(
     alloc: Global,
     opener: &O,
-    clock: &K,
+    host: &K,
     mode: Mode,
     catalog: &Catalog,
     file: &'a str,
@@ -90,16 +101,25 @@ fn open_session<'a, B: Database + Drop, O: Opens<B>, K: Clock, R: Read + Drop, W
         file, &error,
     ))?;
     session(
-        alloc, opener, clock, mode, catalog, file, &mut input, output, errors,
+        alloc, opener, host, mode, catalog, file, &mut input, output, errors,
     )
 }
 
 /// Answers what is typed, line by line, over a new database of this catalogue, until the input ends or the end is
 /// asked for. What is wrong with a line is told to `errors`, and costs that line alone.
-pub fn session<'a, B: Database + Drop, O: Opens<B>, K: Clock, R: BufRead, W: Write, E: Write>(
+pub fn session<
+    'a,
+    B: Database + Drop,
+    O: Opens<B>,
+    K: Clock + OpensText<T>,
+    T: Read + Drop,
+    R: BufRead,
+    W: Write,
+    E: Write,
+>(
     alloc: Global,
     opener: &O,
-    clock: &K,
+    host: &K,
     mode: Mode,
     catalog: &Catalog,
     file: &'a str,
@@ -115,7 +135,7 @@ pub fn session<'a, B: Database + Drop, O: Opens<B>, K: Clock, R: BufRead, W: Wri
     let mut database = opener.open(alloc, catalog)?;
     talk(
         alloc,
-        clock,
+        host,
         mode,
         found.as_str(),
         &mut database,
@@ -127,9 +147,9 @@ pub fn session<'a, B: Database + Drop, O: Opens<B>, K: Clock, R: BufRead, W: Wri
 }
 
 /// Greets, tells what was found, and answers line by line.
-fn talk<'a, B: Database, K: Clock, R: BufRead, W: Write, E: Write>(
+fn talk<'a, B: Database, K: Clock + OpensText<T>, T: Read + Drop, R: BufRead, W: Write, E: Write>(
     alloc: Global,
-    clock: &K,
+    host: &K,
     mode: Mode,
     found: &str,
     database: &mut B,
@@ -147,7 +167,7 @@ fn talk<'a, B: Database, K: Clock, R: BufRead, W: Write, E: Write>(
     for number in 0..u64::MAX {
         let _ = number;
         let turn = take_turn(
-            alloc, clock, database, &mut state, file, input, output, errors,
+            alloc, host, database, &mut state, file, input, output, errors,
         )?;
         if turn == Turn::Ends {
             return Ok(());
@@ -157,9 +177,17 @@ fn talk<'a, B: Database, K: Clock, R: BufRead, W: Write, E: Write>(
 }
 
 /// Asks for a line, and answers it.
-fn take_turn<'a, B: Database, K: Clock, R: BufRead, W: Write, E: Write>(
+fn take_turn<
+    'a,
+    B: Database,
+    K: Clock + OpensText<T>,
+    T: Read + Drop,
+    R: BufRead,
+    W: Write,
+    E: Write,
+>(
     alloc: Global,
-    clock: &K,
+    host: &K,
     database: &mut B,
     state: &mut State,
     file: &'a str,
@@ -173,10 +201,18 @@ fn take_turn<'a, B: Database, K: Clock, R: BufRead, W: Write, E: Write>(
     write_text(output, prompt(!state.typed.is_empty(), database.is_open()))?;
     match next_line(alloc, file, input)? {
         Typed::Line(line) => {
-            let begun = Instant::now(clock);
-            let turn = take_bytes(alloc, database, state, line.as_slice(), output, errors)?;
+            let begun = Instant::now(host);
+            let turn = take_bytes(
+                alloc,
+                host,
+                database,
+                state,
+                line.as_slice(),
+                output,
+                errors,
+            )?;
             if turn == Turn::Answered && state.is_timed {
-                tell_time(alloc, clock, begun, errors);
+                tell_time(alloc, host, begun, errors);
             }
             Ok(turn)
         }
@@ -208,12 +244,12 @@ fn prompt(is_more: bool, is_open: bool) -> &'static str
 /// Tells how long an answer took, if the clock could be read.
 fn tell_time<K: Clock, E: Write>(
     alloc: Global,
-    clock: &K,
+    host: &K,
     begun: io::Result<Instant>,
     errors: &mut E,
 ) {
     if let Ok(begun) = begun
-        && let Ok(took) = begun.elapsed(clock)
+        && let Ok(took) = begun.elapsed(host)
         && let Ok(text) = format!(in alloc;
             "time {}.{:06} s\n",
             took.as_secs(),
@@ -225,8 +261,9 @@ fn tell_time<K: Clock, E: Write>(
 }
 
 /// Answers a line, which is given without its end. One that is no text changes nothing.
-fn take_bytes<'a, B: Database, W: Write, E: Write>(
+fn take_bytes<'a, B: Database, K: OpensText<T>, T: Read + Drop, W: Write, E: Write>(
     alloc: Global,
+    host: &K,
     database: &mut B,
     state: &mut State,
     line: &[u8],
@@ -240,6 +277,7 @@ fn take_bytes<'a, B: Database, W: Write, E: Write>(
     match str::from_utf8(line) {
         Ok(text) => take_line(
             alloc,
+            host,
             database,
             state,
             text.trim_ascii_end(),
@@ -254,8 +292,9 @@ fn take_bytes<'a, B: Database, W: Write, E: Write>(
 }
 
 /// Answers a line, or keeps it where it begins a statement that isn't whole.
-fn take_line<'a, B: Database, W: Write, E: Write>(
+fn take_line<'a, B: Database, K: OpensText<T>, T: Read + Drop, W: Write, E: Write>(
     alloc: Global,
+    host: &K,
     database: &mut B,
     state: &mut State,
     line: &str,
@@ -268,12 +307,25 @@ fn take_line<'a, B: Database, W: Write, E: Write>(
     if state.typed.is_empty() {
         match line.as_bytes().first() {
             None | Some(b'#') => Ok(Turn::GoesOn),
-            Some(b'.') => take_word(alloc, database, state, line, output, errors),
-            Some(_) => take_parts(alloc, database, state, line, output, errors),
+            Some(b'.') => take_word(alloc, host, database, state, line, output, errors),
+            Some(_) => match explained(line) {
+                Some(statement) => take_plan(alloc, database, statement, output, errors),
+                None => take_parts(alloc, database, state, line, output, errors),
+            },
         }
     } else {
         state.typed.push('\n')?;
         take_parts(alloc, database, state, line, output, errors)
+    }
+}
+
+/// The statement behind the word EXPLAIN, without a semicolon at its end, where a line begins with that word.
+fn explained(line: &str) -> Option<&str> {
+    let (word, statement) = line.split_once(' ')?;
+    if word.eq_ignore_ascii_case("explain") {
+        Some(statement.trim_end_matches(';').trim_ascii())
+    } else {
+        None
     }
 }
 

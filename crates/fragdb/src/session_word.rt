@@ -7,11 +7,14 @@ ghost use Rattle.fragdb.specs.Solo.{IsOfRun};
 
 use crate::database::Database;
 use crate::dot::{WORDS, Word, mode_named, read, switch_named};
+use crate::dump::take_dump;
 use crate::explaining::explain_fault;
 use crate::fault::ProgramFault;
 use crate::listing::{leaves_text, schema_text, tables_text};
 use crate::plan_text::{PlanFault, plan_typed};
 use crate::script::{Item, is_word};
+use crate::script_file::take_script;
+use crate::texts::OpensText;
 use crate::written::write_text;
 use catalog::catalogue::Catalog;
 use meaning::schema::Schema;
@@ -19,7 +22,7 @@ use reader::fault::ReadFault;
 use shell::mode::Mode;
 use shell::nearest::nearest;
 use std::alloc::{AllocError, Global};
-use std::io::Write;
+use std::io::{Read, Write};
 use terms::memory::Memory;
 
 /// What help tells.
@@ -31,7 +34,9 @@ const HELP: &str =
 .leaves [RELATION]  their fragments, with sites, columns and conditions
 .show RELATION      the rows of a relation, rebuilt
 .leaf LEAF          the rows of a fragment
-.plan STATEMENT     which fragments a statement reads
+.plan STATEMENT     which fragments a statement reads; EXPLAIN tells it too
+.dump [RELATION]    statements that make the rows of relations anew
+.read FILE          answers the lines of a script
 .timer on|off       tells how long each answer takes
 .mode MODE          shows answers in tabs, columns, csv or json
 .quit               the end, as Ctrl-D
@@ -76,8 +81,9 @@ pub enum Turn {
 }
 
 /// Does what a line asks for that begins with a dot.
-pub fn take_word<'a, B: Database, W: Write, E: Write>(
+pub fn take_word<'a, B: Database, K: OpensText<T>, T: Read + Drop, W: Write, E: Write>(
     alloc: Global,
+    host: &K,
     database: &mut B,
     state: &mut State,
     line: &str,
@@ -91,6 +97,7 @@ pub fn take_word<'a, B: Database, W: Write, E: Write>(
         (Some(word), rest) => {
             take_known(
                 alloc,
+                host,
                 database,
                 state,
                 word,
@@ -107,8 +114,9 @@ pub fn take_word<'a, B: Database, W: Write, E: Write>(
 }
 
 /// Does what this word asks for, with what stands behind it.
-fn take_known<'a, B: Database, W: Write, E: Write>(
+fn take_known<'a, B: Database, K: OpensText<T>, T: Read + Drop, W: Write, E: Write>(
     alloc: Global,
+    host: &K,
     database: &mut B,
     state: &mut State,
     word: Word,
@@ -124,25 +132,11 @@ fn take_known<'a, B: Database, W: Write, E: Write>(
             take_lone(alloc, database, word, rest, output, errors)
         }
         Word::Schema | Word::Leaves => take_listing(alloc, database, word, rest, output, errors),
-        Word::Show => take_named(
-            alloc,
-            state.mode,
-            database,
-            Item::Show(rest),
-            rest,
-            output,
-            errors,
-        ),
-        Word::Leaf => take_named(
-            alloc,
-            state.mode,
-            database,
-            Item::Leaf(rest),
-            rest,
-            output,
-            errors,
-        ),
+        Word::Show | Word::Leaf | Word::Dump => {
+            take_rows(alloc, state.mode, database, word, rest, output, errors)
+        }
         Word::Plan => take_plan(alloc, database, rest, output, errors),
+        Word::Read => take_file(alloc, host, state.mode, database, rest, output, errors),
         Word::Timer | Word::Mode => {
             if !set(state, word, rest) {
                 tell_wanted(alloc, word, errors)?;
@@ -216,11 +210,80 @@ fn listing(alloc: Global, catalog: &Catalog, word: Word, asked: &str) -> Result<
     }
 }
 
+/// Shows or writes the rows of what is named; where no name is given, writes those of each relation.
+fn take_rows<'a, B: Database, W: Write, E: Write>(
+    alloc: Global,
+    mode: Mode,
+    database: &mut B,
+    word: Word,
+    name: &str,
+    output: &mut W,
+    errors: &mut E,
+) -> Result<Turn, ProgramFault<'a>>
+    ensures ok { OnOk result (Talks B.seen (W.contents output.old) (W.contents output.new) database.old database.new) }
+    ensures err { IfErr result IsOfRun }
+{
+    match word {
+        Word::Show => take_named(
+            alloc,
+            mode,
+            database,
+            word,
+            Item::Show(name),
+            name,
+            output,
+            errors,
+        ),
+        Word::Leaf => take_named(
+            alloc,
+            mode,
+            database,
+            word,
+            Item::Leaf(name),
+            name,
+            output,
+            errors,
+        ),
+        _ if name.is_empty() => take_dump(alloc, mode, database, output),
+        _ => take_named(
+            alloc,
+            mode,
+            database,
+            word,
+            Item::Dump(name),
+            name,
+            output,
+            errors,
+        ),
+    }
+}
+
+/// Answers the lines of the file of this name, where one is given.
+fn take_file<'a, B: Database, K: OpensText<T>, T: Read + Drop, W: Write, E: Write>(
+    alloc: Global,
+    host: &K,
+    mode: Mode,
+    database: &mut B,
+    name: &str,
+    output: &mut W,
+    errors: &mut E,
+) -> Result<Turn, ProgramFault<'a>>
+    ensures ok { OnOk result (Talks B.seen (W.contents output.old) (W.contents output.new) database.old database.new) }
+    ensures err { IfErr result IsOfRun }
+{
+    if name.is_empty() {
+        tell_wanted(alloc, Word::Read, errors)?;
+        return Ok(Turn::GoesOn);
+    }
+    take_script(alloc, host, mode, database, name, output, errors)
+}
+
 /// Shows what is named, where a name is given.
 fn take_named<'a, B: Database, W: Write, E: Write>(
     alloc: Global,
     mode: Mode,
     database: &mut B,
+    word: Word,
     item: Item<'_>,
     name: &str,
     output: &mut W,
@@ -230,11 +293,6 @@ fn take_named<'a, B: Database, W: Write, E: Write>(
     ensures err { IfErr result IsOfRun }
 {
     if !is_word(name) {
-        let word = if matches!(item, Item::Show(_)) {
-            Word::Show
-        } else {
-            Word::Leaf
-        };
         tell_wanted(alloc, word, errors)?;
         return Ok(Turn::GoesOn);
     }
@@ -258,7 +316,7 @@ pub fn take_item<'a, B: Database, W: Write>(
 }
 
 /// Shows which leaves a statement reads.
-fn take_plan<'a, B: Database, W: Write, E: Write>(
+pub fn take_plan<'a, B: Database, W: Write, E: Write>(
     alloc: Global,
     database: &mut B,
     statement: &str,
@@ -337,6 +395,8 @@ fn usage_of(word: Word) -> &'static str {
         Word::Show => ".show RELATION",
         Word::Leaf => ".leaf LEAF",
         Word::Plan => ".plan STATEMENT",
+        Word::Dump => ".dump [RELATION]",
+        Word::Read => ".read FILE",
         Word::Timer => ".timer on|off",
         Word::Mode => ".mode tabs|columns|csv|json",
         Word::Quit => ".quit",

@@ -17,6 +17,7 @@ use crate::schedule::{Schedule, refusal};
 use catalog::catalogue::Catalog;
 use catalog::fragment_leaf::FragmentLeaf;
 use desk::refusal::Refusal;
+use exchange::dump::dump;
 use meaning::answer::Answer;
 use shell::mode::{Mode, show, show_line};
 use site::fault::SiteFault;
@@ -75,11 +76,34 @@ pub fn relation_text(
             let columns = columns_of(catalog.schema(), name);
             rows_text(alloc, mode, column_names(alloc, columns)?, rows)
         }
-        None => {
-            let text = format!(in alloc; "no relation {name}")?;
-            show_line(alloc, mode, text.as_str())
-        }
+        None => no_relation(alloc, mode, name),
     }
+}
+
+/// The statements that make the rows of the relation of this name anew, if there is one.
+pub fn relation_dumped(
+    alloc: Global,
+    mode: Mode,
+    catalog: &Catalog,
+    name: &Text,
+    found: Option<Vec<Row>>,
+) -> Result<String, Memory>
+    ensures { IfOk result (λ text. string_bytes text ≡ spec.dumped_text mode (catalogue_of catalog.now) name.now (option_map (λ rows. rows.items) found)) }
+{
+    let Some(rows) = found else {
+        return no_relation(alloc, mode, name);
+    };
+    match catalog.schema().relation(name.as_str().as_bytes()) {
+        Some(relation) => dump(alloc, relation, rows.as_slice()),
+        None => no_relation(alloc, mode, name),
+    }
+}
+
+fn no_relation(alloc: Global, mode: Mode, name: &Text) -> Result<String, Memory>
+    ensures { IfOk result (λ text. string_bytes text ≡ spec.no_relation_text mode name.now) }
+{
+    let text = format!(in alloc; "no relation {name}")?;
+    show_line(alloc, mode, text.as_str())
 }
 
 /// The parts of this leaf, if there is one; `name` is what it is called where there is none.

@@ -109,7 +109,7 @@ pub fn read_script<'a, R: Read + Drop>(
 }
 
 /// Runs the items in order over a new database, and writes each answer. Answers whether a line was refused.
-fn run<'a, B: Database + Drop, O: Opens<B>, W: Write>(
+pub fn run<'a, B: Database + Drop, O: Opens<B>, W: Write>(
     alloc: Global,
     opener: &O,
     mode: Mode,
@@ -126,7 +126,7 @@ fn run<'a, B: Database + Drop, O: Opens<B>, W: Write>(
 }
 
 /// Runs the items over this database.
-fn run_items<'a, B: Database, W: Write>(
+pub fn run_items<'a, B: Database, W: Write>(
     alloc: Global,
     mode: Mode,
     database: &mut B,

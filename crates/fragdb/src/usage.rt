@@ -15,6 +15,7 @@ use crate::grammar::command;
 use crate::help::{NO_SCRIPT, TWO_MODES};
 use crate::outcome::{Outcome, Status, exit};
 use crate::play_script::number;
+use crate::transfer::{Dump, Import, Suggest, import_given, suggest_given};
 use clap::error::ErrorKind;
 use clap::{ArgMatches, Command, Error};
 use shell::mode::Mode;
@@ -33,6 +34,12 @@ pub enum Asked<'a> {
     Alone(Request<'a>),
     /// To run the sessions of a script.
     Sessions(Sessions<'a>),
+    /// To write a database as statements.
+    Dump(Dump<'a>),
+    /// To insert the rows of a file.
+    Import(Import<'a>),
+    /// To suggest a catalogue for a file.
+    Suggest(Suggest<'a>),
 }
 
 /// A script of sessions to run, a file's name, or `-` for standard input, over a database of this catalogue, a
@@ -163,6 +170,28 @@ fn read_given<'a, S: AsStr>(
     {
         let sessions = sessions_given(alloc, &mut command, run, script)?;
         return Ok(Asked::Sessions(sessions));
+    }
+    if let Some(("dump", dump)) = matches.subcommand() {
+        return Ok(Asked::Dump(Dump {
+            catalog: dump.get_str("CATALOG"),
+            relation: dump.get_str("RELATION"),
+            dir: dump.get_str("DIR"),
+        }));
+    }
+    if let Some(("import", import)) = matches.subcommand()
+        && let Some(relation) = import.get_str("RELATION")
+        && let Some(file) = import.get_str("FILE")
+    {
+        let import = import_given(alloc, &mut command, import, relation, file)?;
+        return Ok(Asked::Import(import));
+    }
+    if let Some(("suggest", suggest)) = matches.subcommand()
+        && let Some(file) = suggest.get_str("FILE")
+        && let Some(key) = suggest.get_str("KEY")
+        && let Some(rows) = suggest.get_str("COLUMN")
+    {
+        let suggest = suggest_given(alloc, &mut command, suggest, file, key, rows)?;
+        return Ok(Asked::Suggest(suggest));
     }
     let request = request_given(&mut command, &matches, is_at_terminal)?;
     Ok(Asked::Alone(request))

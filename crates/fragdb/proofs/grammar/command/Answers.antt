@@ -2,7 +2,7 @@ use Rattle.std.proofs.Common.{◌≡◌, ap, ap₂, codes, true, ◌∙◌}
 use Rattle.std.proofs.lemmas.Result.{IfOk-weaker}
 use Rattle.clap.specs.Words.{App, app_of, with_subcommand}
 use Rattle.clap.specs.Simple.{app_of_fields, on_top}
-use Rattle.fragdb.specs.Grammar.{command_with, command_with_two, explained, held, in_sqlite, of_any_script, of_script, program, shown, stored, treed}
+use Rattle.fragdb.specs.Grammar.{command_with, command_with_two, counted, explained, held, in_folder, in_sqlite, of_any_script, of_file, of_relation, of_script, program, retried, shown, stored, suggesting, treed}
 use Rattle.fragdb.proofs.grammar.command.Goals as goal
 
 -- the program with more and more of its commands
@@ -17,6 +17,15 @@ three = with_subcommand two (treed (command_with_two (codes "plan") (codes "CATA
 
 abbrev four : App
 four = with_subcommand three (in_sqlite (of_script (codes "play"))).top
+
+abbrev five : App
+five = with_subcommand four (retried (stored (of_script (codes "run")))).top
+
+abbrev six : App
+six = with_subcommand five (in_folder (of_relation (codes "dump"))).top
+
+abbrev seven : App
+seven = with_subcommand six (counted (in_folder (of_file (codes "import")))).top
 
 pub returns : goal.returns
 returns c =
@@ -34,4 +43,10 @@ returns c =
     c.in_ok-subcommand-3.ensures.shape c.in_ok-plan_command.ensures.own ∙ ap₂ with_subcommand with_check (ap (λ (a : App). a.top) c.in_ok-plan_command.ensures.is) in
     let with_play : app_of c.in_ok-subcommand-4.field-0 ≡ four =
     c.in_ok-subcommand-4.ensures.shape c.in_ok-play_command.ensures.own ∙ ap₂ with_subcommand with_plan (ap (λ (a : App). a.top) c.in_ok-play_command.ensures.is) in
-    IfOk-weaker c.subcommand-5.result _ _ (λ r h. h.shape c.in_ok-run_command.ensures.own ∙ ap₂ with_subcommand with_play (ap (λ (a : App). a.top) c.in_ok-run_command.ensures.is)) c.subcommand-5.ensures
+    let with_run : app_of c.in_ok-subcommand-5.field-0 ≡ five =
+    c.in_ok-subcommand-5.ensures.shape c.in_ok-run_command.ensures.own ∙ ap₂ with_subcommand with_play (ap (λ (a : App). a.top) c.in_ok-run_command.ensures.is) in
+    let with_dump : app_of c.in_ok-subcommand-6.field-0 ≡ six =
+    c.in_ok-subcommand-6.ensures.shape c.in_ok-dump_command.ensures.own ∙ ap₂ with_subcommand with_run (ap (λ (a : App). a.top) c.in_ok-dump_command.ensures.is) in
+    let with_import : app_of c.in_ok-subcommand-7.field-0 ≡ seven =
+    c.in_ok-subcommand-7.ensures.shape c.in_ok-import_command.ensures.own ∙ ap₂ with_subcommand with_dump (ap (λ (a : App). a.top) c.in_ok-import_command.ensures.is) in
+    IfOk-weaker c.subcommand-8.result _ _ (λ r h. h.shape c.in_ok-suggest_command.ensures.own ∙ ap₂ with_subcommand with_import (ap (λ (a : App). a.top) c.in_ok-suggest_command.ensures.is)) c.subcommand-8.ensures
