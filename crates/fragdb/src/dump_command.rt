@@ -16,7 +16,8 @@ use std::fs;
 use std::io::Write;
 
 /// Writes what is asked for, over the stores of the folder that is named, and tells what it came to. A folder that has no
-/// database is left as it is, and can't be read.
+/// database is left as it is, and can't be read. What files hold no contract can say; over readers and writers `dump_files` says
+/// what is done.
 pub fn do_dump<W: Write, E: Write>(
     rt: &HostRuntime,
     dump: Dump<'_>,

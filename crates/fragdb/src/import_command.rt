@@ -13,7 +13,8 @@ use sqlite::Alter;
 use std::io::{Read, Write};
 use std::{fs, io};
 
-/// Inserts the rows of the file that is named, over the stores of the folder that is named, and tells what it came to.
+/// Inserts the rows of the file that is named, over the stores of the folder that is named, and tells what it came to. What files
+/// hold no contract can say; over readers and writers `import_files` says what is done.
 pub fn do_import<W: Write, E: Write>(
     rt: &HostRuntime,
     import: Import<'_>,

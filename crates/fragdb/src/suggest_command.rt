@@ -7,7 +7,8 @@ use crate::transfer::Suggest;
 use std::io::{Read, Write};
 use std::{fs, io};
 
-/// Suggests a catalogue for the file that is named, or for standard input, and tells what it came to.
+/// Suggests a catalogue for the file that is named, or for standard input, and tells what it came to. What files hold no contract
+/// can say; over readers and writers `suggest_file` says what is done.
 pub fn do_suggest<W: Write, E: Write>(
     rt: &HostRuntime,
     asked: Suggest<'_>,
