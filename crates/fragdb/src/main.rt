@@ -3,90 +3,27 @@
 //! which of them a statement reads; `fragdb play SCRIPT` plays a schedule, letter by letter; `fragdb run SCRIPT`
 //! runs many sessions, each in a thread of its own.
 //!
-//! The contract that carries it is that of `perform::perform`: what is written and what comes of each request.
+//! Here files are opened, and the crate `commands` is called. The contract that carries the program is that of its
+//! `perform::perform`: what is written and what comes of each request.
 #![tactic(auto)]
 
-mod built_in;
-mod cast;
-mod catalog_difference;
-mod catalog_file;
-mod check;
-mod client;
-mod conversation;
-mod conversations;
-mod cut;
-mod database;
-mod delivering;
-mod dot;
-mod dump;
-mod dump_command;
-mod explaining;
-mod fault;
-mod folder;
-mod folder_told;
-mod found;
-mod fragment_tree;
-mod grammar;
-mod help;
-mod import;
-mod import_command;
-mod import_file;
-mod input;
-mod level;
-mod listing;
-mod opener;
-mod outcome;
-mod perform;
-mod plan_lines;
-mod plan_text;
-mod plan_tree;
-mod play;
-mod play_items;
-mod play_load;
-mod play_script;
-mod play_text;
-mod progress;
-mod reply;
-mod run;
-mod run_records;
-mod run_script;
-mod run_text;
-mod same_catalog;
-mod schedule;
-mod script;
-mod script_file;
-mod session;
-mod session_word;
-mod sessions;
-mod shown;
-mod solo;
-mod sql_stores;
-mod store_opener;
-mod suggest_command;
-mod suggest_file;
-mod texts;
-mod transfer;
-mod typed;
-mod usage;
-mod world_opener;
-mod written;
 
-use crate::built_in::{BUILT_IN, BUILT_IN_NAME};
-use crate::database::Database;
-use crate::dump_command::do_dump;
-use crate::explaining::explain_outcome;
-use crate::fault::ProgramFault;
-use crate::folder_told::tell_folder;
-use crate::import_command::do_import;
-use crate::opener::{Folder, InMemory, Lists, Opens};
-use crate::outcome::{Outcome, Status, exit};
-use crate::perform::{perform, perform_session};
-use crate::sessions::do_run;
-use crate::solo::SCRIPT_LIMIT;
-use crate::sql_stores::{Files, OpensFiles};
-use crate::suggest_command::do_suggest;
-use crate::usage::{Asked, Request, Stores, read_words, show_usage, unreadable_words};
-use crate::world_opener::OpensWorld;
+use lines::built_in::{BUILT_IN, BUILT_IN_NAME};
+use commands::database::Database;
+use commands::dump_command::do_dump;
+use lines::explaining::explain_outcome;
+use lines::fault::ProgramFault;
+use commands::folder_told::tell_folder;
+use commands::import_command::do_import;
+use commands::opener::{Folder, InMemory, Lists, Opens};
+use lines::outcome::{Outcome, Status, exit};
+use commands::perform::{perform, perform_session};
+use commands::sessions::do_run;
+use commands::solo::SCRIPT_LIMIT;
+use commands::sql_stores::{Files, OpensFiles};
+use commands::suggest_command::do_suggest;
+use lines::usage::{Asked, Request, Stores, read_words, show_usage, unreadable_words};
+use commands::world_opener::OpensWorld;
 use sqlite::Alter;
 use std::alloc::Global;
 use std::io::{BufWriter, IsTerminal, Read, Write};

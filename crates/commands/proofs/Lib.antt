@@ -1,0 +1,16 @@
+pub mod SoloLemmas
+pub mod ClientLemmas
+pub mod DeliveringLemmas
+pub mod ShownLemmas
+pub mod ReachedLemmas
+pub mod CountedLemmas
+pub mod PlayLemmas
+pub mod PerformLemmas
+pub mod SessionLemmas
+pub mod ScriptFileLemmas
+pub mod ImportLemmas
+pub mod SqlStoresLemmas
+pub mod ConversationLemmas
+pub mod RunLemmas
+pub mod RunRecordsLemmas
+pub mod RunTextLemmas

@@ -1,0 +1,76 @@
+-- Lemmas on the run that a schedule carries.
+use Rattle.std.proofs.Common.{◌≡◌, ◌++◌, ℕ, List, Result, Ok, Err, ap, refl, sym, subst, ◌∙◌}
+use Rattle.meaning.specs.Whole.{Relations}
+use Rattle.catalog.specs.Catalogue.{Catalogue}
+use Rattle.catalog.specs.Relation.{catalogue_of}
+use Rattle.store.specs.DeskContent.{DeskContent}
+use Rattle.store.specs.SiteContent.{SiteContent}
+use Rattle.world.specs.declared.event.Entry.{Entry}
+use Rattle.world.specs.declared.event.Event.{Event}
+use Rattle.world.specs.declared.fault.Fault.{Fault}
+use Rattle.world.specs.declared.world.World.{World}
+use Rattle.desk.specs.CatalogueDatabase.{database}
+use Rattle.world.specs.Contents.{OfStores, counted, held}
+use Rattle.world.specs.Frame.{LeavesMachines, StaysAsItIs}
+use Rattle.world.specs.Machines.{Machines}
+use Rattle.world.specs.Runs.{StepsOn}
+use Rattle.world.specs.Steps.{Steps}
+use Rattle.commands.specs.declared.schedule.Schedule.{Schedule}
+use Rattle.commands.specs.Schedule.{HasRun, IsReached, LeavesWorld, SeenWorld, world_over}
+
+-- the same schedule has the same world
+pub same_world : {D S : Type 0} (old new : Schedule D S) → new ≡ old → new.world ≡ old.world
+same_world {D = D} {S = S} old new same = ap (λ (schedule : Schedule D S). schedule.world) same
+
+-- a world that stays as it is
+pub leaves_same : {W : Type 0} (seen : SeenWorld W) (world : W) → LeavesWorld seen world world
+leaves_same seen world = record { clean = λ clean. clean; runs = λ whole clean has. has; catalog = refl }
+
+-- two calls, one after the other
+pub leaves_then : {W : Type 0} (seen : SeenWorld W) (old middle new : W) → LeavesWorld seen old middle → LeavesWorld seen middle new → LeavesWorld seen old new
+leaves_then seen old middle new first next = record {
+  clean = λ clean. first.clean (next.clean clean);
+  runs = λ whole clean has. next.runs whole clean (first.runs whole (next.clean clean) has);
+  catalog = next.catalog ∙ first.catalog;
+}
+
+module _ {D S : Type 0} (desk_is_clean : D → Type 0) (site_is_clean : S → Type 0) (desk_is_sound : D → Type 0) (site_is_sound : S → Type 0) (of_desk : D → DeskContent) (of_site : S → SiteContent) (desk_refused : D → ℕ) (site_refused : S → ℕ) where
+  abbrev seen : SeenWorld (World D S)
+  seen = world_over desk_is_clean site_is_clean desk_is_sound site_is_sound of_desk of_site desk_refused site_refused
+
+  -- a run goes on, over the same catalogue
+  goes_on : (whole : Relations) (old new : World D S) → seen.catalogue new ≡ seen.catalogue old → seen.is_sound new → (reached : IsReached (seen.catalogue old) whole (seen.machines old) (seen.entries old)) →
+      StepsOn (database (seen.catalogue old)) whole (seen.machines old) (seen.machines new) (seen.entries old) (seen.entries new) reached.0 → HasRun seen whole new
+  goes_on whole old new same sound reached on = record {
+    sound = sound;
+    reached = subst (λ (catalogue : Catalogue). IsReached catalogue whole (seen.machines new) (seen.entries new)) (sym same) (reached.0 ++ on.deeds, on.run_on);
+  }
+
+  -- nothing has happened
+  stays : (whole : Relations) (old new : World D S) → seen.catalogue new ≡ seen.catalogue old → seen.is_sound new → seen.machines new ≡ seen.machines old → seen.entries new ≡ seen.entries old → HasRun seen whole old → HasRun seen whole new
+  stays whole old new same sound machines entries has = record {
+    sound = sound;
+    reached = subst (λ (catalogue : Catalogue). IsReached catalogue whole (seen.machines new) (seen.entries new)) (sym same)
+        (subst (λ (machines : Machines). IsReached (seen.catalogue old) whole machines (seen.entries new)) (sym machines)
+        (subst (λ (entries : List Entry). IsReached (seen.catalogue old) whole (seen.machines old) entries) (sym entries) has.reached));
+  }
+
+  -- an event of a world, by what is answered
+  abbrev StepsTo : Event → Result Entry Fault → World D S → World D S → Type 0
+  StepsTo what answer old new = Steps (database (catalogue_of old.machines.desk.catalog)) (OfStores desk_is_clean site_is_clean) (OfStores desk_is_sound site_is_sound) (held of_desk of_site) (counted of_desk of_site desk_refused site_refused) what answer old new
+
+  runs_on : (what : Event) (answer : Result Entry Fault) (old new : World D S) → StepsTo what answer old new → (whole : Relations) → seen.is_clean new → HasRun seen whole old → HasRun seen whole new
+  runs_on what (Ok entry) old new stepped whole clean has = goes_on whole old new (ap catalogue_of stepped.catalog) (stepped.sound clean has.sound) has.reached (stepped.goes_on whole has.reached.0 clean has.sound has.reached.1).0
+  runs_on what (Err told) old new stepped whole clean has = stays whole old new (ap catalogue_of stepped.catalog) (stepped.sound clean has.sound) (stepped.err clean has.sound) stepped.same has
+
+  pub steps_leave : (what : Event) (answer : Result Entry Fault) (old new : World D S) → StepsTo what answer old new → LeavesWorld seen old new
+  steps_leave what answer old new stepped = record { clean = stepped.clean; runs = runs_on what answer old new stepped; catalog = ap catalogue_of stepped.catalog }
+
+  -- what is kept is looked at
+  pub looks_leave : (old new : World D S) → LeavesMachines desk_is_clean site_is_clean desk_is_sound site_is_sound desk_refused site_refused old.machines new.machines →
+      StaysAsItIs (OfStores desk_is_clean site_is_clean) (OfStores desk_is_sound site_is_sound) (held of_desk of_site) old.machines new.machines → new.entries.items ≡ old.entries.items → LeavesWorld seen old new
+  looks_leave old new leaves same entries = record {
+    clean = leaves.clean;
+    runs = λ whole clean has. stays whole old new (ap catalogue_of leaves.catalog) (leaves.sound clean has.sound) (same clean has.sound) entries has;
+    catalog = ap catalogue_of leaves.catalog;
+  }

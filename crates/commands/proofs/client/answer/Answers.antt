@@ -1,0 +1,33 @@
+use Rattle.std.proofs.Common.{string_bytes, subst, sym}
+use Rattle.lines.specs.declared.script.Item.{Item}
+use Rattle.commands.specs.Client.{IsAnswered, Serves, seen_over}
+use Rattle.lines.specs.Reply.{Answered, told_by}
+use Rattle.lines.specs.Script.{task_of}
+use Rattle.commands.proofs.client.answer.Goals as goal
+
+pub returns-in-Statement : goal.returns-in-Statement
+returns-in-Statement g c = subst (λ (item : Item). Serves (seen_over g.D.DeskStore.is_clean g.S.SiteStore.is_clean g.D.DeskStore.is_sound g.S.SiteStore.is_sound g.D.DeskStore.kept g.S.SiteStore.kept g.D.DeskStore.refused g.S.SiteStore.refused) c.args.mode (task_of item) told_by c.args.database.now c.command.new.database c.command.result) (sym c.in-Statement.is) c.command.ensures
+
+pub returns-in_ok-relation_shown-in-Show : goal.returns-in_ok-relation_shown-in-Show
+returns-in_ok-relation_shown-in-Show g c = record {
+  clean = c.in_ok-relation_shown-in-Show.ensures.clean;
+  answers = λ catalogue whole past clean h.
+      subst (λ (item : Item). IsAnswered (seen_over g.D.DeskStore.is_clean g.S.SiteStore.is_clean g.D.DeskStore.is_sound g.S.SiteStore.is_sound g.D.DeskStore.kept g.S.SiteStore.kept g.D.DeskStore.refused g.S.SiteStore.refused) c.args.mode catalogue whole (task_of item) past c.args.database.now c.relation_shown.new.database (Answered (string_bytes c.in_ok-relation_shown-in-Show.field-0))) (sym c.in-Show.is) (c.in_ok-relation_shown-in-Show.ensures.answers catalogue whole past clean h);
+  err = tt;
+}
+
+pub returns-in_ok-leaf_shown-in-Leaf : goal.returns-in_ok-leaf_shown-in-Leaf
+returns-in_ok-leaf_shown-in-Leaf g c = record {
+  clean = c.in_ok-leaf_shown-in-Leaf.ensures.clean;
+  answers = λ catalogue whole past clean h.
+      subst (λ (item : Item). IsAnswered (seen_over g.D.DeskStore.is_clean g.S.SiteStore.is_clean g.D.DeskStore.is_sound g.S.SiteStore.is_sound g.D.DeskStore.kept g.S.SiteStore.kept g.D.DeskStore.refused g.S.SiteStore.refused) c.args.mode catalogue whole (task_of item) past c.args.database.now c.leaf_shown.new.database (Answered (string_bytes c.in_ok-leaf_shown-in-Leaf.field-0))) (sym c.in-Leaf.is) (c.in_ok-leaf_shown-in-Leaf.ensures.answers catalogue whole past clean h);
+  err = tt;
+}
+
+pub returns-in_ok-relation_written-in-Dump : goal.returns-in_ok-relation_written-in-Dump
+returns-in_ok-relation_written-in-Dump g c = record {
+  clean = c.in_ok-relation_written-in-Dump.ensures.clean;
+  answers = λ catalogue whole past clean h.
+      subst (λ (item : Item). IsAnswered (seen_over g.D.DeskStore.is_clean g.S.SiteStore.is_clean g.D.DeskStore.is_sound g.S.SiteStore.is_sound g.D.DeskStore.kept g.S.SiteStore.kept g.D.DeskStore.refused g.S.SiteStore.refused) c.args.mode catalogue whole (task_of item) past c.args.database.now c.relation_written.new.database (Answered (string_bytes c.in_ok-relation_written-in-Dump.field-0))) (sym c.in-Dump.is) (c.in_ok-relation_written-in-Dump.ensures.answers catalogue whole past clean h);
+  err = tt;
+}

@@ -1,0 +1,21 @@
+use Rattle.std.proofs.Common.{ℕ, List, Option, ap, map, option_map, subst, ◌∙◌}
+use Rattle.meaning.specs.declared.schema.RelationSchema.{RelationSchema}
+use Rattle.catalog.specs.Relation.{catalogue_of}
+use Rattle.commands.specs.Dump.{dumps_asked, is_missing, tasks_asked}
+use Rattle.lines.specs.Script.{Reading, task_of}
+use Rattle.commands.specs.Solo.{IsRun}
+use Rattle.shell.specs.declared.mode.Mode.TheVariants.{Tabs}
+use Rattle.commands.proofs.SoloLemmas.{Appends-kept}
+use Rattle.commands.proofs.dump.dump_over.Goals as goal
+
+pub returns-clause-ok : goal.returns-clause-ok
+returns-clause-ok g c =
+    let ran = c.in_ok-outcome.ensures.ok in
+    let asked = option_map (λ name. name.now) c.args.relation in
+    record {
+      written = ran.0;
+      told = Appends-kept (g.W.Write.contents c.args.output.now) (g.W.Write.contents c.run-outcome.new.output) (g.W.Write.contents c.flush-flushed.new.self) ran.0 ran.1 c.flush-flushed.ensures.bytes;
+      any_refused = c.in_ok-outcome.field-0;
+      ran = subst (λ (tasks : List Reading). IsRun g.B.Database.seen g.O.Opens.origin Tabs (catalogue_of c.args.catalog) tasks ran.0 c.in_ok-outcome.field-0) (ap (map task_of) c.as_slice-2.ensures.value ∙ c.in_ok-items.ensures ∙ ap (tasks_asked asked) (c.as_slice.ensures.value ∙ c.in_ok-names.ensures ∙ ap (map (λ (relation : RelationSchema). relation.name)) c.schema-2.ensures.schemas)) ran.2;
+      lacks = c.is_missing-is_missing.ensures ∙ ap (is_missing asked) c.schema.ensures.schemas;
+    }

@@ -1,0 +1,24 @@
+use Rattle.std.proofs.Common.{map, refl}
+use Rattle.sqlstore.specs.Desk.{desk_kept}
+use Rattle.sqlstore.specs.Site.{kept_by}
+use Rattle.commands.specs.Origin.{Found, Kept}
+use Rattle.commands.proofs.opener.FolderOpensSoloSqlDeskSqlSite.open.Goals as goal
+
+pub returns-in-Ok-clause-ok : goal.returns-in-Ok-clause-ok
+returns-in-Ok-clause-ok g c =
+    let found : Found = record { desk = desk_kept g.M.Store c.in_ok-sites.field-0.desk.conn; sites = map (λ site. kept_by g.M.Store site.leaves.items site.conn) c.in_ok-sites.field-0.sites.items } in (
+      Kept found,
+      (found, refl),
+      record {
+        idle = c.in-Ok.ensures.idle.0;
+        goes_on = λ whole left clean.
+            let begun = c.in-Ok.ensures.anew clean left.first left.machines left.past left.leaves left.served left.memory left.kept in
+            record {
+              going = c.in-Ok.ensures.idle.1;
+              catalog = c.in-Ok.ensures.catalog;
+              sound = c.in-Ok.ensures.sound clean;
+              served = rw (left.is) begun.served;
+              stands = rw (c.in-Ok.ensures.idle.0) begun.quiet;
+            };
+      },
+    )

@@ -1,0 +1,33 @@
+use Rattle.std.proofs.Common.{[], ap, refl, subst, sym, ◌∙◌}
+use Rattle.std.specs.FinMap as finite
+use Rattle.meaning.specs.Whole.{FitsSchema, Relations}
+use Rattle.catalog.specs.FragmentLeaf.{schemas_of}
+use Rattle.catalog.specs.Relation.{catalogue_of}
+use Rattle.store.specs.PlainDesk.{kept_of as desk_kept}
+use Rattle.store.specs.PlainSite.{kept_of}
+use Rattle.desk.specs.CatalogueDatabase.{database}
+use Rattle.world.specs.Contents.{unrefused}
+use Rattle.world.specs.Client.{IsServed}
+use Rattle.commands.specs.Origin.{New}
+use Rattle.lines.specs.PlayLoad.{emptied}
+use Rattle.commands.proofs.SoloLemmas.{emptied-fits}
+use Rattle.commands.proofs.opener.ListsOpensSoloPlainDeskPlainSite.open.Goals as goal
+
+pub returns-in-Ok-clause-ok : goal.returns-in-Ok-clause-ok
+returns-in-Ok-clause-ok c =
+    let catalogue = catalogue_of c.args.catalog.now in
+    let empty = c.in_ok-whole.ensures ∙ ap (λ schemas. emptied schemas finite.empty) c.schema.ensures.schemas in
+    let fits_schema = subst (FitsSchema (schemas_of catalogue)) (sym empty) (emptied-fits (schemas_of catalogue)) in (
+      New,
+      refl,
+      record {
+        idle = c.in-Ok.ensures.idle.0;
+        goes_on = λ whole begins clean. record {
+          going = c.in-Ok.ensures.idle.1;
+          catalog = c.in-Ok.ensures.catalog;
+          sound = c.in-Ok.ensures.sound;
+          served = subst (λ (whole : Relations). IsServed (database catalogue) whole (unrefused desk_kept kept_of c.in-Ok.database.machines) []) (empty ∙ sym begins) (c.in-Ok.ensures.served fits_schema);
+          stands = c.in-Ok.ensures.stands fits_schema;
+        };
+      },
+    )

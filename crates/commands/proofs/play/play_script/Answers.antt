@@ -1,0 +1,46 @@
+use Rattle.std.proofs.Common.{◌≡◌, ℕ, List, Option, Err, OnOk, subst, ap, sym, ◌∙◌}
+use Rattle.catalog.specs.Relation.{catalogue_of}
+use Rattle.catalog.specs.FragmentLeaf.{schemas_of}
+use Rattle.meaning.specs.declared.schema.RelationSchema.{RelationSchema}
+use Rattle.lines.specs.declared.fault.ProgramFault.{ProgramFault}
+use Rattle.lines.specs.declared.play_items.Placed.{Placed}
+use Rattle.lines.specs.declared.script.ScriptFault.TheVariants as script
+use Rattle.commands.specs.Play.{IsPlayedOver, IsSound, PlaysOrStops}
+use Rattle.lines.specs.PlayItems.{items_of}
+use Rattle.lines.specs.PlayLoad.{IsLoaded, IsMalformedAt}
+use Rattle.commands.specs.Schedule.{world_over}
+use Rattle.lines.specs.Script.{lines_of}
+use Rattle.lines.proofs.LoadedLemmas.{loaded_fits}
+use Rattle.commands.proofs.PlayLemmas.{played, unloaded}
+use Rattle.commands.proofs.play.play_script.Goals as goal
+
+pub play_over-requires : goal.play_over-requires
+play_over-requires g c =
+    let whole = c.in-Ok.whole in
+    let read : List Placed × Option ℕ = (c.in_ok-script.script.items.items, c.in_ok-script.script.malformed) in
+    loaded_fits (schemas_of (catalogue_of c.args.catalog)) read whole (subst (λ (schema : List RelationSchema). IsLoaded schema read whole) c.schema.ensures.schemas c.in-Ok.ensures.loaded)
+
+pub returns-in-Ok : goal.returns-in-Ok
+returns-in-Ok g c =
+    let catalogue = catalogue_of c.args.catalog in
+    let text = c.args.script.now in
+    let read = c.in_ok-script.ensures in
+    let whole = c.in-Ok.whole in
+    let here : IsLoaded (schemas_of catalogue) (c.in_ok-script.script.items.items, c.in_ok-script.script.malformed) whole = subst (λ (schema : List RelationSchema). IsLoaded schema (c.in_ok-script.script.items.items, c.in_ok-script.script.malformed) whole) c.schema.ensures.schemas c.in-Ok.ensures.loaded in
+    let loaded : IsLoaded (schemas_of catalogue) (items_of (lines_of text)) whole = subst (λ (items : List Placed × Option ℕ). IsLoaded (schemas_of catalogue) items whole) read here in
+    let sound : IsSound catalogue text = (whole, loaded) in
+    let items = c.as_slice.ensures.value ∙ ap (λ (items : List Placed × Option ℕ). items.0) read in
+    let old = g.W.Write.contents c.args.output.now in
+    let new = g.W.Write.contents c.play_over.new.output in
+    played (world_over g.D.DeskStore.is_clean g.S.SiteStore.is_clean g.D.DeskStore.is_sound g.S.SiteStore.is_sound g.D.DeskStore.kept g.S.SiteStore.kept g.D.DeskStore.refused g.S.SiteStore.refused) g.O.OpensWorld.fails_for catalogue text old new c.play_over.result sound (subst (λ (items : List Placed). OnOk c.play_over.result (IsPlayedOver (world_over g.D.DeskStore.is_clean g.S.SiteStore.is_clean g.D.DeskStore.is_sound g.S.SiteStore.is_sound g.D.DeskStore.kept g.S.SiteStore.kept g.D.DeskStore.refused g.S.SiteStore.refused) catalogue whole items old new)) items c.play_over.ensures.ok) c.play_over.ensures.err
+
+pub returns : goal.returns
+returns g c =
+    let catalogue = catalogue_of c.args.catalog in
+    let text = c.args.script.now in
+    let output = g.W.Write.contents c.args.output.now in
+    let why = λ (line : ℕ) (e : c.in-Err.fault ≡ script.Malformed line).
+    subst (λ (items : List Placed × Option ℕ). IsMalformedAt (schemas_of catalogue) items line) c.in_ok-script.ensures
+    (subst (λ (schema : List RelationSchema). IsMalformedAt schema (c.in_ok-script.script.items.items, c.in_ok-script.script.malformed) line) c.schema.ensures.schemas
+    (c.loaded.ensures.malformed line (c.in-Err.is ∙ ap (λ fault. Err fault) e))) in
+    subst (λ (fault : ProgramFault). PlaysOrStops (world_over g.D.DeskStore.is_clean g.S.SiteStore.is_clean g.D.DeskStore.is_sound g.S.SiteStore.is_sound g.D.DeskStore.kept g.S.SiteStore.kept g.D.DeskStore.refused g.S.SiteStore.refused) g.O.OpensWorld.fails_for catalogue text output output (Err fault)) (sym c.from.ensures) (unloaded (world_over g.D.DeskStore.is_clean g.S.SiteStore.is_clean g.D.DeskStore.is_sound g.S.SiteStore.is_sound g.D.DeskStore.kept g.S.SiteStore.kept g.D.DeskStore.refused g.S.SiteStore.refused) g.O.OpensWorld.fails_for catalogue text output c.in-Err.fault why)

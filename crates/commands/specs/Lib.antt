@@ -1,0 +1,22 @@
+-- What the program keeps, in reading order: a line of a script, a whole script, a catalogue's file, the program.
+pub mod Schedule
+pub mod Delivering
+pub mod Shown
+pub mod WorldOpener
+pub mod Client
+pub mod Origin
+pub mod SqlStores
+pub mod Solo
+pub mod Play
+pub mod Session
+pub mod Dump
+pub mod Import
+pub mod ImportFile
+pub mod SuggestFile
+pub mod ScriptFile
+pub mod RunText
+pub mod Conversation
+pub mod Conversations
+pub mod Run
+pub mod Perform
+-- Helpers.

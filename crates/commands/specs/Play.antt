@@ -1,0 +1,149 @@
+-- What the program does of a script of schedules.
+use Rattle.std.specs.Prelude.{◌≡◌, ◌⊎◌, ◌≤◌, ◌<◌, ⊤, ℕ, List, [], ◌∷◌, ◌++◌, Option, Result, Ok, Err, length}
+use Rattle.std.specs.Borrow.{Bor}
+use Rattle.std.specs.Io.KnownBytes.{Appends, Keeps}
+use Rattle.meaning.specs.Whole.{Relations}
+use Rattle.catalog.specs.Catalogue.{Catalogue, IsValidCatalogue}
+use Rattle.catalog.specs.FragmentLeaf.{schemas_of}
+use Rattle.store.specs.declared.fault.StoreFault.{StoreFault}
+use Rattle.desk.specs.CatalogueDatabase.{database}
+use Rattle.world.specs.declared.world.World.{World}
+use Rattle.world.specs.Runs.{IsSerialRun}
+use Rattle.world.specs.Replies.{committed_in}
+use Rattle.lines.specs.declared.catalog_file.CatalogFault.{CatalogFault}
+use Rattle.lines.specs.declared.catalog_file.CatalogFault.TheVariants.{Program, Refused}
+use Rattle.lines.specs.declared.fault.ProgramFault.{ProgramFault}
+use Rattle.lines.specs.declared.fault.ProgramFault.TheVariants.{CannotRead, CannotWrite, Malformed, Memory, ScriptTooLong, Store}
+use Rattle.lines.specs.declared.play_items.Placed.{Placed}
+use Rattle.lines.specs.declared.play_script.Item.{Item}
+use Rattle.lines.specs.declared.play_script.Item.TheVariants as item
+use Rattle.commands.specs.declared.schedule.Schedule.{Schedule}
+use Rattle.lines.specs.Cast.{name_of}
+use Rattle.lines.specs.CatalogFile.{IsCatalogueFile, RefusesFile}
+use Rattle.commands.specs.Delivering.{Delivers, DeliversAll}
+use Rattle.lines.specs.Input.{IsOfInput}
+use Rattle.lines.specs.PlayItems.{items_of}
+use Rattle.lines.specs.PlayLoad.{IsLoaded, IsMalformedAt}
+use Rattle.commands.specs.Schedule.{Asks, HappensAt, HasRun, IsReached, RestartsDesk, SeenWorld, Stage, stage_of}
+use Rattle.lines.specs.Script.{lines_of}
+use Rattle.commands.specs.Shown.{IsShownLeaf, IsShownRelation, ShownUnlessRefused, names_text}
+use Rattle.commands.specs.Solo.{longest}
+
+-- nothing has happened yet
+pub record IsOpening (stage : Stage) : Type 0 where
+  pub entries : stage.entries ≡ []
+  pub txns : stage.cast.txns.entries ≡ []
+  pub names : stage.cast.names.entries ≡ []
+  pub came : stage.came ≡ []
+
+-- a script that is not malformed: all of it can be read, and what it loads can be loaded
+abbrev pub IsSound : Catalogue → List ℕ → Type 0
+IsSound catalogue script = (whole : Relations) × IsLoaded (schemas_of catalogue) (items_of (lines_of script)) whole
+
+-- what stops items that are played: memory ran out, nobody reads what is told, or a store failed as the world was opened, before anything was written. Fails: why one may
+abbrev pub StopsItems : (StoreFault → Type 0) → Option (List ℕ) → Option (List ℕ) → ProgramFault → Type 0
+StopsItems Fails old new Memory = ⊤
+StopsItems Fails old new CannotWrite = ⊤
+StopsItems Fails old new (Store why) = Fails why × Keeps old new
+StopsItems Fails old new (Malformed line) = ⊥
+StopsItems Fails old new (CannotRead name) = ⊥
+StopsItems Fails old new ScriptTooLong = ⊥
+
+-- what stopped a script, of which all bytes were read: a malformed one before anything was written
+abbrev pub StopsPlay : (StoreFault → Type 0) → Catalogue → List ℕ → Option (List ℕ) → Option (List ℕ) → ProgramFault → Type 0
+StopsPlay Fails catalogue script old new (Malformed line) = IsMalformedAt (schemas_of catalogue) (items_of (lines_of script)) line × Keeps old new
+StopsPlay Fails catalogue script old new Memory = IsSound catalogue script ⊎ Keeps old new
+StopsPlay Fails catalogue script old new CannotWrite = IsSound catalogue script
+StopsPlay Fails catalogue script old new (Store why) = Fails why × IsSound catalogue script × Keeps old new
+StopsPlay Fails catalogue script old new (CannotRead name) = ⊥
+StopsPlay Fails catalogue script old new ScriptTooLong = ⊥
+
+-- what stopped the script of this file
+abbrev pub StopsPlayOf : (StoreFault → Type 0) → Catalogue → Bor (List ℕ) → List ℕ → Option (List ℕ) → Option (List ℕ) → ProgramFault → Type 0
+StopsPlayOf Fails catalogue file script old new (CannotRead name) = (name ≡ file) × Keeps old new
+StopsPlayOf Fails catalogue file script old new ScriptTooLong = (longest < length script) × Keeps old new
+StopsPlayOf Fails catalogue file script old new (Malformed line) = (length script ≤ longest) × StopsPlay Fails catalogue script old new (Malformed line)
+StopsPlayOf Fails catalogue file script old new Memory = StopsPlay Fails catalogue script old new Memory
+StopsPlayOf Fails catalogue file script old new (Store why) = (length script ≤ longest) × StopsPlay Fails catalogue script old new (Store why)
+StopsPlayOf Fails catalogue file script old new CannotWrite = StopsPlay Fails catalogue script old new CannotWrite
+
+-- why nothing is played where the script can't be opened: the catalogue is none, or that is told
+abbrev pub IsUnplayed : Bor (List ℕ) → List ℕ → Bor (List ℕ) → Result Unit CatalogFault → Type 0
+IsUnplayed catalog bytes file (Ok done) = ⊥
+IsUnplayed catalog bytes file (Err (Refused fault)) = RefusesFile bytes fault.relation fault.rule
+IsUnplayed catalog bytes file (Err (Program fault)) = IsOfInput catalog fault ⊎ IsOfInput file fault
+
+-- seen: how the worlds are seen that are opened for a play
+module _ {D S : Type 0} (seen : SeenWorld (World D S)) where
+  -- an item of a script that loads these whole relations, and what is told of it; what is loaded stands in the fragments from the beginning, and what is shown changes nothing. Clean: where it
+  -- is known what the fragments show
+  abbrev pub Plays : Type 0 → Catalogue → Relations → Item → Schedule D S → Schedule D S → List ℕ → Type 0
+  Plays Clean catalogue whole (item.Load text) before after told = (after ≡ before) × (told ≡ [])
+  Plays Clean catalogue whole (item.Client name asked) before after told = Asks catalogue name asked (stage_of before) (stage_of after) told
+  Plays Clean catalogue whole (item.Deliver number kept) before after told = Delivers catalogue number kept (stage_of before) (stage_of after) told
+  Plays Clean catalogue whole (item.All but) before after told = DeliversAll catalogue but (stage_of before) (stage_of after) told
+  Plays Clean catalogue whole (item.Site name doing) before after told = HappensAt catalogue name doing (stage_of before) (stage_of after) told
+  Plays Clean catalogue whole item.RestartDesk before after told = RestartsDesk catalogue (stage_of before) (stage_of after) told
+  Plays Clean catalogue whole (item.Show name) before after told =
+      (stage_of after ≡ stage_of before) × (Clean → ShownUnlessRefused (seen.refused before.world) (seen.refused after.world) name (IsShownRelation catalogue whole (seen.entries before.world) name) told)
+  Plays Clean catalogue whole (item.Leaf name) before after told =
+      (stage_of after ≡ stage_of before) × (Clean → ShownUnlessRefused (seen.refused before.world) (seen.refused after.world) name (IsShownLeaf catalogue whole (seen.entries before.world) name) told)
+  Plays Clean catalogue whole item.Committed before after told = (after ≡ before) × (told ≡ names_text (name_of before.cast) (committed_in (seen.entries before.world)))
+
+  -- items, one after another, with what is told of all
+  abbrev pub PlaysAll : Type 0 → Catalogue → Relations → List Placed → Schedule D S → Schedule D S → List ℕ → Type 0
+  PlaysAll Clean catalogue whole [] before after told = (after ≡ before) × (told ≡ [])
+  PlaysAll Clean catalogue whole (placed ∷ rest) before after told =
+      (middle : Schedule D S) × (first : List ℕ) × (others : List ℕ) × Plays Clean catalogue whole placed.item before middle first × PlaysAll Clean catalogue whole rest middle after others × (told ≡ first ++ others)
+
+  -- whatever whole relations a run began over, an item is played, and what is shown is known where that run had led to the world before and its stores are clean afterwards
+  abbrev pub PlaysItem : Item → Schedule D S → Schedule D S → List ℕ → Type 0
+  PlaysItem one before after told = (whole : Relations) → Plays (seen.is_clean after.world × HasRun seen whole before.world) (seen.catalogue before.world) whole one before after told
+
+  -- so are items, one after another, and all that is told of them is written
+  pub record PlaysItems (items : List Placed) (old new : Option (List ℕ)) (before after : Schedule D S) : Type 0 where
+    pub told : List ℕ
+    pub said : Appends old new told
+    pub plays : (whole : Relations) → PlaysAll (seen.is_clean after.world × HasRun seen whole before.world) (seen.catalogue before.world) whole items before after told
+
+  -- Items were played to their end over a world in which nothing had happened, and all that is told of them was written. Where the stores of the world at the end are clean, what happened are the
+  -- entries of a run over these whole relations, and its committed transactions ran as if one after another.
+  pub record IsPlayedOver (catalogue : Catalogue) (whole : Relations) (items : List Placed) (old new : Option (List ℕ)) : Type 0 where
+    pub opening : Schedule D S
+    pub opens : IsOpening (stage_of opening)
+    pub ended : Schedule D S
+    pub told : List ℕ
+    pub plays : PlaysAll (seen.is_clean ended.world) catalogue whole items opening ended told
+    pub run : seen.is_clean ended.world → IsReached catalogue whole (seen.machines ended.world) (seen.entries ended.world)
+    pub serial : seen.is_clean ended.world → IsSerialRun (database catalogue) whole (seen.machines ended.world) (seen.entries ended.world)
+    pub said : Appends old new told
+
+  -- a script was played to its end over what it loads, and all that is told of its items was written
+  pub record IsPlayed (catalogue : Catalogue) (script : List ℕ) (old new : Option (List ℕ)) : Type 0 where
+    pub sound : IsSound catalogue script
+    pub played : IsPlayedOver catalogue sound.0 (items_of (lines_of script)).0 old new
+
+-- Fails: why a store may fail as such a world is opened
+module _ {D S : Type 0} (seen : SeenWorld (World D S)) (Fails : StoreFault → Type 0) where
+  -- a script that is short enough was played to its end, or was stopped
+  abbrev pub PlaysOrStops : Catalogue → List ℕ → Option (List ℕ) → Option (List ℕ) → Result Unit ProgramFault → Type 0
+  PlaysOrStops catalogue script old new (Ok done) = IsPlayed seen catalogue script old new
+  PlaysOrStops catalogue script old new (Err fault) = StopsPlay Fails catalogue script old new fault
+
+  -- the script of a file was played to its end, or was stopped
+  abbrev pub PlaysScript : Catalogue → Bor (List ℕ) → List ℕ → Option (List ℕ) → Option (List ℕ) → Result Unit ProgramFault → Type 0
+  PlaysScript catalogue file script old new (Ok done) = (length script ≤ longest) × IsPlayed seen catalogue script old new
+  PlaysScript catalogue file script old new (Err fault) = StopsPlayOf Fails catalogue file script old new fault
+
+  -- these bytes are of a valid catalogue, over which the script of this file was played to its end, or stopped
+  pub record IsPlayOf (bytes : List ℕ) (file : Bor (List ℕ)) (script : List ℕ) (old new : Option (List ℕ)) (result : Result Unit ProgramFault) : Type 0 where
+    pub catalogue : Catalogue
+    pub text : IsCatalogueFile bytes catalogue
+    pub valid : IsValidCatalogue catalogue
+    pub played : PlaysScript catalogue file script old new result
+
+  -- The play of a script over a catalogue, each the bytes of a file. The catalogue is looked at first, and where it is none nothing is written.
+  abbrev pub PlaysFiles : Bor (List ℕ) → List ℕ → Bor (List ℕ) → List ℕ → Option (List ℕ) → Option (List ℕ) → Result Unit CatalogFault → Type 0
+  PlaysFiles catalog bytes file script old new (Ok done) = IsPlayOf bytes file script old new (Ok done)
+  PlaysFiles catalog bytes file script old new (Err (Refused fault)) = RefusesFile bytes fault.relation fault.rule × Keeps old new
+  PlaysFiles catalog bytes file script old new (Err (Program fault)) = (IsOfInput catalog fault × Keeps old new) ⊎ IsPlayOf bytes file script old new (Err fault)

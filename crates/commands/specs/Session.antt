@@ -1,0 +1,167 @@
+-- A session: what is typed is answered line by line, over one database.
+use Rattle.std.specs.Prelude.{ℕ, ◌≡◌, ◌⊎◌, Bool, if◌then◌else◌, List, [], ◌∷◌, ◌++◌, codes, flat_map, Option, Result, Ok, Err}
+use Rattle.std.specs.Borrow.{Bor}
+use Rattle.std.specs.Io.KnownBytes.{Appends, Keeps}
+use Rattle.meaning.specs.Whole.{Relations}
+use Rattle.catalog.specs.Catalogue.{Catalogue, IsValidCatalogue}
+use Rattle.protocol.specs.Desk.{Deed}
+use Rattle.desk.specs.Database.{language}
+use Rattle.world.specs.declared.event.Entry.{Entry}
+use Rattle.desk.specs.CatalogueDatabase.{database, fits}
+use Rattle.world.specs.Executed.{Stands}
+use Rattle.world.specs.Runs.{IsSerialRun}
+use Rattle.world.specs.Client.{IsServed}
+use Rattle.shell.specs.declared.mode.Mode.{Mode}
+use Rattle.lines.specs.declared.catalog_file.CatalogFault.{CatalogFault}
+use Rattle.lines.specs.declared.catalog_file.CatalogFault.TheVariants.{Program, Refused}
+use Rattle.lines.specs.declared.fault.ProgramFault.{ProgramFault}
+use Rattle.lines.specs.CatalogFile.{IsCatalogueFile, RefusesFile}
+use Rattle.commands.specs.Client.{AnswersTask, GoesOn, Seen, Standing, standing_of}
+use Rattle.lines.specs.Input.{IsOfInput}
+use Rattle.lines.specs.Listing.{leaves_text, schema_text, tables_text}
+use Rattle.commands.specs.Origin.{BeginsWith, Origin}
+use Rattle.lines.specs.Plan.{IsPlanOf}
+use Rattle.lines.specs.Reply.{Told, text_of}
+use Rattle.lines.specs.Script.{Reading}
+use Rattle.commands.specs.Solo.{IsOfRun, IsOpened, said_by}
+
+-- what a session begins with
+abbrev pub greeting_text : List ℕ
+greeting_text = codes "fragdb 0.1.0, a relational database in fragments; .help tells what can be typed" ++ 10 ∷ []
+
+-- what asks for a line. is_more: a statement has begun in the lines before; is_open: a transaction has begun
+abbrev pub prompt_text : Bool → Bool → List ℕ
+prompt_text is_more is_open = if is_more then codes "   ...> " else (if is_open then codes "fragdb*> " else codes "fragdb> ")
+
+-- what help tells
+abbrev pub help_text : List ℕ
+help_text =
+    codes "A statement, BEGIN, COMMIT or ROLLBACK ends with its line where it is whole, or at a semicolon.\n"
+    ++ codes ".help               this text\n"
+    ++ codes ".tables             the relations\n"
+    ++ codes ".schema [RELATION]  their columns\n"
+    ++ codes ".leaves [RELATION]  their fragments, with sites, columns and conditions\n"
+    ++ codes ".show RELATION      the rows of a relation, rebuilt\n"
+    ++ codes ".leaf LEAF          the rows of a fragment\n"
+    ++ codes ".plan STATEMENT     which fragments a statement reads; EXPLAIN tells it too\n"
+    ++ codes ".dump [RELATION]    statements that make the rows of relations anew\n"
+    ++ codes ".read FILE          answers the lines of a script\n"
+    ++ codes ".timer on|off       tells how long each answer takes\n"
+    ++ codes ".mode MODE          shows answers in tabs, columns, csv or json\n"
+    ++ codes ".quit               the end, as Ctrl-D\n"
+    ++ codes "rlwrap fragdb has a history, and lines that can be edited.\n"
+
+-- what is written besides answers. The plan is one of the statement that was typed.
+pub data Aside (catalogue : Catalogue) : Type 0 where
+  Greeting : Aside catalogue
+  Prompt : (is_more is_open : Bool) → Aside catalogue
+  Help : Aside catalogue
+  Tables : Aside catalogue
+  Schema : (asked : List ℕ) → Aside catalogue
+  Leaves : (asked : List ℕ) → Aside catalogue
+  Plan : (typed text : List ℕ) (of_typed : IsPlanOf catalogue typed text) → Aside catalogue
+  LineEnd : Aside catalogue
+
+abbrev pub aside_text : (catalogue : Catalogue) → Aside catalogue → List ℕ
+aside_text catalogue Greeting = greeting_text
+aside_text catalogue (Prompt is_more is_open) = prompt_text is_more is_open
+aside_text catalogue Help = help_text
+aside_text catalogue Tables = tables_text catalogue
+aside_text catalogue (Schema asked) = schema_text catalogue asked
+aside_text catalogue (Leaves asked) = leaves_text catalogue asked
+aside_text catalogue (Plan typed text of_typed) = text
+aside_text catalogue LineEnd = 10 ∷ []
+
+-- the text of something besides answers
+abbrev pub IsAsideOf : Catalogue → List ℕ → Type 0
+IsAsideOf catalogue text = (aside : Aside catalogue) × (text ≡ aside_text catalogue aside)
+
+-- what was asked for, how it was to be answered, and what was told
+pub record Exchange : Type 0 where
+  pub mode : Mode
+  pub task : Reading
+  pub told : Told
+
+-- a piece of what is written: an answer, or something else
+pub data Piece (catalogue : Catalogue) : Type 0 where
+  Answer : (exchange : Exchange) → Piece catalogue
+  Beside : (aside : Aside catalogue) → Piece catalogue
+
+abbrev pub piece_text : (catalogue : Catalogue) → Piece catalogue → List ℕ
+piece_text catalogue (Answer exchange) = text_of exchange.told
+piece_text catalogue (Beside aside) = aside_text catalogue aside
+
+abbrev pub exchange_in : (catalogue : Catalogue) → Piece catalogue → List Exchange
+exchange_in catalogue (Answer exchange) = exchange ∷ []
+exchange_in catalogue (Beside aside) = []
+
+abbrev pub exchanges_in : (catalogue : Catalogue) → List (Piece catalogue) → List Exchange
+exchanges_in catalogue pieces = flat_map (exchange_in catalogue) pieces
+
+-- exchanges, one after another: each is answered as the task of a script is
+abbrev pub AnswersEach : (catalogue : Catalogue) → List Exchange → Standing catalogue → Standing catalogue → Type 0
+AnswersEach catalogue [] before after = after ≡ before
+AnswersEach catalogue (first ∷ others) before after = (middle : Standing catalogue) × AnswersTask first.mode catalogue first.task before middle first.told × AnswersEach catalogue others middle after
+
+-- the calls that were made by them, each with all that was heard of it
+abbrev pub said_by_each : (catalogue : Catalogue) (exchanges : List Exchange) (before after : Standing catalogue) → AnswersEach catalogue exchanges before after → List Entry
+said_by_each catalogue [] before after same = []
+said_by_each catalogue (first ∷ others) before after so = said_by first.mode catalogue first.task before so.0 first.told so.1 ++ said_by_each catalogue others so.0 after so.2
+
+-- A session from the opening to its end, where all is quiet or the open transaction is ready, and the serial law holds of just what was asked for and heard in it: the committed
+-- transactions, one after another over whole relations, give the answers that were heard, and what the settled fragments rebuild.
+pub record IsSessionFrom (catalogue : Catalogue) (whole : Relations) (written : List ℕ) : Type 0 where
+  pub opening : Standing catalogue
+  pub opened : IsOpened catalogue whole opening
+  pub end : Standing catalogue
+  pub pieces : List (Piece catalogue)
+  pub answered : AnswersEach catalogue (exchanges_in catalogue pieces) opening end
+  pub lines : written ≡ flat_map (piece_text catalogue) pieces
+  pub served : IsServed (database catalogue) whole end.machines end.past
+  pub stands : Stands (database catalogue) (fits catalogue) end.current end.machines end.past
+  pub serial : IsSerialRun (database catalogue) whole end.machines (said_by_each catalogue (exchanges_in catalogue pieces) opening end answered)
+
+-- a fault that may end a session whose lines this file gives
+abbrev pub IsOfSession : Bor (List ℕ) → ProgramFault → Type 0
+IsOfSession file fault = IsOfRun fault ⊎ IsOfInput file fault
+
+-- a stretch of a session, over a database that goes on: all that was asked is answered, in order, and between the answers stands nothing but asides
+pub record IsTalk {B : Type 0} (seen : Seen B) (catalogue : Catalogue) (whole : Relations) (past : List (Deed (language (database catalogue)))) (old new : B) (written : List ℕ) : Type 0 where
+  pub later : List (Deed (language (database catalogue)))
+  pub goes_on : GoesOn seen catalogue whole later new
+  pub pieces : List (Piece catalogue)
+  pub answered : AnswersEach catalogue (exchanges_in catalogue pieces) (standing_of seen catalogue old past) (standing_of seen catalogue new later)
+  pub lines : written ≡ flat_map (piece_text catalogue) pieces
+
+-- what a call has come to: something was written, and whatever has happened before, that is a stretch of a session where the stores are clean as the call ends
+pub record Talks {B : Type 0} (seen : Seen B) (before after : Option (List ℕ)) (old new : B) : Type 0 where
+  pub clean : seen.is_clean new → seen.is_clean old
+  pub written : List ℕ
+  pub told : Appends before after written
+  pub stretch : (catalogue : Catalogue) (whole : Relations) (past : List (Deed (language (database catalogue)))) → seen.is_clean new → GoesOn seen catalogue whole past old → IsTalk seen catalogue whole past old new written
+
+-- seen: how databases are seen that are opened for a session; IsOrigin: what they may begin with
+module _ {B : Type 0} (seen : Seen B) (IsOrigin : Origin → Type 0) where
+  -- a session over a database that was opened for it, whatever relations it began with. It is one where the stores are clean at its end
+  pub record IsSession (catalogue : Catalogue) (written : List ℕ) : Type 0 where
+    pub origin : Origin
+    pub is_origin : IsOrigin origin
+    pub ended : B
+    pub held : (whole : Relations) → BeginsWith catalogue origin whole → seen.is_clean ended → IsSessionFrom catalogue whole written
+
+  -- a session was had, and all of it was written
+  abbrev pub HasTalked : Catalogue → Option (List ℕ) → Option (List ℕ) → Type 0
+  HasTalked catalogue old new = (written : List ℕ) × Appends old new written × IsSession catalogue written
+
+  -- these bytes are of a valid catalogue, over which there was a session to its end
+  pub record IsHeld (bytes : List ℕ) (old new : Option (List ℕ)) : Type 0 where
+    pub catalogue : Catalogue
+    pub text : IsCatalogueFile bytes catalogue
+    pub valid : IsValidCatalogue catalogue
+    pub talked : HasTalked catalogue old new
+
+  -- A session over a catalogue of these bytes. The catalogue is looked at first, and where it is none nothing is written.
+  abbrev pub RunsSession : Bor (List ℕ) → List ℕ → Bor (List ℕ) → Option (List ℕ) → Option (List ℕ) → Result Unit CatalogFault → Type 0
+  RunsSession catalog bytes file old new (Ok done) = IsHeld bytes old new
+  RunsSession catalog bytes file old new (Err (Refused fault)) = RefusesFile bytes fault.relation fault.rule × Keeps old new
+  RunsSession catalog bytes file old new (Err (Program fault)) = (IsOfInput catalog fault × Keeps old new) ⊎ IsOfSession file fault

@@ -1,0 +1,157 @@
+-- Which scripts run.
+use Rattle.std.specs.Prelude.{Bool, ◌≡◌, ◌≤◌, ◌<◌, ◌⊎◌, ℕ, List, [], ◌∷◌, ◌++◌, flat_map, length, map, Option, Some, None, Result, Ok, Err}
+use Rattle.std.specs.Borrow.{Bor}
+use Rattle.std.specs.Io.KnownBytes.{Appends, Keeps}
+use Rattle.std.specs.List.{list_any}
+use Rattle.meaning.specs.Whole.{Relations}
+use Rattle.catalog.specs.Catalogue.{Catalogue, IsValidCatalogue}
+use Rattle.protocol.specs.Desk.{Deed}
+use Rattle.desk.specs.Database.{language}
+use Rattle.world.specs.Course.{said_in}
+use Rattle.desk.specs.CatalogueDatabase.{database, fits}
+use Rattle.world.specs.declared.event.Entry.{Entry}
+use Rattle.world.specs.Executed.{Stands}
+use Rattle.world.specs.Runs.{IsSerialRun}
+use Rattle.world.specs.Client.{IsServed}
+use Rattle.shell.specs.declared.mode.Mode.{Mode}
+use Rattle.lines.specs.declared.catalog_file.CatalogFault.{CatalogFault}
+use Rattle.lines.specs.declared.catalog_file.CatalogFault.TheVariants.{Program, Refused}
+use Rattle.lines.specs.declared.fault.ProgramFault.{ProgramFault}
+use Rattle.lines.specs.declared.fault.ProgramFault.TheVariants.{CannotRead, CannotWrite, Malformed, Memory, ScriptTooLong, Store}
+use Rattle.lines.specs.CatalogFile.{IsCatalogueFile, RefusesFile}
+use Rattle.commands.specs.Client.{AnswersTask, GoesOn, IsOfClient, Seen, Standing, standing_of}
+use Rattle.commands.specs.Origin.{BeginsWith, Origin}
+use Rattle.lines.specs.Input.{IsOfInput}
+use Rattle.lines.specs.Reply.{Answered, Refused, Told, is_refusal, text_of}
+use Rattle.lines.specs.Script.{Reading, Runs, first_unreadable, lines_of, tasks_of_lines}
+
+-- how many bytes a script may have
+abbrev pub longest : ℕ
+longest = 1_048_576
+
+-- a script that is short enough, each line of which can be read
+pub record IsAccepted (script : List ℕ) : Type 0 where
+  pub short : length script ≤ longest
+  pub readable : first_unreadable (lines_of script) ≡ None
+
+-- a fault that may come once the script runs
+abbrev pub IsOfRun : ProgramFault → Type 0
+IsOfRun fault = IsOfClient fault ⊎ (fault ≡ CannotWrite)
+
+-- a fault that may come while the script is read from this file
+abbrev pub IsOfRead : Bor (List ℕ) → ProgramFault → Type 0
+IsOfRead file fault = (fault ≡ Memory) ⊎ ((fault ≡ ScriptTooLong) ⊎ (fault ≡ CannotRead file))
+
+-- tasks, one after another, with the answer to each
+abbrev pub AnswersTasks : (mode : Mode) (catalogue : Catalogue) → List (Reading × Told) → Standing catalogue → Standing catalogue → Type 0
+AnswersTasks mode catalogue [] before after = after ≡ before
+AnswersTasks mode catalogue (first ∷ others) before after = (middle : Standing catalogue) × AnswersTask mode catalogue first.0 before middle first.1 × AnswersTasks mode catalogue others middle after
+
+-- the calls that a task made, each with all that was heard of it
+abbrev pub said_by : (mode : Mode) (catalogue : Catalogue) (task : Reading) (before after : Standing catalogue) (told : Told) → AnswersTask mode catalogue task before after told → List Entry
+said_by mode catalogue (Runs text) before after (Answered told) answers = said_in answers.does.moves
+said_by mode catalogue (Runs text) before after (Refused told) answers = said_in answers.does.moves
+said_by mode catalogue task before after told answers = []
+
+-- so of tasks, one after another
+abbrev pub said_by_tasks : (mode : Mode) (catalogue : Catalogue) (answers : List (Reading × Told)) (before after : Standing catalogue) → AnswersTasks mode catalogue answers before after → List Entry
+said_by_tasks mode catalogue [] before after same = []
+said_by_tasks mode catalogue (first ∷ others) before after so = said_by mode catalogue first.0 before so.0 first.1 so.1 ++ said_by_tasks mode catalogue others so.0 after so.2
+
+-- What tasks come to from where a client stands: one answer to each, in order, all of which is written, and whether a line was refused.
+pub record IsWork (mode : Mode) (catalogue : Catalogue) (tasks : List Reading) (written : List ℕ) (any_refused : Bool) (before after : Standing catalogue) : Type 0 where
+  pub answers : List (Reading × Told)
+  pub in_order : map (λ p. p.0) answers ≡ tasks
+  pub answered : AnswersTasks mode catalogue answers before after
+  pub lines : written ≡ flat_map (λ p. text_of p.1) answers
+  pub refused : any_refused ≡ list_any (λ p. is_refusal p.1) answers
+
+-- a database that was opened over these whole relations: nothing has happened, and no transaction has begun
+pub record IsOpened (catalogue : Catalogue) (whole : Relations) (standing : Standing catalogue) : Type 0 where
+  pub served : IsServed (database catalogue) whole standing.machines standing.past
+  pub none : standing.past ≡ []
+  pub idle : standing.current ≡ None
+
+-- A run of tasks from the opening to its end, where all is quiet or the open transaction is ready, and the serial law holds of just what was asked for and heard by them: the committed
+-- transactions, one after another over whole relations, give the answers that were heard, and what the settled fragments rebuild.
+pub record IsRunFrom (mode : Mode) (catalogue : Catalogue) (whole : Relations) (tasks : List Reading) (written : List ℕ) (any_refused : Bool) : Type 0 where
+  pub opening : Standing catalogue
+  pub opened : IsOpened catalogue whole opening
+  pub end : Standing catalogue
+  pub work : IsWork mode catalogue tasks written any_refused opening end
+  pub served : IsServed (database catalogue) whole end.machines end.past
+  pub stands : Stands (database catalogue) (fits catalogue) end.current end.machines end.past
+  pub serial : IsSerialRun (database catalogue) whole end.machines (said_by_tasks mode catalogue work.answers opening end work.answered)
+
+-- what stopped a script, of which all bytes were read
+abbrev pub StopsRun : List ℕ → Option (List ℕ) → Option (List ℕ) → ProgramFault → Type 0
+StopsRun script old new (Malformed line) = (first_unreadable (lines_of script) ≡ Some line) × Keeps old new
+StopsRun script old new Memory = ¬ (IsAccepted script) → Keeps old new
+StopsRun script old new (Store why) = IsAccepted script
+StopsRun script old new CannotWrite = IsAccepted script
+StopsRun script old new (CannotRead name) = ⊥
+StopsRun script old new ScriptTooLong = ⊥
+
+-- what stopped the script of this file
+abbrev pub StopsScript : Bor (List ℕ) → List ℕ → Option (List ℕ) → Option (List ℕ) → ProgramFault → Type 0
+StopsScript file script old new (CannotRead name) = (name ≡ file) × Keeps old new
+StopsScript file script old new ScriptTooLong = (longest < length script) × Keeps old new
+StopsScript file script old new (Malformed line) = (length script ≤ longest) × (first_unreadable (lines_of script) ≡ Some line) × Keeps old new
+StopsScript file script old new Memory = ¬ (IsAccepted script) → Keeps old new
+StopsScript file script old new (Store why) = IsAccepted script
+StopsScript file script old new CannotWrite = IsAccepted script
+
+-- why nothing runs where the script can't be opened: the catalogue is none, or that is told
+abbrev pub IsUnrun : Bor (List ℕ) → List ℕ → Bor (List ℕ) → Result Bool CatalogFault → Type 0
+IsUnrun catalog bytes file (Ok any_refused) = ⊥
+IsUnrun catalog bytes file (Err (Refused fault)) = RefusesFile bytes fault.relation fault.rule
+IsUnrun catalog bytes file (Err (Program fault)) = IsOfInput catalog fault ⊎ IsOfInput file fault
+
+-- a run of tasks over a database that goes on
+pub record IsStretch {B : Type 0} (seen : Seen B) (mode : Mode) (catalogue : Catalogue) (whole : Relations) (tasks : List Reading) (past : List (Deed (language (database catalogue)))) (old new : B) (written : List ℕ) (any_refused : Bool) : Type 0 where
+  pub later : List (Deed (language (database catalogue)))
+  pub goes_on : GoesOn seen catalogue whole later new
+  pub work : IsWork mode catalogue tasks written any_refused (standing_of seen catalogue old past) (standing_of seen catalogue new later)
+
+-- something was written, and whatever has happened before, that is a run of these tasks where the stores are clean at its end
+pub record Stretches {B : Type 0} (seen : Seen B) (mode : Mode) (tasks : List Reading) (before after : Option (List ℕ)) (old new : B) (any_refused : Bool) : Type 0 where
+  pub written : List ℕ
+  pub told : Appends before after written
+  pub ran : (catalogue : Catalogue) (whole : Relations) (past : List (Deed (language (database catalogue)))) → seen.is_clean new → GoesOn seen catalogue whole past old → IsStretch seen mode catalogue whole tasks past old new written any_refused
+
+-- seen: how databases are seen that are opened for a run; IsOrigin: what they may begin with
+module _ {B : Type 0} (seen : Seen B) (IsOrigin : Origin → Type 0) where
+  -- a run of tasks over a database that was opened for it, whatever relations it began with. It is one where the stores are clean at its end
+  pub record IsRun (mode : Mode) (catalogue : Catalogue) (tasks : List Reading) (written : List ℕ) (any_refused : Bool) : Type 0 where
+    pub origin : Origin
+    pub is_origin : IsOrigin origin
+    pub ended : B
+    pub ran : (whole : Relations) → BeginsWith catalogue origin whole → seen.is_clean ended → IsRunFrom mode catalogue whole tasks written any_refused
+
+  -- a script that may run has run to its end, and all that its lines are answered by was written
+  abbrev pub HasRun : Mode → Catalogue → List ℕ → Option (List ℕ) → Option (List ℕ) → Bool → Type 0
+  HasRun mode catalogue script old new any_refused =
+      IsAccepted script × ((written : List ℕ) × Appends old new written × IsRun mode catalogue (tasks_of_lines (lines_of script)) written any_refused)
+
+  -- a script that is short enough ran to its end, or was stopped
+  abbrev pub RunsOrStops : Mode → Catalogue → List ℕ → Option (List ℕ) → Option (List ℕ) → Result Bool ProgramFault → Type 0
+  RunsOrStops mode catalogue script old new (Ok any_refused) = HasRun mode catalogue script old new any_refused
+  RunsOrStops mode catalogue script old new (Err fault) = StopsRun script old new fault
+
+  -- the script of a file ran to its end, or was stopped
+  abbrev pub RunsScript : Mode → Catalogue → Bor (List ℕ) → List ℕ → Option (List ℕ) → Option (List ℕ) → Result Bool ProgramFault → Type 0
+  RunsScript mode catalogue file script old new (Ok any_refused) = HasRun mode catalogue script old new any_refused
+  RunsScript mode catalogue file script old new (Err fault) = StopsScript file script old new fault
+
+  -- these bytes are of a valid catalogue, over which the script of this file ran to its end, or was stopped
+  pub record IsRunOf (mode : Mode) (bytes : List ℕ) (file : Bor (List ℕ)) (script : List ℕ) (old new : Option (List ℕ)) (result : Result Bool ProgramFault) : Type 0 where
+    pub catalogue : Catalogue
+    pub text : IsCatalogueFile bytes catalogue
+    pub valid : IsValidCatalogue catalogue
+    pub ran : RunsScript mode catalogue file script old new result
+
+  -- The run of a script over a catalogue, each the bytes of a file. The catalogue is looked at first, and where it is none nothing is written.
+  abbrev pub RunsFiles : Mode → Bor (List ℕ) → List ℕ → Bor (List ℕ) → List ℕ → Option (List ℕ) → Option (List ℕ) → Result Bool CatalogFault → Type 0
+  RunsFiles mode catalog bytes file script old new (Ok any_refused) = IsRunOf mode bytes file script old new (Ok any_refused)
+  RunsFiles mode catalog bytes file script old new (Err (Refused fault)) = RefusesFile bytes fault.relation fault.rule × Keeps old new
+  RunsFiles mode catalog bytes file script old new (Err (Program fault)) = (IsOfInput catalog fault × Keeps old new) ⊎ IsRunOf mode bytes file script old new (Err fault)

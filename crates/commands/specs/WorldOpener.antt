@@ -1,0 +1,21 @@
+-- What a world is opened with.
+use Rattle.std.specs.Prelude.{◌≡◌, ◌⊎◌, []}
+use Rattle.meaning.specs.Whole.{Relations}
+use Rattle.catalog.specs.Catalogue.{Catalogue}
+use Rattle.store.specs.declared.fault.StoreFault.{StoreFault}
+use Rattle.desk.specs.CatalogueDatabase.{database}
+use Rattle.world.specs.Runs.{IsRun}
+use Rattle.lines.specs.declared.fault.ProgramFault.{ProgramFault}
+use Rattle.lines.specs.declared.fault.ProgramFault.TheVariants.{Memory, Store}
+use Rattle.commands.specs.Schedule.{SeenWorld}
+
+-- the world of this catalogue was opened over these whole relations: nothing has happened in it, and where its stores are clean, they are sound, and a run of no event leads to it
+pub record IsOpenedOver {W : Type 0} (seen : SeenWorld W) (catalogue : Catalogue) (whole : Relations) (world : W) : Type 0 where
+  pub none : seen.entries world ≡ []
+  pub catalog : seen.catalogue world ≡ catalogue
+  pub sound : seen.is_clean world → seen.is_sound world
+  pub run : seen.is_clean world → IsRun (database catalogue) whole (seen.machines world) [] []
+
+-- what stops a program as a world is opened: memory ran out, or a store failed. Fails: why one may
+abbrev pub StopsOpening : (StoreFault → Type 0) → ProgramFault → Type 0
+StopsOpening Fails fault = (fault ≡ Memory) ⊎ ((why : StoreFault) × Fails why × (fault ≡ Store why))

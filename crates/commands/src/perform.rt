@@ -1,0 +1,271 @@
+//! What the command line asks for, done over readers and writers.
+
+ghost use Rattle.std.specs.Prelude.{◌≡◌, IfErr, IfOk, IfSome};
+ghost use Rattle.std.specs.Io.KnownBytes.{Keeps};
+ghost use Rattle.commands.specs.Perform.{ComesTo, IsStopped, IsUnread, Performs, PerformsCheck, PerformsPlan, PerformsOver, PerformsPlayOf, PerformsSession, PerformsSolo, StopsIdle, StopsUncatalogued, StopsUnread};
+ghost use Rattle.commands.specs.Perform as spec;
+ghost use Rattle.lines.specs.Request.{file_of, mode_of, session_mode};
+ghost use Rattle.commands.specs.Play.{IsUnplayed};
+ghost use Rattle.commands.specs.Schedule.{world_over};
+ghost use Rattle.commands.specs.Solo.{IsUnrun};
+
+use lines::catalog_file::CatalogFault;
+use lines::check::check;
+use crate::database::Database;
+use lines::fault::ProgramFault;
+use crate::opener::Opens;
+use lines::outcome::Outcome;
+use lines::plan_text::{PlanFault, plan};
+use crate::play::play_files;
+use crate::session::session_files;
+use crate::solo::solo_files;
+use crate::texts::OpensText;
+use lines::usage::Request;
+use crate::world_opener::OpensWorld;
+use shell::mode::Mode;
+use std::alloc::Global;
+use std::io;
+use std::io::{Read, Write};
+use std::time::Clock;
+use store::desk_store::DeskStore;
+use store::site_store::SiteStore;
+
+/// Does what is asked for over `input`, which is the file that the request names, opened, and over `catalog`, the
+/// catalogue that it names besides, or the built-in one; `catalog_file` names it in a fault. Answers what it came
+/// to. Nothing is written to `output` where a file can't be opened.
+pub fn perform<
+    'a,
+    B: Database + Drop,
+    O: Opens<B>,
+    D: DeskStore + Drop,
+    S: SiteStore + Drop,
+    P: OpensWorld<D, S>,
+    C: Read + Drop,
+    R: Read + Drop,
+    W: Write,
+>(
+    alloc: Global,
+    opener: &O,
+    worlds: &P,
+    request: Request<'a>,
+    catalog_file: &'a str,
+    catalog: io::Result<C>,
+    input: io::Result<R>,
+    output: &mut W,
+) -> Outcome<'a>
+    ensures opened { IfOk input (λ reader. IfSome (R.remaining reader) (λ bytes. Performs request.entry bytes (W.contents output.old) (W.contents output.new) result)) }
+    ensures over { IfOk catalog (λ opened. IfSome (C.remaining opened) (λ bytes. IfOk input (λ reader. IfSome (R.remaining reader) (λ script. PerformsOver B.seen O.origin (world_over D.is_clean S.is_clean D.is_sound S.is_sound D.kept S.kept D.refused S.refused) P.fails_for request.entry catalog_file.entry bytes script (W.contents output.old) (W.contents output.new) result)))) }
+    ensures uncatalogued { IfErr catalog (λ error. StopsUncatalogued request.entry catalog_file.entry (W.contents output.old) (W.contents output.new) result) }
+    ensures idle { IfOk catalog (λ opened. IfSome (C.remaining opened) (λ bytes. IfErr input (λ error. StopsIdle request.entry catalog_file.entry bytes result))) }
+    ensures unread { IfErr input (λ error. StopsUnread request.entry result × Keeps (W.contents output.old) (W.contents output.new)) }
+{
+    match request {
+        Request::Solo { script, mode, .. } => {
+            perform_solo(
+                alloc,
+                opener,
+                mode,
+                catalog_file,
+                catalog,
+                script,
+                input,
+                output,
+            )
+        }
+        Request::Check {
+            catalog: file,
+            tree,
+            ..
+        } => perform_check(alloc, file, tree, input, output),
+        Request::Plan {
+            catalog: file,
+            statement,
+            tree,
+        } => perform_plan(alloc, file, statement, tree, input, output),
+        Request::Play { script, .. } => {
+            perform_play(alloc, worlds, catalog_file, catalog, script, input, output)
+        }
+    }
+}
+
+/// Runs a script over a catalogue that was opened under this name.
+fn perform_solo<'a, B: Database + Drop, O: Opens<B>, C: Read + Drop, R: Read + Drop, W: Write>(
+    alloc: Global,
+    opener: &O,
+    mode: Mode,
+    file: &'a str,
+    catalog: io::Result<C>,
+    script: &'a str,
+    input: io::Result<R>,
+    output: &mut W,
+) -> Outcome<'a>
+    ensures ran { IfOk catalog (λ opened. IfSome (C.remaining opened) (λ bytes. IfOk input (λ reader. IfSome (R.remaining reader) (λ text. PerformsSolo B.seen O.origin mode file.entry bytes script.entry text (W.contents output.old) (W.contents output.new) result)))) }
+    ensures uncatalogued { IfErr catalog (λ error. IsUnread file.entry result × Keeps (W.contents output.old) (W.contents output.new)) }
+    ensures idle { IfOk catalog (λ opened. IfSome (C.remaining opened) (λ bytes. IfErr input (λ error. ComesTo spec.outcome_of_script (IsUnrun file.entry bytes script.entry) result))) }
+    ensures unread { IfErr input (λ error. IsStopped result × Keeps (W.contents output.old) (W.contents output.new)) }
+{
+    match catalog {
+        Ok(catalog) => of_script(solo_files(
+            alloc, opener, mode, file, catalog, script, input, output,
+        )),
+        Err(error) => unread(file, &error),
+    }
+}
+
+/// Has a session over a catalogue that was opened under this name, with the lines that `input` gives.
+pub fn perform_session<
+    'a,
+    B: Database + Drop,
+    O: Opens<B>,
+    K: Clock + OpensText<T>,
+    T: Read + Drop,
+    C: Read + Drop,
+    R: Read + Drop,
+    W: Write,
+    E: Write,
+>(
+    alloc: Global,
+    opener: &O,
+    host: &K,
+    request: Request<'a>,
+    catalog_file: &'a str,
+    catalog: io::Result<C>,
+    input: io::Result<R>,
+    output: &mut W,
+    errors: &mut E,
+) -> Outcome<'a>
+    ensures held { IfOk catalog (λ opened. IfSome (C.remaining opened) (λ bytes. PerformsSession B.seen O.origin catalog_file.entry bytes (file_of request.entry) (W.contents output.old) (W.contents output.new) result)) }
+    ensures uncatalogued { IfErr catalog (λ error. IsUnread catalog_file.entry result × Keeps (W.contents output.old) (W.contents output.new)) }
+{
+    let mode = request.session_mode();
+    let file = request.file();
+    match catalog {
+        Ok(catalog) => of_check(session_files(
+            alloc,
+            opener,
+            host,
+            mode,
+            catalog_file,
+            catalog,
+            file,
+            input,
+            output,
+            errors,
+        )),
+        Err(error) => unread(catalog_file, &error),
+    }
+}
+
+/// Checks a catalogue that was opened under this name.
+fn perform_check<'a, R: Read + Drop, W: Write>(
+    alloc: Global,
+    file: &'a str,
+    tree: bool,
+    input: io::Result<R>,
+    output: &mut W,
+) -> Outcome<'a>
+    ensures opened { IfOk input (λ reader. IfSome (R.remaining reader) (λ bytes. PerformsCheck tree file.entry bytes (W.contents output.old) (W.contents output.new) result)) }
+    ensures unread { IfErr input (λ error. IsUnread file.entry result × Keeps (W.contents output.old) (W.contents output.new)) }
+{
+    match input {
+        Ok(input) => of_check(check(alloc, file, tree, input, output)),
+        Err(error) => unread(file, &error),
+    }
+}
+
+/// Plans a statement over a catalogue that was opened under this name.
+fn perform_plan<'a, R: Read + Drop, W: Write>(
+    alloc: Global,
+    file: &'a str,
+    statement: &'a str,
+    tree: bool,
+    input: io::Result<R>,
+    output: &mut W,
+) -> Outcome<'a>
+    ensures opened { IfOk input (λ reader. IfSome (R.remaining reader) (λ bytes. PerformsPlan tree file.entry statement.now bytes (W.contents output.old) (W.contents output.new) result)) }
+    ensures unread { IfErr input (λ error. IsUnread file.entry result × Keeps (W.contents output.old) (W.contents output.new)) }
+{
+    match input {
+        Ok(input) => of_plan(plan(alloc, file, statement, tree, input, output)),
+        Err(error) => unread(file, &error),
+    }
+}
+
+/// Plays a script over a catalogue that was opened under this name.
+fn perform_play<
+    'a,
+    D: DeskStore + Drop,
+    S: SiteStore + Drop,
+    P: OpensWorld<D, S>,
+    C: Read + Drop,
+    R: Read + Drop,
+    W: Write,
+>(
+    alloc: Global,
+    worlds: &P,
+    file: &'a str,
+    catalog: io::Result<C>,
+    script: &'a str,
+    input: io::Result<R>,
+    output: &mut W,
+) -> Outcome<'a>
+    ensures played { IfOk catalog (λ opened. IfSome (C.remaining opened) (λ bytes. IfOk input (λ reader. IfSome (R.remaining reader) (λ text. PerformsPlayOf (world_over D.is_clean S.is_clean D.is_sound S.is_sound D.kept S.kept D.refused S.refused) P.fails_for file.entry bytes script.entry text (W.contents output.old) (W.contents output.new) result)))) }
+    ensures uncatalogued { IfErr catalog (λ error. IsUnread file.entry result × Keeps (W.contents output.old) (W.contents output.new)) }
+    ensures idle { IfOk catalog (λ opened. IfSome (C.remaining opened) (λ bytes. IfErr input (λ error. ComesTo spec.outcome_of_check (IsUnplayed file.entry bytes script.entry) result))) }
+    ensures unread { IfErr input (λ error. IsStopped result × Keeps (W.contents output.old) (W.contents output.new)) }
+{
+    match catalog {
+        Ok(catalog) => of_check(play_files(alloc, worlds, file, catalog, script, input, output)),
+        Err(error) => unread(file, &error),
+    }
+}
+
+/// A file can't be opened.
+pub fn unread<'a>(file: &'a str, error: &io::Error) -> Outcome<'a>
+    ensures { IsUnread file.entry result }
+{
+    Outcome::Stopped(ProgramFault::reading(file, error))
+}
+
+/// What a script came to.
+pub fn of_script(ended: Result<bool, CatalogFault<'_>>) -> Outcome<'_>
+    ensures { result ≡ spec.outcome_of_script ended.entry }
+{
+    match ended {
+        Ok(false) => Outcome::Done,
+        Ok(true) => Outcome::SomeRefused,
+        Err(CatalogFault::Refused(fault)) => Outcome::Refused(fault),
+        Err(CatalogFault::Program(fault)) => Outcome::Stopped(fault),
+    }
+}
+
+/// What a check came to.
+fn of_check(ended: Result<(), CatalogFault<'_>>) -> Outcome<'_>
+    ensures { result ≡ spec.outcome_of_check ended.entry }
+{
+    match ended {
+        Ok(()) => Outcome::Done,
+        Err(CatalogFault::Refused(fault)) => Outcome::Refused(fault),
+        Err(CatalogFault::Program(fault)) => Outcome::Stopped(fault),
+    }
+}
+
+/// What a plan came to.
+fn of_plan(ended: Result<(), PlanFault<'_>>) -> Outcome<'_>
+    ensures { result ≡ spec.outcome_of_plan ended.entry }
+{
+    match ended {
+        Ok(()) => Outcome::Done,
+        Err(fault) => of_plan_fault(fault),
+    }
+}
+
+fn of_plan_fault(fault: PlanFault<'_>) -> Outcome<'_>
+    ensures { result ≡ spec.outcome_of_plan_fault fault.entry }
+{
+    match fault {
+        PlanFault::Catalogue(fault) => Outcome::Refused(fault),
+        PlanFault::Statement(fault) => Outcome::RefusedStatement(fault),
+        PlanFault::Program(fault) => Outcome::Stopped(fault),
+    }
+}

@@ -1,0 +1,179 @@
+//! The command `play`: a script of schedules over a world of its own.
+
+ghost use Rattle.std.specs.Prelude.{◌≡◌, IfErr, IfOk, IfSome, OnOk, is_err, true, string_bytes};
+ghost use Rattle.std.specs.Io.KnownBytes.{Keeps};
+ghost use Rattle.meaning.specs.Whole.{FitsSchema};
+ghost use Rattle.catalog.specs.FragmentLeaf.{schemas_of};
+ghost use Rattle.catalog.specs.Relation.{catalogue_of};
+ghost use Rattle.commands.specs.Play.{IsPlayedOver, IsUnplayed, PlaysFiles, PlaysItem, PlaysItems, PlaysOrStops, PlaysScript, StopsItems};
+ghost use Rattle.lines.specs.Input.{IsOfOutput};
+ghost use Rattle.commands.specs.Schedule.{IsCounted, LeavesWorld, stage_of, world_over};
+
+use lines::catalog_file::{CatalogFault, read_catalog};
+use lines::fault::ProgramFault;
+use lines::play_items::{Placed, read_items};
+use lines::play_load::loaded;
+use lines::play_script::Item;
+use crate::schedule::Schedule;
+use crate::solo::read_script;
+use crate::world_opener::OpensWorld;
+use catalog::catalogue::Catalog;
+use meaning::whole::Whole;
+use std::alloc::Global;
+use std::io;
+use std::io::{Read, Write};
+use store::desk_store::DeskStore;
+use store::site_store::SiteStore;
+use terms::memory::Memory;
+use world::laws::runs_are_serial;
+
+/// Plays the script that `input` gives, which `file` names in a fault, over the catalogue that `catalog` gives, which
+/// `catalog_file` names. The catalogue is read first.
+pub fn play_files<
+    'a,
+    D: DeskStore + Drop,
+    S: SiteStore + Drop,
+    O: OpensWorld<D, S>,
+    C: Read + Drop,
+    R: Read + Drop,
+    W: Write,
+>(
+    alloc: Global,
+    opener: &O,
+    catalog_file: &'a str,
+    catalog: C,
+    file: &'a str,
+    input: io::Result<R>,
+    output: &mut W,
+) -> Result<(), CatalogFault<'a>>
+    ensures opened { IfSome (C.remaining catalog) (λ bytes. IfOk input (λ reader. IfSome (R.remaining reader) (λ script. PlaysFiles (world_over D.is_clean S.is_clean D.is_sound S.is_sound D.kept S.kept D.refused S.refused) O.fails_for catalog_file.entry bytes file.entry script (W.contents output.old) (W.contents output.new) result))) }
+    ensures unread { IfErr input (λ error. IfSome (C.remaining catalog) (λ bytes. IsUnplayed catalog_file.entry bytes file.entry result)) }
+    ensures idle { IfErr input (λ error. (is_err result ≡ true) × Keeps (W.contents output.old) (W.contents output.new)) }
+{
+    match read_catalog(alloc, catalog_file, catalog) {
+        Ok(catalog) => match input {
+            Ok(input) => match play(alloc, opener, catalog, file, input, output) {
+                Ok(()) => Ok(()),
+                Err(fault) => Err(CatalogFault::Program(fault)),
+            },
+            Err(error) => Err(CatalogFault::Program(ProgramFault::reading(file, &error))),
+        },
+        Err(fault) => Err(fault),
+    }
+}
+
+/// Plays the script that `input` gives, which `file` names in a fault, over a new world of this catalogue: the
+/// whole script or none of it. Writes what is told of each item to `output`. It writes often, and flushes once:
+/// give it an output with a buffer.
+pub fn play<
+    'a,
+    D: DeskStore + Drop,
+    S: SiteStore + Drop,
+    O: OpensWorld<D, S>,
+    R: Read + Drop,
+    W: Write,
+>(
+    alloc: Global,
+    opener: &O,
+    catalog: Catalog,
+    file: &'a str,
+    input: R,
+    output: &mut W,
+) -> Result<(), ProgramFault<'a>>
+    ensures { IfSome (R.remaining input) (λ script. PlaysScript (world_over D.is_clean S.is_clean D.is_sound S.is_sound D.kept S.kept D.refused S.refused) O.fails_for (catalogue_of catalog) file.entry script (W.contents output.old) (W.contents output.new) result) }
+{
+    let script = read_script(alloc, file, input)?;
+    play_script(alloc, opener, catalog, script.as_slice(), output)
+}
+
+/// Plays a script of which all bytes were read.
+fn play_script<'a, D: DeskStore + Drop, S: SiteStore + Drop, O: OpensWorld<D, S>, W: Write>(
+    alloc: Global,
+    opener: &O,
+    catalog: Catalog,
+    script: &[u8],
+    output: &mut W,
+) -> Result<(), ProgramFault<'a>>
+    ensures { PlaysOrStops (world_over D.is_clean S.is_clean D.is_sound S.is_sound D.kept S.kept D.refused S.refused) O.fails_for (catalogue_of catalog) script.now (W.contents output.old) (W.contents output.new) result }
+{
+    let script = read_items(alloc, script)?;
+    match loaded(alloc, catalog.schema(), &script) {
+        Ok(whole) => play_over(
+            alloc,
+            opener,
+            catalog,
+            &whole,
+            script.items.as_slice(),
+            output,
+        ),
+        Err(fault) => Err(ProgramFault::from(fault)),
+    }
+}
+
+/// Plays items over a new world of these whole relations.
+fn play_over<'a, D: DeskStore + Drop, S: SiteStore + Drop, O: OpensWorld<D, S>, W: Write>(
+    alloc: Global,
+    opener: &O,
+    catalog: Catalog,
+    whole: &Whole,
+    items: &[Placed],
+    output: &mut W,
+) -> Result<(), ProgramFault<'a>>
+    requires { FitsSchema (schemas_of (catalogue_of catalog)) whole.now }
+    ensures ok { OnOk result (IsPlayedOver (world_over D.is_clean S.is_clean D.is_sound S.is_sound D.kept S.kept D.refused S.refused) (catalogue_of catalog) whole.now items.now (W.contents output.old) (W.contents output.new)) }
+    ensures err { IfErr result (StopsItems O.fails_for (W.contents output.old) (W.contents output.new)) }
+{
+    runs_are_serial(&catalog);
+    let world = opener.open(alloc, &catalog, whole)?;
+    let mut schedule = Schedule::new(alloc, world);
+    let done = play_items(alloc, &mut schedule, items, output);
+    // What was told before a fault goes out too.
+    let flushed = output.flush();
+    done?;
+    flushed.map_err(|error| ProgramFault::writing(&error))?;
+    Ok(())
+}
+
+/// Plays items in order, and writes what is told of each.
+fn play_items<'a, D: DeskStore, S: SiteStore, W: Write>(
+    alloc: Global,
+    schedule: &mut Schedule<D, S>,
+    items: &[Placed],
+    output: &mut W,
+) -> Result<(), ProgramFault<'a>>
+    requires { IsCounted (stage_of schedule.old) }
+    ensures ok { OnOk result (PlaysItems (world_over D.is_clean S.is_clean D.is_sound S.is_sound D.kept S.kept D.refused S.refused) items.now (W.contents output.old) (W.contents output.new) schedule.old schedule.new) }
+    ensures leaves { LeavesWorld (world_over D.is_clean S.is_clean D.is_sound S.is_sound D.kept S.kept D.refused S.refused) schedule.old.world schedule.new.world }
+    ensures err { IfErr result IsOfOutput }
+{
+    for placed in items {
+        let told = play_item(alloc, schedule, &placed.item)?;
+        output
+            .write_all(told.as_str().as_bytes())
+            .map_err(|error| ProgramFault::writing(&error))?;
+    }
+    Ok(())
+}
+
+/// Plays one item. What is loaded stands in the world already.
+fn play_item<D: DeskStore, S: SiteStore>(
+    alloc: Global,
+    schedule: &mut Schedule<D, S>,
+    item: &Item,
+) -> Result<String, Memory>
+    requires { IsCounted (stage_of schedule.old) }
+    ensures plays { IfOk result (λ told. PlaysItem (world_over D.is_clean S.is_clean D.is_sound S.is_sound D.kept S.kept D.refused S.refused) item.now schedule.old schedule.new (string_bytes told)) }
+    ensures leaves { LeavesWorld (world_over D.is_clean S.is_clean D.is_sound S.is_sound D.kept S.kept D.refused S.refused) schedule.old.world schedule.new.world }
+{
+    match item {
+        Item::Load(_) => Ok(String::new(alloc)),
+        Item::Client(name, ask) => schedule.ask(alloc, name, ask),
+        Item::Deliver(number, kept) => schedule.deliver(alloc, *number, *kept),
+        Item::All(but) => schedule.deliver_all(alloc, but.as_slice()),
+        Item::Site(site, doing) => schedule.at_site(alloc, site, *doing),
+        Item::RestartDesk => schedule.restart_desk(alloc),
+        Item::Show(name) => schedule.show(alloc, name),
+        Item::Leaf(name) => schedule.leaf(alloc, name),
+        Item::Committed => schedule.committed(alloc),
+    }
+}

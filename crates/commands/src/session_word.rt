@@ -1,0 +1,450 @@
+//! The shell's own commands in a session.
+
+ghost use Rattle.std.specs.Prelude.{◌≡◌, ◌≢◌, ℕ, List, [], false, IfErr, IfOk, OnOk, string_bytes};
+ghost use Rattle.catalog.specs.Relation.{catalogue_of};
+ghost use Rattle.commands.specs.Session.{IsAsideOf, Talks};
+ghost use Rattle.commands.specs.Solo.{IsOfRun};
+
+use crate::database::Database;
+use lines::dot::{WORDS, Word, mode_named, read, switch_named};
+use crate::dump::take_dump;
+use lines::explaining::explain_fault;
+use lines::fault::ProgramFault;
+use lines::listing::{leaves_text, schema_text, tables_text};
+use lines::plan_text::{PlanFault, plan_typed};
+use lines::script::{Item, is_word};
+use crate::script_file::take_script;
+use crate::texts::OpensText;
+use lines::written::write_text;
+use catalog::catalogue::Catalog;
+use meaning::schema::Schema;
+use reader::fault::ReadFault;
+use shell::mode::Mode;
+use shell::nearest::nearest;
+use std::alloc::{AllocError, Global};
+use std::io::{Read, Write};
+use terms::memory::Memory;
+
+/// What help tells.
+const HELP: &str =
+    "A statement, BEGIN, COMMIT or ROLLBACK ends with its line where it is whole, or at a semicolon.
+.help               this text
+.tables             the relations
+.schema [RELATION]  their columns
+.leaves [RELATION]  their fragments, with sites, columns and conditions
+.show RELATION      the rows of a relation, rebuilt
+.leaf LEAF          the rows of a fragment
+.plan STATEMENT     which fragments a statement reads; EXPLAIN tells it too
+.dump [RELATION]    statements that make the rows of relations anew
+.read FILE          answers the lines of a script
+.timer on|off       tells how long each answer takes
+.mode MODE          shows answers in tabs, columns, csv or json
+.quit               the end, as Ctrl-D
+rlwrap fragdb has a history, and lines that can be edited.
+";
+
+/// What a session keeps besides its database.
+#[derive(Drop)]
+pub struct State {
+    /// How answers are shown.
+    pub mode: Mode,
+    /// Whether it is told how long answers take.
+    pub is_timed: bool,
+    /// The lines of a statement that isn't whole.
+    pub typed: String,
+}
+
+impl State {
+    /// A session in which nothing has been typed.
+    pub fn new(alloc: Global, mode: Mode) -> State
+        ensures mode { result.mode ≡ mode }
+        ensures untimed { result.is_timed ≡ false }
+        ensures nothing { string_bytes result.typed ≡ [] }
+    {
+        State {
+            mode,
+            is_timed: false,
+            typed: String::new(alloc),
+        }
+    }
+}
+
+/// What comes of a line.
+#[derive(Clone, Copy, PartialEq, Eq)]
+pub enum Turn {
+    /// Something was answered.
+    Answered,
+    /// Nothing was asked of the database.
+    GoesOn,
+    /// The session ends.
+    Ends,
+}
+
+/// Does what a line asks for that begins with a dot.
+pub fn take_word<'a, B: Database, K: OpensText<T>, T: Read + Drop, W: Write, E: Write>(
+    alloc: Global,
+    host: &K,
+    database: &mut B,
+    state: &mut State,
+    line: &str,
+    output: &mut W,
+    errors: &mut E,
+) -> Result<Turn, ProgramFault<'a>>
+    ensures ok { OnOk result (Talks B.seen (W.contents output.old) (W.contents output.new) database.old database.new) }
+    ensures err { IfErr result IsOfRun }
+{
+    match read(line) {
+        (Some(word), rest) => {
+            take_known(
+                alloc,
+                host,
+                database,
+                state,
+                word,
+                rest.trim_ascii(),
+                output,
+                errors,
+            )
+        }
+        (None, _) => {
+            tell_unknown(alloc, line, errors)?;
+            Ok(Turn::GoesOn)
+        }
+    }
+}
+
+/// Does what this word asks for, with what stands behind it.
+fn take_known<'a, B: Database, K: OpensText<T>, T: Read + Drop, W: Write, E: Write>(
+    alloc: Global,
+    host: &K,
+    database: &mut B,
+    state: &mut State,
+    word: Word,
+    rest: &str,
+    output: &mut W,
+    errors: &mut E,
+) -> Result<Turn, ProgramFault<'a>>
+    ensures ok { OnOk result (Talks B.seen (W.contents output.old) (W.contents output.new) database.old database.new) }
+    ensures err { IfErr result IsOfRun }
+{
+    match word {
+        Word::Help | Word::Tables | Word::Quit => {
+            take_lone(alloc, database, word, rest, output, errors)
+        }
+        Word::Schema | Word::Leaves => take_listing(alloc, database, word, rest, output, errors),
+        Word::Show | Word::Leaf | Word::Dump => {
+            take_rows(alloc, state.mode, database, word, rest, output, errors)
+        }
+        Word::Plan => take_plan(alloc, database, rest, output, errors),
+        Word::Read => take_file(alloc, host, state.mode, database, rest, output, errors),
+        Word::Timer | Word::Mode => {
+            if !set(state, word, rest) {
+                tell_wanted(alloc, word, errors)?;
+            }
+            Ok(Turn::GoesOn)
+        }
+    }
+}
+
+/// Does what a word asks for that stands alone.
+fn take_lone<'a, B: Database, W: Write, E: Write>(
+    alloc: Global,
+    database: &mut B,
+    word: Word,
+    rest: &str,
+    output: &mut W,
+    errors: &mut E,
+) -> Result<Turn, ProgramFault<'a>>
+    ensures ok { OnOk result (Talks B.seen (W.contents output.old) (W.contents output.new) database.old database.new) }
+    ensures err { IfErr result IsOfRun }
+{
+    if !rest.is_empty() {
+        tell_wanted(alloc, word, errors)?;
+        return Ok(Turn::GoesOn);
+    }
+    match word {
+        Word::Quit => Ok(Turn::Ends),
+        Word::Tables => {
+            let text = tables_text(alloc, database.catalog())?;
+            write_text(output, text.as_str())?;
+            Ok(Turn::GoesOn)
+        }
+        _ => {
+            write_text(output, HELP)?;
+            Ok(Turn::GoesOn)
+        }
+    }
+}
+
+/// Lists columns or leaves, of each relation or of the one of this name.
+fn take_listing<'a, B: Database, W: Write, E: Write>(
+    alloc: Global,
+    database: &mut B,
+    word: Word,
+    asked: &str,
+    output: &mut W,
+    errors: &mut E,
+) -> Result<Turn, ProgramFault<'a>>
+    ensures ok { OnOk result (Talks B.seen (W.contents output.old) (W.contents output.new) database.old database.new) }
+    ensures err { IfErr result IsOfRun }
+{
+    if !asked.is_empty() && !is_word(asked) {
+        tell_wanted(alloc, word, errors)?;
+        return Ok(Turn::GoesOn);
+    }
+    let text = listing(alloc, database.catalog(), word, asked)?;
+    if text.is_empty() {
+        tell_no_relation(alloc, database.catalog(), asked, errors)?;
+    }
+    write_text(output, text.as_str())?;
+    Ok(Turn::GoesOn)
+}
+
+/// The columns of relations, or their leaves.
+fn listing(alloc: Global, catalog: &Catalog, word: Word, asked: &str) -> Result<String, Memory>
+    ensures { IfOk result (λ text. IsAsideOf (catalogue_of catalog.now) (string_bytes text)) }
+{
+    match word {
+        Word::Leaves => leaves_text(alloc, catalog, asked),
+        _ => schema_text(alloc, catalog, asked),
+    }
+}
+
+/// Shows or writes the rows of what is named; where no name is given, writes those of each relation.
+fn take_rows<'a, B: Database, W: Write, E: Write>(
+    alloc: Global,
+    mode: Mode,
+    database: &mut B,
+    word: Word,
+    name: &str,
+    output: &mut W,
+    errors: &mut E,
+) -> Result<Turn, ProgramFault<'a>>
+    ensures ok { OnOk result (Talks B.seen (W.contents output.old) (W.contents output.new) database.old database.new) }
+    ensures err { IfErr result IsOfRun }
+{
+    match word {
+        Word::Show => take_named(
+            alloc,
+            mode,
+            database,
+            word,
+            Item::Show(name),
+            name,
+            output,
+            errors,
+        ),
+        Word::Leaf => take_named(
+            alloc,
+            mode,
+            database,
+            word,
+            Item::Leaf(name),
+            name,
+            output,
+            errors,
+        ),
+        _ if name.is_empty() => take_dump(alloc, mode, database, output),
+        _ => take_named(
+            alloc,
+            mode,
+            database,
+            word,
+            Item::Dump(name),
+            name,
+            output,
+            errors,
+        ),
+    }
+}
+
+/// Answers the lines of the file of this name, where one is given.
+fn take_file<'a, B: Database, K: OpensText<T>, T: Read + Drop, W: Write, E: Write>(
+    alloc: Global,
+    host: &K,
+    mode: Mode,
+    database: &mut B,
+    name: &str,
+    output: &mut W,
+    errors: &mut E,
+) -> Result<Turn, ProgramFault<'a>>
+    ensures ok { OnOk result (Talks B.seen (W.contents output.old) (W.contents output.new) database.old database.new) }
+    ensures err { IfErr result IsOfRun }
+{
+    if name.is_empty() {
+        tell_wanted(alloc, Word::Read, errors)?;
+        return Ok(Turn::GoesOn);
+    }
+    take_script(alloc, host, mode, database, name, output, errors)
+}
+
+/// Shows what is named, where a name is given.
+fn take_named<'a, B: Database, W: Write, E: Write>(
+    alloc: Global,
+    mode: Mode,
+    database: &mut B,
+    word: Word,
+    item: Item<'_>,
+    name: &str,
+    output: &mut W,
+    errors: &mut E,
+) -> Result<Turn, ProgramFault<'a>>
+    ensures ok { OnOk result (Talks B.seen (W.contents output.old) (W.contents output.new) database.old database.new) }
+    ensures err { IfErr result IsOfRun }
+{
+    if !is_word(name) {
+        tell_wanted(alloc, word, errors)?;
+        return Ok(Turn::GoesOn);
+    }
+    take_item(alloc, mode, database, item, output)?;
+    Ok(Turn::Answered)
+}
+
+/// Answers one thing that is asked for.
+pub fn take_item<'a, B: Database, W: Write>(
+    alloc: Global,
+    mode: Mode,
+    database: &mut B,
+    item: Item<'_>,
+    output: &mut W,
+) -> Result<(), ProgramFault<'a>>
+    ensures ok { OnOk result (Talks B.seen (W.contents output.old) (W.contents output.new) database.old database.new) }
+    ensures err { IfErr result IsOfRun }
+{
+    let reply = database.answer(alloc, mode, item)?;
+    write_text(output, reply.text())
+}
+
+/// Shows which leaves a statement reads.
+pub fn take_plan<'a, B: Database, W: Write, E: Write>(
+    alloc: Global,
+    database: &mut B,
+    statement: &str,
+    output: &mut W,
+    errors: &mut E,
+) -> Result<Turn, ProgramFault<'a>>
+    ensures ok { OnOk result (Talks B.seen (W.contents output.old) (W.contents output.new) database.old database.new) }
+    ensures err { IfErr result IsOfRun }
+{
+    if statement.is_empty() {
+        tell_wanted(alloc, Word::Plan, errors)?;
+        return Ok(Turn::GoesOn);
+    }
+    match plan_typed(alloc, database.catalog(), statement) {
+        Ok(text) => {
+            write_text(output, text.as_str())?;
+            Ok(Turn::GoesOn)
+        }
+        Err(fault) => {
+            tell_unplanned(alloc, database.catalog().schema(), statement, fault, errors)?;
+            Ok(Turn::GoesOn)
+        }
+    }
+}
+
+/// Tells why a statement has no plan.
+fn tell_unplanned<'a, E: Write>(
+    alloc: Global,
+    schema: &Schema,
+    statement: &str,
+    fault: PlanFault<'_>,
+    errors: &mut E,
+) -> Result<(), ProgramFault<'a>>
+    ensures { IfErr result IsOfRun }
+{
+    let Some(fault) = refusal_in(fault) else {
+        return Err(ProgramFault::Memory);
+    };
+    let text = format!(in alloc; "refused read {fault}\n")?;
+    tell(errors, text.as_str());
+    let _ = explain_fault(alloc, schema, statement, &fault, errors);
+    Ok(())
+}
+
+/// The refusal of a statement, if its plan was refused for that.
+fn refusal_in(fault: PlanFault<'_>) -> Option<ReadFault> {
+    match fault {
+        PlanFault::Statement(fault) => Some(fault),
+        PlanFault::Catalogue(_fault) => None,
+        PlanFault::Program(_fault) => None,
+    }
+}
+
+/// Sets how answers are shown, or whether it is told how long they take; whether what is asked for is known.
+fn set(state: &mut State, word: Word, rest: &str) -> bool {
+    match (word, mode_named(rest), switch_named(rest)) {
+        (Word::Mode, Some(mode), _) => {
+            state.mode = mode;
+            true
+        }
+        (Word::Timer, _, Some(switch)) => {
+            state.is_timed = switch;
+            true
+        }
+        _ => false,
+    }
+}
+
+/// How a word is to be typed.
+fn usage_of(word: Word) -> &'static str {
+    match word {
+        Word::Help => ".help",
+        Word::Tables => ".tables",
+        Word::Schema => ".schema [RELATION]",
+        Word::Leaves => ".leaves [RELATION]",
+        Word::Show => ".show RELATION",
+        Word::Leaf => ".leaf LEAF",
+        Word::Plan => ".plan STATEMENT",
+        Word::Dump => ".dump [RELATION]",
+        Word::Read => ".read FILE",
+        Word::Timer => ".timer on|off",
+        Word::Mode => ".mode tabs|columns|csv|json",
+        Word::Quit => ".quit",
+    }
+}
+
+/// Tells how a word is to be typed.
+fn tell_wanted<E: Write>(alloc: Global, word: Word, errors: &mut E) -> Result<(), AllocError> {
+    let text = format!(in alloc; "wanted: {}\n", usage_of(word))?;
+    tell(errors, text.as_str());
+    Ok(())
+}
+
+/// Tells that the shell has no such word, and which one was likely meant.
+fn tell_unknown<E: Write>(alloc: Global, line: &str, errors: &mut E) -> Result<(), AllocError> {
+    let word = match line.split_once(' ') {
+        Some((front, _)) => front,
+        None => line,
+    };
+    let text = match nearest(alloc, word, &WORDS)? {
+        Some(name) => format!(in alloc; "no command {word}; did you mean {name}?\n")?,
+        None => format!(in alloc; "no command {word}; .help lists them\n")?,
+    };
+    tell(errors, text.as_str());
+    Ok(())
+}
+
+/// Tells that there is no such relation, and which one was likely meant.
+fn tell_no_relation<E: Write>(
+    alloc: Global,
+    catalog: &Catalog,
+    asked: &str,
+    errors: &mut E,
+) -> Result<(), AllocError> {
+    let mut names = Vec::new(alloc);
+    for relation in catalog.schema().relations.as_slice() {
+        names.push(relation.name.as_str())?;
+    }
+    let text = match nearest(alloc, asked, names.as_slice())? {
+        Some(name) => format!(in alloc; "no relation {asked}; did you mean {name}?\n")?,
+        None => format!(in alloc; "no relation {asked}; .tables lists them\n")?,
+    };
+    tell(errors, text.as_str());
+    Ok(())
+}
+
+/// Tells what was wrong with a line. Where the standard error is closed nobody can be told; so nothing is claimed of what
+/// stands there.
+pub fn tell<E: Write>(errors: &mut E, text: &str) {
+    let _ = errors.write_all(text.as_bytes());
+}

@@ -1,0 +1,76 @@
+//! How the world of a catalogue is opened.
+
+ghost use Rattle.std.specs.Prelude.{⊤, IfErr, IfOk};
+ghost use Rattle.catalog.specs.FragmentLeaf.{schemas_of};
+ghost use Rattle.catalog.specs.Relation.{catalogue_of};
+ghost use Rattle.meaning.specs.Whole.{FitsSchema};
+ghost use Rattle.store.specs.declared.fault.StoreFault.{StoreFault as StoreFaultNow};
+ghost use Rattle.commands.specs.Schedule.{world_over};
+ghost use Rattle.commands.specs.WorldOpener.{IsOpenedOver, StopsOpening};
+
+use lines::fault::ProgramFault;
+use crate::opener::{InMemory, Lists, unopened};
+use crate::sql_stores::{memory_desk, memory_sites};
+use catalog::catalogue::Catalog;
+use meaning::whole::Whole;
+use sqlite::MemStore;
+use sqlstore::desk::SqlDesk;
+use sqlstore::site::SqlSite;
+use std::alloc::Global;
+use store::desk_store::DeskStore;
+use store::plain_desk::PlainDesk;
+use store::plain_site::PlainSite;
+use store::site_store::SiteStore;
+use world::world::{World, open, open_on};
+
+/// Opens worlds over stores of some kind.
+pub trait OpensWorld<D: DeskStore, S: SiteStore> {
+    /// Why a store may fail as a world is opened.
+    ghost fails_for: { StoreFaultNow → Type 0 };
+
+    /// Opens a world of this catalogue, whose fragments rebuild these whole relations.
+    fn open<'a>(
+        &self,
+        alloc: Global,
+        catalog: &Catalog,
+        whole: &Whole,
+    ) -> Result<World<D, S>, ProgramFault<'a>>
+        requires { FitsSchema (schemas_of (catalogue_of catalog.now)) whole.now }
+        ensures ok { IfOk result (IsOpenedOver (world_over D.is_clean S.is_clean D.is_sound S.is_sound D.kept S.kept D.refused S.refused) (catalogue_of catalog.now) whole.now) }
+        ensures err { IfErr result (StopsOpening fails_for) };
+}
+
+impl OpensWorld<PlainDesk, PlainSite> for Lists {
+    ghost fails_for = { λ why. ⊥ };
+
+    fn open<'a>(
+        &self,
+        alloc: Global,
+        catalog: &Catalog,
+        whole: &Whole,
+    ) -> Result<World<PlainDesk, PlainSite>, ProgramFault<'a>> {
+        // Lists refuse for want of memory alone.
+        match open(alloc, catalog, whole) {
+            Ok(world) => Ok(world),
+            Err(_) => Err(ProgramFault::Memory),
+        }
+    }
+}
+
+impl OpensWorld<SqlDesk<MemStore>, SqlSite<MemStore>> for InMemory {
+    ghost fails_for = { λ why. ⊤ };
+
+    fn open<'a>(
+        &self,
+        alloc: Global,
+        catalog: &Catalog,
+        whole: &Whole,
+    ) -> Result<World<SqlDesk<MemStore>, SqlSite<MemStore>>, ProgramFault<'a>> {
+        let sites = memory_sites(alloc, catalog)?;
+        let desk = memory_desk(alloc)?;
+        match open_on(alloc, catalog, whole, sites, desk) {
+            Ok(world) => Ok(world),
+            Err(fault) => Err(unopened(fault)),
+        }
+    }
+}

@@ -1,5 +1,0 @@
-use Rattle.std.proofs.Common.{length}
-use Rattle.fragdb.proofs.fragment_tree.+put_way.Given as goal
-
-abbrev pub decreases-put_way : goal.decreases-put_way
-decreases-put_way l = length l.way.now

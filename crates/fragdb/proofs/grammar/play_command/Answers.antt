@@ -1,6 +1,0 @@
-use Rattle.fragdb.proofs.grammar.play_command.Goals as goal
-
-pub returns : goal.returns
-returns c =
-    let scripted = c.in_ok-play-2.ensures _ _ (c.in_ok-play.ensures _ _ (c.with_notes-play.ensures _ c.new_command-play.ensures) c.option-catalog.ensures) c.required-script.ensures in
-    c.with_sqlite.ensures _ scripted

@@ -1,6 +1,0 @@
--- Why `take_parts` ends: what stands behind a statement is shorter than the line.
-use Rattle.std.proofs.Common.{length}
-use Rattle.fragdb.proofs.session.+take_parts.Given as goal
-
-abbrev pub decreases-take_parts : goal.decreases-take_parts
-decreases-take_parts g l = length l.line.now

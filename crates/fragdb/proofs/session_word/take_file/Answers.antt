@@ -1,5 +1,0 @@
-use Rattle.fragdb.proofs.SessionLemmas.{talks_none}
-use Rattle.fragdb.proofs.session_word.take_file.Goals as goal
-
-pub returns-then-is_empty-clause-ok : goal.returns-then-is_empty-clause-ok
-returns-then-is_empty-clause-ok g c = talks_none g.B.Database.seen (g.W.Write.contents c.args.output.now) c.args.database.now

@@ -1,7 +1,0 @@
-use Rattle.catalog.specs.Relation.{catalogue_of}
-use Rattle.fragdb.proofs.RunLemmas.{given}
-use Rattle.fragdb.proofs.SqlStoresLemmas.{sql_have}
-use Rattle.fragdb.proofs.store_opener.FolderOpensStoresSqlDeskSqlSite.open.Goals as goal
-
-pub returns-clause-leaves : goal.returns-clause-leaves
-returns-clause-leaves g c = given c.open_files.result c.open_files.ensures.leaves (λ stores have. sql_have _ (catalogue_of c.args.catalog.now) 0 stores.sites.items have)

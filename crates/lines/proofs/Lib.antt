@@ -1,0 +1,12 @@
+pub mod ScriptLemmas
+pub mod UsageLemmas
+pub mod InputLemmas
+pub mod CatalogFileLemmas
+pub mod CheckLemmas
+pub mod PlanLemmas
+pub mod PlayScriptLemmas
+pub mod RunScriptLemmas
+pub mod PlayItemsLemmas
+pub mod PlayTextLemmas
+pub mod PlayLoadLemmas
+pub mod LoadedLemmas

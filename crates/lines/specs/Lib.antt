@@ -1,0 +1,30 @@
+-- What the program keeps, in reading order: a line of a script, a whole script, a catalogue's file, the program.
+pub mod Reply
+pub mod Script
+pub mod Cut
+pub mod PlayScript
+pub mod RunScript
+pub mod PlayItems
+pub mod PlayLoad
+pub mod Cast
+pub mod PlayText
+pub mod CatalogFile
+pub mod Columns
+pub mod SchemaLine
+pub mod Level
+pub mod FragmentTree
+pub mod Check
+pub mod FetchLine
+pub mod PlanLines
+pub mod PlanTree
+pub mod Plan
+pub mod Dot
+pub mod Listing
+pub mod Grammar
+pub mod Usage
+pub mod Request
+pub mod Explaining
+pub mod Outcome
+-- Helpers.
+pub mod Fault
+pub mod Input
