@@ -35,6 +35,7 @@ use world::fault::Fault;
 use world::laws::{language_is_lawful, runs_are_serial};
 use world::machines::Machines;
 use world::rebuild::rebuilt;
+use world::traffic::Traffic;
 
 /// What a site's store kept as its cell was made, and what the site has done since, oldest first.
 #[derive(Drop)]
@@ -146,7 +147,12 @@ impl<D: DeskStore + Drop, S: SiteStore + Drop> Records<D, S> {
             desk,
         } = desk.into_parts();
         let Gathered { sites, pasts } = gather(alloc, sites)?;
-        let machines = Machines { alloc, desk, sites };
+        let machines = Machines {
+            alloc,
+            desk,
+            sites,
+            traffic: Traffic::none(),
+        };
         Ok(Records {
             machines,
             opening,

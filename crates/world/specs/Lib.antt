@@ -23,6 +23,7 @@ pub mod EventApplied
 pub mod Reasons
 pub mod Mailbox
 pub mod Taking
+pub mod Traffic
 pub mod Client
 pub mod Stopping
 pub mod Smoothly

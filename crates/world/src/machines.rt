@@ -29,6 +29,7 @@ use crate::event::{Call, Entry, Event};
 use crate::fault::Fault;
 use crate::log::Log;
 use crate::sites::{SiteAction, act_among};
+use crate::traffic::Traffic;
 use catalog::catalogue::Catalog;
 use desk::desk::Desk;
 use desk::refusal::Refusal;
@@ -51,6 +52,8 @@ pub struct Machines<D: DeskStore, S: SiteStore> {
     pub alloc: Global,
     pub desk: Desk<D>,
     pub sites: Vec<Site<S>>,
+    /// What went over the mailbox of their client.
+    pub traffic: Traffic,
 }
 
 impl<D: DeskStore, S: SiteStore> Machines<D, S> {

@@ -147,8 +147,12 @@ fn deliver_next<D: DeskStore, S: SiteStore>(
     let Some(letter) = post.waiting.pop_front() else {
         return Ok(());
     };
+    machines.traffic = machines.traffic.with_letter();
     match deliver_one(machines, letter) {
-        Ok(out) => post.add(out),
+        Ok(out) => {
+            machines.traffic = machines.traffic.with_step(out.letters.as_slice());
+            post.add(out)
+        }
         Err(refusal) => Err(refusal),
     }
 }
@@ -168,6 +172,7 @@ fn deliver_round<D: DeskStore, S: SiteStore>(
         (λ db before after. OnErr result (Breaks db (λ w. w) (scene before post.old) after)) }
     ensures own { IfErr result (λ refusal. is_stop refusal ≡ true) }
 {
+    machines.traffic = machines.traffic.with_round(post.waiting.len());
     for _ in 0..post.waiting.len() {
         deliver_next(machines, post)?;
     }
@@ -192,5 +197,6 @@ pub(crate) fn deliver_all<D: DeskStore, S: SiteStore>(
     for _ in 0..9usize {
         deliver_round(machines, &mut post)?;
     }
+    machines.traffic = machines.traffic.with_call(post.heard.as_slice());
     Ok(post.heard)
 }

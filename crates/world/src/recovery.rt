@@ -18,6 +18,7 @@ use crate::fault::Fault;
 use crate::machines::Machines;
 use crate::mailbox::deliver_all;
 use crate::rebuild::decided;
+use crate::traffic::Traffic;
 use catalog::catalogue::Catalog;
 use desk::desk::Desk;
 use desk::refusal::Refusal;
@@ -88,7 +89,12 @@ pub(crate) fn machines_up<D: DeskStore + Drop, S: SiteStore + Drop>(
     let sites = sites_up(alloc, catalog, stores)?;
     let own = catalog.copy()?;
     match Desk::start(alloc, own, store) {
-        Ok(desk) => Ok(Machines { alloc, desk, sites }),
+        Ok(desk) => Ok(Machines {
+            alloc,
+            desk,
+            sites,
+            traffic: Traffic::none(),
+        }),
         Err(unstarted) => Err(Fault::Desk(unstarted.refusal)),
     }
 }

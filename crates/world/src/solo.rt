@@ -48,6 +48,7 @@ use crate::machines::Machines;
 use crate::rebuild::{kept_parts, rebuilt};
 use crate::recovery::{ensure_no_commit_row, machines_up, recover, stores_of};
 use crate::start::{start, start_on};
+use crate::traffic::Traffic;
 use crate::transaction::{Outcome, Transaction, Unfinished};
 use catalog::catalogue::Catalog;
 use desk::refusal::Refusal;
@@ -212,6 +213,7 @@ impl<D: DeskStore + Drop, S: SiteStore + Drop> Solo<D, S> {
         let mut machines = machines_up(alloc, catalog, sites, desk)?;
         recover(&mut machines)?;
         ensure_no_commit_row(&mut machines)?;
+        machines.traffic = Traffic::none();
         Ok(Solo {
             machines,
             current: None,
@@ -224,7 +226,12 @@ impl<D: DeskStore + Drop, S: SiteStore + Drop> Solo<D, S> {
     pub fn into_stores(self) -> Result<(Vec<S>, D), Memory>
         ensures { IfOk result (λ stores. (stores.0.items ≡ map (λ site. site.store) self.machines.sites.items) × (stores.1 ≡ self.machines.desk.store)) }
     {
-        let Machines { alloc, desk, sites } = self.machines;
+        let Machines {
+            alloc,
+            desk,
+            sites,
+            ..
+        } = self.machines;
         Ok((stores_of(alloc, sites)?, desk.into_store()))
     }
 }
@@ -428,6 +435,18 @@ impl<D: DeskStore, S: SiteStore> Solo<D, S> {
         ensures { result ≡ is_some self.now.current }
     {
         self.current.is_some()
+    }
+
+    /// What its commands have done and cost since it was opened: how many transactions were committed, and aborted for
+    /// each cause, the letters that came to a machine, the rounds in which they came, and how often a store has kept
+    /// something durably. The stores' calls aren't counted themselves, but the
+    /// letters that tell of them: a vote YES of a prepared row, an Ack of what a committed transaction wrote at a
+    /// site, orders to commit of the commit row, once however many there are. A vote READ or NO, an abort, and what a
+    /// store refuses count for nothing. That these are the counts is tested only.
+    pub fn traffic(&self) -> Traffic
+        ensures { result ≡ self.now.machines.traffic }
+    {
+        self.machines.traffic
     }
 
     /// The parts that are kept of a leaf, by their keys; none of a leaf that the catalogue doesn't have. Nothing

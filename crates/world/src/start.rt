@@ -28,6 +28,7 @@ ghost use Rattle.world.specs.Filling.{filled, kept_with};
 use crate::fault::Fault;
 use crate::machines::Machines;
 use crate::recovery::machines_up;
+use crate::traffic::Traffic;
 use catalog::catalogue::Catalog;
 use catalog::fragment::place;
 use catalog::fragment_leaf::FragmentLeaf;
@@ -106,7 +107,12 @@ pub(crate) fn start(
     let sites = start_sites(alloc, catalog, whole)?;
     let own = catalog.copy()?;
     match Desk::start(alloc, own, PlainDesk::new(alloc)) {
-        Ok(desk) => Ok(Machines { alloc, desk, sites }),
+        Ok(desk) => Ok(Machines {
+            alloc,
+            desk,
+            sites,
+            traffic: Traffic::none(),
+        }),
         Err(unstarted) => Err(Fault::Desk(unstarted.refusal)),
     }
 }

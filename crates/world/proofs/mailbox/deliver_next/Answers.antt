@@ -53,5 +53,21 @@ returns-in_default-clause-leaves g c = record {
   catalog = search rules;
 }
 
+pub returns-in-Ok-clause-leaves : goal.returns-in-Ok-clause-leaves
+returns-in-Ok-clause-leaves g c = record {
+  clean = c.deliver_one.ensures.leaves.clean;
+  sound = c.deliver_one.ensures.leaves.sound;
+  counts = c.deliver_one.ensures.leaves.counts;
+  catalog = c.deliver_one.ensures.leaves.catalog;
+}
+
+pub returns-in-Err-clause-leaves : goal.returns-in-Err-clause-leaves
+returns-in-Err-clause-leaves g c = record {
+  clean = c.deliver_one.ensures.leaves.clean;
+  sound = c.deliver_one.ensures.leaves.sound;
+  counts = c.deliver_one.ensures.leaves.counts;
+  catalog = c.deliver_one.ensures.leaves.catalog;
+}
+
 pub returns-in-Ok-clause-blames : goal.returns-in-Ok-clause-blames
 returns-in-Ok-clause-blames g c = λ clean sound. memory_only c.add.result (counts g.D.DeskStore.refused g.S.SiteStore.refused c.args.machines.now) (counts g.D.DeskStore.refused g.S.SiteStore.refused c.deliver_one.new.machines) c.add.ensures.own

@@ -15,7 +15,7 @@ use Rattle.world.proofs.start.start.Goals as goal
 
 pub returns-in-Ok-clause-opens : goal.returns-in-Ok-clause-opens
 returns-in-Ok-clause-opens c = λ db placed.
-    opens_of db (catalogue_of c.args.catalog.now) c.args.whole.now (held desk_kept kept_of (record { alloc = c.args.alloc; desk = c.in-Ok.desk; sites = c.in_ok-sites.sites })) c.relations-relations.ensures.formed placed c.in_ok-sites.ensures.started
+    opens_of db (catalogue_of c.args.catalog.now) c.args.whole.now (held desk_kept kept_of (record { alloc = c.args.alloc; desk = c.in-Ok.desk; sites = c.in_ok-sites.sites; traffic = c.none.result })) c.relations-relations.ensures.formed placed c.in_ok-sites.ensures.started
     (c.in-Ok.ensures.ok db (record { sites = placed.sites ∙ ap (λ (cat : Catalogue). cat.sites) (sym c.in_ok-own.ensures); distinct = subst AreDistinct (sym placed.sites) c.relations-relations.ensures.formed.distinct }) tt) (λ txn. (c.in-Ok.ensures.life tt).commits txn ∙ c.new.ensures.commits txn)
 
 pub returns-in-Err-clause-err : goal.returns-in-Err-clause-err
