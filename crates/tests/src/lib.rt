@@ -16,6 +16,8 @@ mod outcomes;
 #[cfg(test)]
 mod refusing;
 #[cfg(test)]
+mod schedules;
+#[cfg(test)]
 mod sites;
 #[cfg(test)]
 mod sqldatabases;

@@ -33,7 +33,10 @@ T2: 2 rows
 ";
 
 /// New stores of a catalogue's sites, in its order.
-fn site_stores(alloc: Global, catalog: &Catalog) -> Result<Vec<SqlSite<MemStore>>, Memory> {
+pub(crate) fn site_stores(
+    alloc: Global,
+    catalog: &Catalog,
+) -> Result<Vec<SqlSite<MemStore>>, Memory> {
     let mut stores = Vec::new(alloc);
     for place in 0..catalog.sites().len() {
         match SqlSite::memory(catalog.leaves_at(place)?) {

@@ -201,8 +201,13 @@ fn databases_of_others(rt: HostRuntime) {
 
 const TOO_GREAT: u64 = 9223372036854775808;
 
-fn is_refused<T>(answer: &Result<T, StoreFault>) -> bool {
-    matches!(answer, Err(StoreFault::Refused))
+/// Whether a store refused a call; its want of memory is passed on.
+fn is_refused<T>(answer: &Result<T, StoreFault>) -> Result<bool, StoreFault> {
+    match answer {
+        Err(StoreFault::Memory) => Err(StoreFault::Memory),
+        Err(fault) => Ok(*fault == StoreFault::Refused),
+        Ok(_) => Ok(false),
+    }
 }
 
 /// Whether a store refuses what its tables can't hold, counts that, and keeps what it kept.
@@ -221,13 +226,13 @@ fn refuses(alloc: Global) -> Result<bool, StoreFault> {
         number: TOO_GREAT,
     };
     desk.keep_commit(txn, &north, 1)?;
-    let refused = is_refused(&desk.keep_commit(late, &north, 1))
-        && is_refused(&desk.keep_commit(Txn { life: 1, number: 2 }, &great, 1))
-        && is_refused(&desk.keep_commit(Txn { life: 1, number: 2 }, &twice, 2))
-        && is_refused(&desk.keep_commit(txn, &north, 2))
-        && is_refused(&desk.keep_commit(Txn { life: 1, number: 2 }, &north, TOO_GREAT))
-        && is_refused(&desk.drop_commit(late))
-        && is_refused(&desk.next_incarnation());
+    let refused = is_refused(&desk.keep_commit(late, &north, 1))?
+        && is_refused(&desk.keep_commit(Txn { life: 1, number: 2 }, &great, 1))?
+        && is_refused(&desk.keep_commit(Txn { life: 1, number: 2 }, &twice, 2))?
+        && is_refused(&desk.keep_commit(txn, &north, 2))?
+        && is_refused(&desk.keep_commit(Txn { life: 1, number: 2 }, &north, TOO_GREAT))?
+        && is_refused(&desk.drop_commit(late))?
+        && is_refused(&desk.next_incarnation())?;
     let mut told = String::new(alloc);
     put_load(&mut told, &mut desk)?;
     let kept = told.as_str() == "life 9223372036854775807 version 1: T1.1 north 1.1\n";

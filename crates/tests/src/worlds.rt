@@ -22,7 +22,7 @@ use world::solo::{Solo, open as open_client};
 use world::world::{World, open};
 
 /// Whole relations as these statements leave them.
-fn loaded(alloc: Global, catalog: &Catalog, script: &str) -> Result<Whole, Memory> {
+pub(crate) fn loaded(alloc: Global, catalog: &Catalog, script: &str) -> Result<Whole, Memory> {
     let mut whole = empty(alloc, catalog.schema())?;
     for statement in script.lines() {
         let _answer = line(alloc, catalog.schema(), &mut whole, statement, false)?;
@@ -64,7 +64,7 @@ fn events(alloc: Global, steps: &[Step]) -> Result<Vec<Event>, Memory> {
 }
 
 /// A world over these relations.
-fn opened(alloc: Global, load: &str) -> Result<World<PlainDesk, PlainSite>, Memory> {
+pub(crate) fn opened(alloc: Global, load: &str) -> Result<World<PlainDesk, PlainSite>, Memory> {
     let catalog = catalog(alloc, EMP_AND_DEPT)?;
     let whole = loaded(alloc, &catalog, load)?;
     match open(alloc, &catalog, &whole) {
