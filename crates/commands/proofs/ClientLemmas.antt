@@ -26,11 +26,11 @@ use Rattle.shell.specs.Mode.{line_in}
 use Rattle.lines.specs.declared.reply.Reply as replies
 use Rattle.lines.specs.PlayText.{refused_text}
 use Rattle.lines.specs.Reply.{Answered, Refused, Told, told_by}
-use Rattle.commands.specs.Client.{AnswersTask, GoesOn, IsAnswered, IsDone, Seen, ShowsLeafAs, Standing, StandsStill, heard_text, standing_of}
+use Rattle.commands.specs.Client.{AnswersTask, GoesOn, IsAnswered, IsDone, Seen, CountsLeafAs, ShowsLeafAs, Standing, StandsStill, heard_text, standing_of}
 use Rattle.std.specs.Io.KnownBytes.{Appends}
 use Rattle.lines.specs.declared.fault.ProgramFault.{ProgramFault}
 use Rattle.commands.specs.Origin.{Begins, Origin}
-use Rattle.lines.specs.Script.{DumpsRelation, Nothing, Reading, Runs, ShowsLeaf, ShowsRelation, Unreadable}
+use Rattle.lines.specs.Script.{CountsLeaf, DumpsRelation, Nothing, Reading, Runs, ShowsLeaf, ShowsRelation, Unreadable}
 use Rattle.commands.specs.Shown.{written_leaf}
 use Rattle.commands.specs.Solo.{AnswersTasks, IsRun, IsStretch, Stretches, said_by, said_by_tasks}
 
@@ -161,6 +161,10 @@ leaf_still : (mode : Mode) (catalogue : Catalogue) (name : List ℕ) (leaf : Opt
 leaf_still mode catalogue name None old new told shows = shows.0
 leaf_still mode catalogue name (Some leaf) old new told shows = shows.0
 
+count_still : (mode : Mode) (catalogue : Catalogue) (name : List ℕ) (leaf : Option Leaf) (old new : Standing catalogue) (told : List ℕ) → CountsLeafAs mode catalogue name leaf old new told → StandsStill old new
+count_still mode catalogue name None old new told counts = counts.0
+count_still mode catalogue name (Some leaf) old new told counts = counts.0
+
 -- what a command and tasks asked for and heard tells what has happened
 done_told : (catalogue : Catalogue) (law : MovesFollow (database catalogue)) (text : List ℕ) (old new : Standing catalogue) (reply : Result (List Notice) Refusal) (entries : List Entry) → Tells (database catalogue) entries old.past → (does : IsDone catalogue text old new reply) → Tells (database catalogue) (entries ++ said_in does.moves) new.past
 done_told catalogue law text old new reply entries so does = subst (Tells (database catalogue) (entries ++ said_in does.moves)) (sym does.happened) (law.tells does.moves old.machines new.machines entries old.past so does.made)
@@ -176,6 +180,8 @@ task_told mode catalogue law (ShowsLeaf name) old new (Answered told) entries so
 task_told mode catalogue law (ShowsLeaf name) old new (Refused told) entries so answers = absurd answers
 task_told mode catalogue law (DumpsRelation name) old new (Answered told) entries so answers = still_told catalogue old new entries so answers.0.past
 task_told mode catalogue law (DumpsRelation name) old new (Refused told) entries so answers = absurd answers
+task_told mode catalogue law (CountsLeaf name) old new (Answered told) entries so answers = still_told catalogue old new entries so (count_still mode catalogue name (written_leaf name (catalogue_leaves catalogue)) old new told answers).past
+task_told mode catalogue law (CountsLeaf name) old new (Refused told) entries so answers = absurd answers
 task_told mode catalogue law Unreadable old new told entries so answers = absurd answers
 
 tasks_told : (mode : Mode) (catalogue : Catalogue) (law : MovesFollow (database catalogue)) (answers : List (Reading × Told)) (old new : Standing catalogue) (entries : List Entry) → Tells (database catalogue) entries old.past → (answered : AnswersTasks mode catalogue answers old new) →

@@ -1,5 +1,5 @@
 -- Lemmas on rows that are inserted: what tasks are answered by, one after another.
-use Rattle.std.proofs.Common.{◌≡◌, ◌≢◌, ◌==◌, ◌%◌, ◌++◌, ◌∷◌, [], ◌+◌, Bool, true, false, arith, ap, get_or, take, ◌<◌, append_assoc, append-nil, length, map, refl, sym, subst, suc, zero, ◌∙◌, ℕ, List, Option, None, Some, Result, Ok, Err, IfOk}
+use Rattle.std.proofs.Common.{◌≡◌, ◌≢◌, ◌==◌, ◌%◌, ◌++◌, ◌∷◌, [], ◌+◌, Bool, true, false, arith, ap, get_or, take, ◌<◌, append_assoc, append-nil, length, map, refl, sym, subst, suc, zero, ◌∙◌, ℕ, List, Option, None, Some, Result, Ok, Err, IfOk, IfSome, OnOk}
 use Rattle.std.specs.List.{flat_map, list_any}
 use Rattle.std.proofs.lemmas.List.{take_more}
 use Rattle.std.proofs.lemmas.Grind.{common_steps}
@@ -13,9 +13,11 @@ use Rattle.shell.specs.declared.mode.Mode.TheVariants.{Tabs}
 use Rattle.lines.specs.declared.fault.ProgramFault.{ProgramFault}
 use Rattle.lines.specs.declared.reply.Reply.{Reply}
 use Rattle.commands.specs.Client.{GoesOn, IsAnswered, Seen, Serves, Standing, standing_of}
-use Rattle.commands.specs.Import.{Comes, HasCome, before_row, begins, commits, import_of, inserts_from, opening, row_says}
+use Rattle.commands.specs.declared.import.Imported.{Imported}
+use Rattle.commands.specs.declared.import.Imported.TheVariants.{All, Until}
+use Rattle.commands.specs.Import.{Comes, HasCome, IsCutShort, RollsBack, StopsAt, before_row, begins, commits, import_of, inserts_from, last_commit, opening, row_says}
 use Rattle.lines.specs.Reply.{Answered, Told, is_refusal, text_of, told_by}
-use Rattle.lines.specs.Script.{Reading}
+use Rattle.lines.specs.Script.{Reading, Runs}
 use Rattle.commands.specs.Solo.{AnswersTasks, IsStretch}
 
 -- some tasks, and then others
@@ -91,3 +93,107 @@ opening_first number none = rw (none) refl
 
 pub opening_next : (number : ℕ) → (number == 0) ≡ false → commits ∷ begins ∷ [] ≡ opening number
 opening_next number some = rw (some) refl
+
+-- a task that is answered by this reply
+pub comes_so : {B : Type 0} (seen : Seen B) (task : Reading) (old new : B) (told : Told) → (seen.is_clean new → seen.is_clean old) →
+    ((catalogue : Catalogue) (whole : Relations) (past : List (Deed (language (database catalogue)))) → seen.is_clean new → GoesOn seen catalogue whole past old → IsAnswered seen Tabs catalogue whole task past old new told) → Comes seen ((task, told) ∷ []) old new
+comes_so seen task old new told was_clean answers = record {
+  clean = was_clean;
+  come = λ catalogue whole past clean h.
+      let so = answers catalogue whole past clean h in
+      record { later = so.later; goes_on = so.goes_on; answered = (standing_of seen catalogue new so.later, so.answers, refl) };
+}
+
+-- one command is answered otherwise than is wanted
+pub stops_once : {B : Type 0} (seen : Seen B) (command wanted : List ℕ) (old new : B) (told : Told) → Comes seen ((Runs command, told) ∷ []) old new → told ≢ Answered wanted → StopsAt seen ((Runs command, Answered wanted) ∷ []) old new told
+stops_once seen command wanted old new told come other = record { made = []; command = command; answer = wanted; rest = []; place = refl; other = other; come = come }
+
+-- so it is where more was wanted behind it
+pub stops_before : {B : Type 0} (seen : Seen B) (first others : List (Reading × Told)) (old new : B) (told : Told) → StopsAt seen first old new told → StopsAt seen (first ++ others) old new told
+stops_before seen first others old new told stops = record {
+  made = stops.made;
+  command = stops.command;
+  answer = stops.answer;
+  rest = stops.rest ++ others;
+  place = ap (λ (all : List (Reading × Told)). all ++ others) stops.place ∙ append_assoc stops.made ((Runs stops.command, Answered stops.answer) ∷ stops.rest) others;
+  other = stops.other;
+  come = stops.come;
+}
+
+-- and where something came before it
+pub stops_behind : {B : Type 0} (seen : Seen B) (first others : List (Reading × Told)) (old middle new : B) (told : Told) → Comes seen first old middle → StopsAt seen others middle new told → StopsAt seen (first ++ others) old new told
+stops_behind seen first others old middle new told came stops =
+    let last : List (Reading × Told) = (Runs stops.command, told) ∷ [] in
+    record {
+      made = first ++ stops.made;
+      command = stops.command;
+      answer = stops.answer;
+      rest = stops.rest;
+      place = ap (λ (all : List (Reading × Told)). first ++ all) stops.place ∙ sym (append_assoc first stops.made ((Runs stops.command, Answered stops.answer) ∷ stops.rest));
+      other = stops.other;
+      come = subst (λ (tasks : List (Reading × Told)). Comes seen tasks old new) (sym (append_assoc first stops.made last)) (comes_then seen first (stops.made ++ last) old middle new came stops.come);
+    }
+
+-- what is wanted of all rows: of those up to a place, of the one there, and of the others
+inserts_at : (many : ℕ) (name : List ℕ) (from : ℕ) (rows : List (List Value)) (number : ℕ) (row : List Value) → number < length rows → row ≡ get_or rows number row → (others : List (Reading × Told)) × (inserts_from many name from rows ≡ inserts_from many name from (take number rows) ++ (row_says many name (from + number) row ++ others))
+inserts_at many name from [] number row within is = absurd (omega arith)
+inserts_at many name from (first ∷ rows) zero row within is =
+    let others = inserts_from many name (from + 1) rows in
+    let at : from ≡ from + zero = omega arith in
+    (others, ap (λ (r : List Value). row_says many name from r ++ others) (sym is) ∙ ap (λ (n : ℕ). row_says many name n row ++ others) at)
+inserts_at many name from (first ∷ rows) (suc number) row within is =
+    let rest = inserts_at many name (from + 1) rows number row (omega arith) is in
+    let says = row_says many name from first in
+    let at : from + 1 + number ≡ from + suc number = omega arith in (
+      rest.0,
+      ap (λ (all : List (Reading × Told)). says ++ all) (rest.1 ∙ ap (λ (n : ℕ). inserts_from many name (from + 1) (take number rows) ++ (row_says many name n row ++ rest.0)) at)
+          ∙ sym (append_assoc says (inserts_from many name (from + 1) (take number rows)) (row_says many name (from + suc number) row ++ rest.0)),
+    )
+
+-- an import that stops at a row's own tasks
+pub stops_at_row : {B : Type 0} (seen : Seen B) (many : ℕ) (name : List ℕ) (rows : List (List Value)) (number : ℕ) (row : List Value) (old middle new : B) (told : Told) → number < length rows → row ≡ get_or rows number row →
+    Comes seen (inserts_from many name 0 (take number rows)) old middle → StopsAt seen (row_says many name number row) middle new told → StopsAt seen (import_of many name rows) old new told
+stops_at_row seen many name rows number row old middle new told within is came stops =
+    let earlier = inserts_from many name 0 (take number rows) in
+    let split = inserts_at many name 0 rows number row within is in
+    let at : 0 + number ≡ number = omega arith in
+    let others = split.0 ++ last_commit rows in
+    let all : inserts_from many name 0 rows ++ last_commit rows ≡ earlier ++ (row_says many name number row ++ others) =
+    ap (λ (some : List (Reading × Told)). some ++ last_commit rows) (split.1 ∙ ap (λ (n : ℕ). earlier ++ (row_says many name n row ++ split.0)) at)
+    ∙ append_assoc earlier (row_says many name number row ++ split.0) (last_commit rows)
+    ∙ ap (λ (some : List (Reading × Told)). earlier ++ some) (append_assoc (row_says many name number row) split.0 (last_commit rows)) in
+    subst (λ (tasks : List (Reading × Told)). StopsAt seen tasks old new told) (sym all)
+    (stops_behind seen earlier (row_says many name number row ++ others) old middle new told came (stops_before seen (row_says many name number row) others middle new told stops))
+
+-- what came of an import is what came of some tasks
+pub cut_comes : {B : Type 0} (seen : Seen B) (wanted : List (Reading × Told)) (old new : B) (told : Told) → IsCutShort seen wanted old new told → (answers : List (Reading × Told)) × Comes seen answers old new
+cut_comes seen wanted old new told cut =
+    let last = cut.stops.made ++ ((Runs cut.stops.command, told) ∷ []) in
+    (last ++ cut.ends.0, comes_then seen last cut.ends.0 old cut.middle new cut.stops.come cut.ends.2)
+
+-- what is known of a reply is known of it, where there is one
+pub on_reply : {T E : Type 0} {P Q : T → Type 0} (result : Result (Option T) E) → ((x : T) → P x → Q x) → IfOk result (λ told. IfSome told P) → IfOk result (λ told. IfSome told Q)
+on_reply (Ok (Some x)) follows h = follows x h
+on_reply (Ok None) follows h = tt
+on_reply (Err e) follows h = tt
+
+abbrev is_ok : {T E : Type 0} → Result T E → Type 0
+is_ok (Ok x) = Unit
+is_ok (Err e) = ⊥
+
+err_not_ok : {T E : Type 0} (e : E) (x : T) → Err e ≡ Ok x → ⊥
+err_not_ok e x same = subst is_ok (sym same) tt
+
+-- what a reply tells in place of which an import ended
+abbrev told_of : Result Imported ProgramFault → Told
+told_of (Ok (Until row committed reply)) = told_by reply
+told_of (Ok All) = Answered []
+told_of (Err fault) = Answered []
+
+-- where what is wanted stops, and what is open is rolled back, the import is cut short there
+pub cut_short : {B : Type 0} (seen : Seen B) (wanted : List (Reading × Told)) (old middle new : B) (result : Result Imported ProgramFault) (row committed at so_far : ℕ) (reply given : Reply) → result ≡ Ok (Until row committed reply) → IfOk result (λ made. made ≡ Until at so_far given) →
+    StopsAt seen wanted old middle (told_by given) → OnOk result (RollsBack seen middle new) → IsCutShort seen wanted old new (told_by reply)
+cut_short seen wanted old middle new (Ok made) row committed at so_far reply given is made_so stops rest =
+    let same : told_by given ≡ told_by reply = sym (ap (λ (m : Imported). told_of (Ok m)) made_so) ∙ ap told_of is in
+    subst (IsCutShort seen wanted old new) same (record { middle = middle; stops = stops; ends = rest })
+cut_short seen wanted old middle new (Err fault) row committed at so_far reply given is made_so stops rest = absurd (err_not_ok fault (Until row committed reply) is)

@@ -14,3 +14,4 @@ pub mod ConversationLemmas
 pub mod RunLemmas
 pub mod RunRecordsLemmas
 pub mod RunTextLemmas
+pub mod ImportTalks

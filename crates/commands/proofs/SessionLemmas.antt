@@ -30,7 +30,7 @@ then_others catalogue [] others old middle new same rest = subst (λ (s : Standi
 then_others catalogue (one ∷ first) others old middle new done rest = (done.0, done.1, then_others catalogue first others done.0 middle new done.2 rest)
 
 -- nothing is written
-Appends-none : (known : Option (List ℕ)) → Appends known known []
+pub Appends-none : (known : Option (List ℕ)) → Appends known known []
 Appends-none None = tt
 Appends-none (Some bytes) = sym (append-nil bytes)
 

@@ -33,8 +33,8 @@ use Rattle.lines.specs.declared.fault.ProgramFault.{ProgramFault}
 use Rattle.lines.specs.declared.fault.ProgramFault.TheVariants.{Memory, Store}
 use Rattle.lines.specs.PlayText.{refused_text, reply_text}
 use Rattle.lines.specs.Reply.{Answered, Refused, Told}
-use Rattle.lines.specs.Script.{DumpsRelation as To_dump_relation, Nothing, Reading, Runs, ShowsLeaf as To_show_leaf, ShowsRelation as To_show_relation, Unreadable}
-use Rattle.commands.specs.Shown.{dumped_text, no_leaf_text, parts_text, relation_text, written_leaf}
+use Rattle.lines.specs.Script.{CountsLeaf as To_count_leaf, DumpsRelation as To_dump_relation, Nothing, Reading, Runs, ShowsLeaf as To_show_leaf, ShowsRelation as To_show_relation, Unreadable}
+use Rattle.commands.specs.Shown.{counted_text, dumped_text, no_leaf_text, parts_text, relation_text, written_leaf}
 
 -- how a database for one client is seen: whether its stores gave back what was written, and keep it as stores leave it; its machines, with how often the medium of each
 -- store has refused; the transaction that the client has begun; what has stopped it; and its catalogue
@@ -143,6 +143,17 @@ ShowsLeafAs mode catalogue name (Some leaf) before after told = ShowsPartsOf mod
 abbrev pub ShowsLeaf : (mode : Mode) (catalogue : Catalogue) → List ℕ → Standing catalogue → Standing catalogue → List ℕ → Type 0
 ShowsLeaf mode catalogue name before after told = ShowsLeafAs mode catalogue name (written_leaf name (catalogue_leaves catalogue)) before after told
 
+-- a leaf is told, with how many parts its site keeps; name: how it was asked for
+abbrev pub CountsPartsOf : (mode : Mode) (catalogue : Catalogue) → List ℕ → Leaf → Standing catalogue → Standing catalogue → List ℕ → Type 0
+CountsPartsOf mode catalogue name leaf before after told = StandsStill before after × (told ≡ counted_text mode catalogue name leaf (parts_kept (database catalogue) before.machines leaf))
+
+abbrev pub CountsLeafAs : (mode : Mode) (catalogue : Catalogue) → List ℕ → Option Leaf → Standing catalogue → Standing catalogue → List ℕ → Type 0
+CountsLeafAs mode catalogue name None before after told = StandsStill before after × (told ≡ no_leaf_text mode name)
+CountsLeafAs mode catalogue name (Some leaf) before after told = CountsPartsOf mode catalogue name leaf before after told
+
+abbrev pub CountsLeaf : (mode : Mode) (catalogue : Catalogue) → List ℕ → Standing catalogue → Standing catalogue → List ℕ → Type 0
+CountsLeaf mode catalogue name before after told = CountsLeafAs mode catalogue name (written_leaf name (catalogue_leaves catalogue)) before after told
+
 -- what a task is answered by, and where the client stands before it and after it
 abbrev pub AnswersTask : (mode : Mode) (catalogue : Catalogue) → Reading → Standing catalogue → Standing catalogue → Told → Type 0
 AnswersTask mode catalogue Nothing before after told = ⊥
@@ -153,6 +164,8 @@ AnswersTask mode catalogue (To_show_leaf name) before after (Answered told) = Sh
 AnswersTask mode catalogue (To_show_leaf name) before after (Refused told) = ⊥
 AnswersTask mode catalogue (To_dump_relation name) before after (Answered told) = DumpsRelation mode catalogue name before after told
 AnswersTask mode catalogue (To_dump_relation name) before after (Refused told) = ⊥
+AnswersTask mode catalogue (To_count_leaf name) before after (Answered told) = CountsLeaf mode catalogue name before after told
+AnswersTask mode catalogue (To_count_leaf name) before after (Refused told) = ⊥
 AnswersTask mode catalogue Unreadable before after told = ⊥
 
 -- a task is answered, and the database goes on from what has happened by then
@@ -170,6 +183,13 @@ IsOfClient fault = (fault ≡ Memory) ⊎ ((why : StoreFault) × (fault ≡ Stor
 pub record Serves {B T : Type 0} (seen : Seen B) (mode : Mode) (task : Reading) (told_of : T → Told) (old new : B) (result : Result T ProgramFault) : Type 0 where
   pub clean : seen.is_clean new → seen.is_clean old
   pub answers : (catalogue : Catalogue) (whole : Relations) (past : List (Deed (language (database catalogue)))) → seen.is_clean new → GoesOn seen catalogue whole past old → IfOk result (λ given. IsAnswered seen mode catalogue whole task past old new (told_of given))
+  pub err : IfErr result IsOfClient
+
+-- a leaf is told with how many parts it keeps, and the database goes on; name: how it was asked for, bytes_of: what is told by what a call gives
+pub record CountsParts {B T : Type 0} (seen : Seen B) (mode : Mode) (name : List ℕ) (leaf : Leaf) (bytes_of : T → List ℕ) (old new : B) (result : Result T ProgramFault) : Type 0 where
+  pub clean : seen.is_clean new → seen.is_clean old
+  pub counted : (catalogue : Catalogue) (whole : Relations) (past : List (Deed (language (database catalogue)))) → seen.is_clean new → GoesOn seen catalogue whole past old →
+      IfOk result (λ given. GoesOn seen catalogue whole past new × CountsPartsOf mode catalogue name leaf (standing_of seen catalogue old past) (standing_of seen catalogue new past) (bytes_of given))
   pub err : IfErr result IsOfClient
 
 -- a leaf is shown, and the database goes on; name: how it was asked for, bytes_of: what is told by what a call gives

@@ -1,5 +1,5 @@
 -- What inserts the rows of a file, transaction by transaction.
-use Rattle.std.specs.Prelude.{ℕ, ◌+◌, ◌%◌, ◌==◌, if◌then◌else◌, List, [], ◌∷◌, ◌++◌, codes, length}
+use Rattle.std.specs.Prelude.{◌≡◌, ◌≢◌, ℕ, ◌+◌, ◌%◌, ◌==◌, Bool, true, false, if◌then◌else◌, List, [], ◌∷◌, ◌++◌, codes, is_some, length}
 use Rattle.terms.specs.declared.value.Value.{Value}
 use Rattle.meaning.specs.Whole.{Relations}
 use Rattle.catalog.specs.Catalogue.{Catalogue}
@@ -64,3 +64,28 @@ pub record HasCome {B : Type 0} (seen : Seen B) (catalogue : Catalogue) (whole :
 pub record Comes {B : Type 0} (seen : Seen B) (answers : List (Reading × Told)) (old new : B) : Type 0 where
   pub clean : seen.is_clean new → seen.is_clean old
   pub come : (catalogue : Catalogue) (whole : Relations) (past : List (Deed (language (database catalogue)))) → seen.is_clean new → GoesOn seen catalogue whole past old → HasCome seen catalogue whole answers past old new
+
+-- What was wanted came up to one command, which was answered otherwise. made: what came before it
+pub record StopsAt {B : Type 0} (seen : Seen B) (wanted : List (Reading × Told)) (old new : B) (reply : Told) : Type 0 where
+  pub made : List (Reading × Told)
+  pub command : List ℕ
+  pub answer : List ℕ
+  pub rest : List (Reading × Told)
+  pub place : wanted ≡ made ++ ((Runs command, Answered answer) ∷ rest)
+  pub other : reply ≢ Answered answer
+  pub come : Comes seen (made ++ ((Runs command, reply) ∷ [])) old new
+
+-- a transaction that is open is rolled back; without one nothing comes
+abbrev pub IsRolledBack : Bool → List (Reading × Told) → Type 0
+IsRolledBack true answers = (told : Told) × (answers ≡ (Runs (codes "ROLLBACK"), told) ∷ [])
+IsRolledBack false answers = answers ≡ []
+
+-- what is open is rolled back
+abbrev pub RollsBack : {B : Type 0} → Seen B → B → B → Type 0
+RollsBack seen old new = (ending : List (Reading × Told)) × IsRolledBack (is_some (seen.current old)) ending × Comes seen ending old new
+
+-- So it ended: what was wanted came up to one command, and then what was open was rolled back. What was committed before, in whole transactions, stays.
+pub record IsCutShort {B : Type 0} (seen : Seen B) (wanted : List (Reading × Told)) (old new : B) (reply : Told) : Type 0 where
+  pub middle : B
+  pub stops : StopsAt seen wanted old middle reply
+  pub ends : RollsBack seen middle new

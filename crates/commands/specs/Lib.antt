@@ -8,10 +8,12 @@ pub mod Origin
 pub mod SqlStores
 pub mod Solo
 pub mod Play
-pub mod Session
-pub mod Dump
 pub mod Import
 pub mod ImportFile
+pub mod Leaves
+pub mod Stats
+pub mod Session
+pub mod Dump
 pub mod SuggestFile
 pub mod ScriptFile
 pub mod RunText
@@ -19,4 +21,5 @@ pub mod Conversation
 pub mod Conversations
 pub mod Run
 pub mod Perform
+
 -- Helpers.

@@ -18,7 +18,11 @@ use Rattle.lines.specs.declared.fault.ProgramFault.{ProgramFault}
 use Rattle.lines.specs.CatalogFile.{IsCatalogueFile, RefusesFile}
 use Rattle.commands.specs.Client.{AnswersTask, GoesOn, Seen, Standing, standing_of}
 use Rattle.lines.specs.Input.{IsOfInput}
-use Rattle.lines.specs.Listing.{leaves_text, schema_text, tables_text}
+use Rattle.lines.specs.Listing.{schema_text, tables_text}
+use Rattle.commands.specs.declared.stats.Stats.{Stats}
+use Rattle.commands.specs.ImportFile.{imported_text}
+use Rattle.commands.specs.Stats.{stats_text}
+use Rattle.world.specs.declared.traffic.Traffic.{Traffic}
 use Rattle.commands.specs.Origin.{BeginsWith, Origin}
 use Rattle.lines.specs.Plan.{IsPlanOf}
 use Rattle.lines.specs.Reply.{Told, text_of}
@@ -40,12 +44,15 @@ help_text =
     ++ codes ".help               this text\n"
     ++ codes ".tables             the relations\n"
     ++ codes ".schema [RELATION]  their columns\n"
-    ++ codes ".leaves [RELATION]  their fragments, with sites, columns and conditions\n"
+    ++ codes ".leaves [RELATION]  their fragments, with sites, columns, conditions and rows\n"
     ++ codes ".show RELATION      the rows of a relation, rebuilt\n"
     ++ codes ".leaf LEAF          the rows of a fragment\n"
     ++ codes ".plan STATEMENT     which fragments a statement reads; EXPLAIN tells it too\n"
     ++ codes ".dump [RELATION]    statements that make the rows of relations anew\n"
     ++ codes ".read FILE          answers the lines of a script\n"
+    ++ codes ".import FILE RELATION [ROWS]\n"
+    ++ codes "                    inserts the rows of a CSV file, so many in a transaction\n"
+    ++ codes ".stats              what this session has done, and what that cost\n"
     ++ codes ".timer on|off       tells how long each answer takes\n"
     ++ codes ".mode MODE          shows answers in tabs, columns, csv or json\n"
     ++ codes ".quit               the end, as Ctrl-D\n"
@@ -58,7 +65,8 @@ pub data Aside (catalogue : Catalogue) : Type 0 where
   Help : Aside catalogue
   Tables : Aside catalogue
   Schema : (asked : List ℕ) → Aside catalogue
-  Leaves : (asked : List ℕ) → Aside catalogue
+  Imported : (count : ℕ) → Aside catalogue
+  Cost : (stats : Stats) (traffic : Traffic) → Aside catalogue
   Plan : (typed text : List ℕ) (of_typed : IsPlanOf catalogue typed text) → Aside catalogue
   LineEnd : Aside catalogue
 
@@ -68,7 +76,8 @@ aside_text catalogue (Prompt is_more is_open) = prompt_text is_more is_open
 aside_text catalogue Help = help_text
 aside_text catalogue Tables = tables_text catalogue
 aside_text catalogue (Schema asked) = schema_text catalogue asked
-aside_text catalogue (Leaves asked) = leaves_text catalogue asked
+aside_text catalogue (Imported count) = imported_text count
+aside_text catalogue (Cost stats traffic) = stats_text stats traffic
 aside_text catalogue (Plan typed text of_typed) = text
 aside_text catalogue LineEnd = 10 ∷ []
 
@@ -82,17 +91,20 @@ pub record Exchange : Type 0 where
   pub task : Reading
   pub told : Told
 
--- a piece of what is written: an answer, or something else
+-- a piece of what is written: an answer, or something else; or nothing, by a command that the session itself asks for, as an import does
 pub data Piece (catalogue : Catalogue) : Type 0 where
   Answer : (exchange : Exchange) → Piece catalogue
+  Hushed : (exchange : Exchange) → Piece catalogue
   Beside : (aside : Aside catalogue) → Piece catalogue
 
 abbrev pub piece_text : (catalogue : Catalogue) → Piece catalogue → List ℕ
 piece_text catalogue (Answer exchange) = text_of exchange.told
+piece_text catalogue (Hushed exchange) = []
 piece_text catalogue (Beside aside) = aside_text catalogue aside
 
 abbrev pub exchange_in : (catalogue : Catalogue) → Piece catalogue → List Exchange
 exchange_in catalogue (Answer exchange) = exchange ∷ []
+exchange_in catalogue (Hushed exchange) = exchange ∷ []
 exchange_in catalogue (Beside aside) = []
 
 abbrev pub exchanges_in : (catalogue : Catalogue) → List (Piece catalogue) → List Exchange

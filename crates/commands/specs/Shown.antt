@@ -1,5 +1,6 @@
 -- What is shown of a schedule: relations, leaves and committed transactions.
-use Rattle.std.specs.Prelude.{◌≡◌, ◌⊎◌, ℕ, true, List, [], ◌∷◌, ◌++◌, IfOk, Option, Some, None, Result, if◌then◌else◌, bytes_eq, codes}
+use Rattle.std.specs.Prelude.{◌≡◌, ◌⊎◌, ◌==◌, ℕ, true, List, [], ◌∷◌, ◌++◌, IfOk, Option, Some, None, Result, if◌then◌else◌, bytes_eq, codes, length}
+use Rattle.std.specs.Fmt.{decimal}
 use Rattle.std.specs.List.{flat_map}
 use Rattle.terms.specs.declared.leaf.Leaf.{Leaf}
 use Rattle.terms.specs.declared.value.Value.{Value}
@@ -23,7 +24,7 @@ use Rattle.world.specs.Settled.{ShowsSerial, parts_kept}
 use Rattle.shell.specs.declared.mode.Mode.{Mode}
 use Rattle.shell.specs.declared.mode.Mode.TheVariants.{Tabs}
 use Rattle.shell.specs.Mode.{answer_in, line_in}
-use Rattle.lines.specs.Check.{columns_of, names_of_columns}
+use Rattle.lines.specs.Check.{columns_of, leaf_told, names_of_columns}
 use Rattle.lines.specs.PlayText.{Naming, leaf_columns}
 use Rattle.commands.specs.Schedule.{HasRun, IsReached, SeenWorld, refusal_text}
 
@@ -59,6 +60,20 @@ no_leaf_text mode name = line_in mode (codes "no leaf " ++ name)
 abbrev pub parts_text : Mode → Catalogue → List ℕ → Leaf → Option (List (List Value)) → List ℕ
 parts_text mode catalogue name leaf None = no_leaf_text mode name
 parts_text mode catalogue name leaf (Some parts) = rows_text mode (leaf_columns catalogue (leaf_named leaf (catalogue_leaves catalogue))) parts
+
+-- a leaf in a line, with how many rows it has
+abbrev pub counted_line : Catalogue → FragmentLeaf → ℕ → List ℕ
+counted_line catalogue leaf count =
+    leaf_told catalogue.sites (schemas_of catalogue) leaf ++ codes ": " ++ decimal count ++ (if count == 1 then codes " row\n" else codes " rows\n")
+
+abbrev pub counted_in : Mode → Catalogue → List ℕ → Option FragmentLeaf → ℕ → List ℕ
+counted_in mode catalogue name None count = no_leaf_text mode name
+counted_in mode catalogue name (Some leaf) count = counted_line catalogue leaf count
+
+-- so with the parts that are kept of it, if there is one
+abbrev pub counted_text : Mode → Catalogue → List ℕ → Leaf → Option (List (List Value)) → List ℕ
+counted_text mode catalogue name leaf None = no_leaf_text mode name
+counted_text mode catalogue name leaf (Some parts) = counted_in mode catalogue name (leaf_named leaf (catalogue_leaves catalogue)) (length parts)
 
 -- the first of some leaves whose name is written so
 abbrev pub written_leaf : List ℕ → List FragmentLeaf → Option Leaf

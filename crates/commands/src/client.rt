@@ -4,18 +4,20 @@ ghost use Rattle.std.specs.Prelude.{◌≡◌, ◌++◌, false, IfErr, IfOk, OnO
 ghost use Rattle.world.specs.Stopping.{is_stop};
 ghost use Rattle.shell.specs.Mode.{line_in};
 ghost use Rattle.commands.specs.Client as client;
-ghost use Rattle.commands.specs.Client.{IsOfClient, Serves, ShowsParts, seen_over};
+ghost use Rattle.commands.specs.Client.{CountsParts, IsOfClient, Serves, ShowsParts, seen_over};
 ghost use Rattle.lines.specs.PlayText as spec;
 ghost use Rattle.lines.specs.Reply.{Answered, Refused, told_by};
-ghost use Rattle.lines.specs.Script.{DumpsRelation, Runs, ShowsLeaf, ShowsRelation, task_of};
+ghost use Rattle.lines.specs.Script.{CountsLeaf, DumpsRelation, Runs, ShowsLeaf, ShowsRelation, task_of};
 
+use crate::shown::{
+    leaf_written, no_leaf, parts_counted, parts_text, relation_dumped, relation_text,
+};
+use desk::refusal::Refusal;
+use desk::reply::{Notice, Reply as Heard};
 use lines::fault::ProgramFault;
 use lines::play_text::{refused_text, reply_text};
 use lines::reply::Reply;
 use lines::script::Item;
-use crate::shown::{leaf_written, no_leaf, parts_text, relation_dumped, relation_text};
-use desk::refusal::Refusal;
-use desk::reply::{Notice, Reply as Heard};
 use shell::mode::{Mode, put_answer, put_line, show_line};
 use site::fault::SiteFault;
 use std::alloc::Global;
@@ -41,6 +43,7 @@ pub fn answer<'a, D: DeskStore, S: SiteStore>(
         Item::Show(name) => Ok(Reply::Answer(relation_shown(alloc, mode, database, name)?)),
         Item::Leaf(name) => Ok(Reply::Answer(leaf_shown(alloc, mode, database, name)?)),
         Item::Dump(name) => Ok(Reply::Answer(relation_written(alloc, mode, database, name)?)),
+        Item::Count(name) => Ok(Reply::Answer(leaf_counted(alloc, mode, database, name)?)),
     }
 }
 
@@ -156,6 +159,36 @@ fn parts_shown<'a, D: DeskStore, S: SiteStore>(
 {
     match database.parts(leaf) {
         Ok(found) => Ok(parts_text(alloc, mode, database.catalog(), leaf, name, found)?),
+        Err(fault) => Err(stopped(fault)),
+    }
+}
+
+/// The leaf of this name in a line, with how many rows it has.
+fn leaf_counted<'a, D: DeskStore, S: SiteStore>(
+    alloc: Global,
+    mode: Mode,
+    database: &mut Solo<D, S>,
+    name: &str,
+) -> Result<String, ProgramFault<'a>>
+    ensures { Serves (seen_over D.is_clean S.is_clean D.is_sound S.is_sound D.kept S.kept D.refused S.refused) mode (CountsLeaf name.now) (λ text. Answered (string_bytes text)) database.old database.new result }
+{
+    match leaf_written(alloc, database.catalog().leaves(), name)? {
+        Some(leaf) => parts_told(alloc, mode, database, &leaf, name),
+        None => Ok(no_leaf(alloc, mode, name)?),
+    }
+}
+
+fn parts_told<'a, D: DeskStore, S: SiteStore>(
+    alloc: Global,
+    mode: Mode,
+    database: &mut Solo<D, S>,
+    leaf: &Leaf,
+    name: &str,
+) -> Result<String, ProgramFault<'a>>
+    ensures { CountsParts (seen_over D.is_clean S.is_clean D.is_sound S.is_sound D.kept S.kept D.refused S.refused) mode name.now leaf.now (λ text. string_bytes text) database.old database.new result }
+{
+    match database.parts(leaf) {
+        Ok(found) => Ok(parts_counted(alloc, mode, database.catalog(), leaf, name, found)?),
         Err(fault) => Err(stopped(fault)),
     }
 }

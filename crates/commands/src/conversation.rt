@@ -6,10 +6,10 @@ ghost use Rattle.commands.specs.Conversation.{AreSaid, FailsByEnd, IsConversatio
 ghost use Rattle.wire.specs.Session.{AddsTold};
 
 use crate::progress::Watches;
-use lines::run_script::Part;
 use crate::run_text::{put_denied, put_replied};
 use desk::reply::{Reply, Why};
 use history::told::Told;
+use lines::run_script::Part;
 use std::alloc::Global;
 use std::sync::Wait;
 use std::time::{Clock, Duration};

@@ -7,15 +7,16 @@ ghost use Rattle.lines.specs.Reply.{told_by};
 ghost use Rattle.lines.specs.Script.{task_of};
 
 use crate::client::answer;
+use catalog::catalogue::Catalog;
 use lines::fault::ProgramFault;
 use lines::reply::Reply;
 use lines::script::Item;
-use catalog::catalogue::Catalog;
 use shell::mode::Mode;
 use std::alloc::Global;
 use store::desk_store::DeskStore;
 use store::site_store::SiteStore;
 use world::solo::Solo;
+use world::traffic::Traffic;
 
 /// A database for one client, over whatever stores.
 pub trait Database {
@@ -38,6 +39,9 @@ pub trait Database {
     /// Whether the client has begun a transaction that has not ended.
     fn is_open(&self) -> bool
         ensures { result ≡ is_some (seen.current self.now) };
+
+    /// What it has cost so far. No clause says that it has: what is counted is tested only.
+    fn traffic(&self) -> Traffic;
 }
 
 impl<D: DeskStore, S: SiteStore> Database for Solo<D, S> {
@@ -60,5 +64,9 @@ impl<D: DeskStore, S: SiteStore> Database for Solo<D, S> {
 
     fn is_open(&self) -> bool {
         Solo::is_open(self)
+    }
+
+    fn traffic(&self) -> Traffic {
+        Solo::traffic(self)
     }
 }

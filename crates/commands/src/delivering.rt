@@ -7,8 +7,8 @@ ghost use Rattle.catalog.specs.Relation.{catalogue_of};
 ghost use Rattle.commands.specs.Delivering.{Delivers, DeliversAll, DeliversAt, first_due_from};
 ghost use Rattle.commands.specs.Schedule.{IsCounted, LeavesWorld, of_letter, refusal_text, stage_of, world_over};
 
-use lines::cast::Cast;
 use crate::schedule::{Schedule, refusal};
+use lines::cast::Cast;
 use std::alloc::Global;
 use store::desk_store::DeskStore;
 use store::letter::Letter;

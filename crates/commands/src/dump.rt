@@ -9,14 +9,14 @@ ghost use Rattle.lines.specs.Script.{DumpsRelation, task_of};
 ghost use Rattle.commands.specs.Session.{Talks};
 ghost use Rattle.commands.specs.Solo.{IsOfRun, Stretches};
 
-use lines::catalog_file::{CatalogFault, read_catalog};
 use crate::database::Database;
-use lines::fault::ProgramFault;
 use crate::opener::Opens;
-use lines::script::Item;
 use crate::session_word::Turn;
 use crate::solo::{run, run_items};
 use catalog::catalogue::Catalog;
+use lines::catalog_file::{CatalogFault, read_catalog};
+use lines::fault::ProgramFault;
+use lines::script::Item;
 use meaning::schema::Schema;
 use shell::mode::Mode;
 use std::alloc::Global;
@@ -25,19 +25,21 @@ use terms::memory::Memory;
 use terms::text::Text;
 
 /// Writes the relation of this name as statements, or each where none is named, of the database of the catalogue that `catalog`
-/// gives, which `catalog_file` names in a fault. Answers whether there is no relation of this name; then that is written.
+/// gives, which `catalog_file` names in a fault. In another mode than tabs the rows of the relation that is named are shown.
+/// Answers whether there is no relation of this name; then that is written.
 pub fn dump_files<'a, B: Database + Drop, O: Opens<B>, C: Read + Drop, W: Write>(
     alloc: Global,
     opener: &O,
     catalog_file: &'a str,
     catalog: C,
     relation: Option<&str>,
+    mode: Mode,
     output: &mut W,
 ) -> Result<bool, CatalogFault<'a>>
-    ensures { IfSome (C.remaining catalog) (λ bytes. DumpsFile B.seen O.origin (option_map (λ name. name.now) relation.entry) catalog_file.entry bytes (W.contents output.old) (W.contents output.new) result) }
+    ensures { IfSome (C.remaining catalog) (λ bytes. DumpsFile B.seen O.origin mode (option_map (λ name. name.now) relation.entry) catalog_file.entry bytes (W.contents output.old) (W.contents output.new) result) }
 {
     match read_catalog(alloc, catalog_file, catalog) {
-        Ok(catalog) => match dump_over(alloc, opener, catalog, relation, output) {
+        Ok(catalog) => match dump_over(alloc, opener, catalog, relation, mode, output) {
             Ok(is_missing) => Ok(is_missing),
             Err(fault) => Err(CatalogFault::Program(fault)),
         },
@@ -51,15 +53,16 @@ fn dump_over<'a, B: Database + Drop, O: Opens<B>, W: Write>(
     opener: &O,
     catalog: Catalog,
     relation: Option<&str>,
+    mode: Mode,
     output: &mut W,
 ) -> Result<bool, ProgramFault<'a>>
-    ensures ok { IfOk result (HasDumped B.seen O.origin (option_map (λ name. name.now) relation.entry) (catalogue_of catalog) (W.contents output.old) (W.contents output.new)) }
+    ensures ok { IfOk result (HasDumped B.seen O.origin mode (option_map (λ name. name.now) relation.entry) (catalogue_of catalog) (W.contents output.old) (W.contents output.new)) }
     ensures err { IfErr result IsOfRun }
 {
     let is_missing = is_missing(relation, catalog.schema());
     let names = names_of(alloc, catalog.schema())?;
-    let items = items_asked(alloc, relation, names.as_slice())?;
-    let outcome = run(alloc, opener, Mode::Tabs, catalog, items.as_slice(), output);
+    let items = items_asked(alloc, mode, relation, names.as_slice())?;
+    let outcome = run(alloc, opener, mode, catalog, items.as_slice(), output);
     // What was written before a fault goes out too.
     let flushed = output.flush();
     outcome?;
@@ -80,18 +83,29 @@ fn is_missing(relation: Option<&str>, schema: &Schema) -> bool
 /// An item for the relation that is asked for, or for each of these where none is.
 fn items_asked<'n>(
     alloc: Global,
+    mode: Mode,
     relation: Option<&'n str>,
     names: &'n [Text],
 ) -> Result<Vec<Item<'n>>, Memory>
-    ensures { IfOk result (λ items. map task_of items.items ≡ spec.tasks_asked (option_map (λ name. name.now) relation.entry) names.entry.now) }
+    ensures { IfOk result (λ items. map task_of items.items ≡ spec.tasks_asked mode (option_map (λ name. name.now) relation.entry) names.entry.now) }
 {
     match relation {
         Some(name) => {
             let mut items = Vec::new(alloc);
-            items.push(Item::Dump(name))?;
+            items.push(item_in(mode, name))?;
             Ok(items)
         }
         None => items_of(alloc, names),
+    }
+}
+
+/// A relation as statements, unless its rows are to be shown in a way.
+fn item_in(mode: Mode, name: &str) -> Item<'_>
+    ensures { task_of result ≡ spec.task_in mode name.entry.now }
+{
+    match mode {
+        Mode::Tabs => Item::Dump(name),
+        Mode::Columns | Mode::Csv | Mode::Json => Item::Show(name),
     }
 }
 

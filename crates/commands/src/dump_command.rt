@@ -1,15 +1,15 @@
 //! The command `dump`, over the files that the command line names. What files hold no contract can say; over readers and writers
 //! `dump_files` says what is done.
 
-use lines::built_in::{BUILT_IN, BUILT_IN_NAME};
 use crate::database::Database;
 use crate::dump::dump_files;
-use lines::fault::ProgramFault;
 use crate::folder::{CATALOGUE, path_in};
 use crate::opener::{Folder, Lists, Opens};
-use lines::outcome::{Outcome, Status, exit};
 use crate::perform::{of_script, unread};
 use crate::sql_stores::{Files, OpensFiles};
+use lines::built_in::{BUILT_IN, BUILT_IN_NAME};
+use lines::fault::ProgramFault;
+use lines::outcome::{Outcome, Status, exit};
 use lines::transfer::Dump;
 use sqlite::Alter;
 use std::fs;
@@ -62,15 +62,25 @@ fn dump_from<'a, B: Database + Drop, O: Opens<B>, W: Write>(
     dump: Dump<'a>,
     output: &mut W,
 ) -> Outcome<'a> {
-    let (alloc, relation) = (rt.alloc(), dump.relation);
+    let (alloc, relation, mode) = (rt.alloc(), dump.relation, dump.mode);
     match dump.catalog {
         Some(file) => match fs::open(rt, file) {
-            Ok(catalog) => of_script(dump_files(alloc, opener, file, catalog, relation, output)),
+            Ok(catalog) => of_script(dump_files(
+                alloc, opener, file, catalog, relation, mode, output,
+            )),
             Err(error) => unread(file, &error),
         },
         None => {
             let catalog = BUILT_IN.as_bytes();
-            of_script(dump_files(alloc, opener, BUILT_IN_NAME, catalog, relation, output))
+            of_script(dump_files(
+                alloc,
+                opener,
+                BUILT_IN_NAME,
+                catalog,
+                relation,
+                mode,
+                output,
+            ))
         }
     }
 }

@@ -3,11 +3,11 @@
 ghost use Rattle.std.specs.Prelude.{IfErr};
 ghost use Rattle.commands.specs.Client.{IsOfClient};
 
+use catalog::catalogue::Catalog;
 use lines::built_in::BUILT_IN;
 use lines::catalog_file::{CatalogFault, read_catalog};
 use lines::fault::ProgramFault;
 use lines::same_catalog::is_same;
-use catalog::catalogue::Catalog;
 use std::alloc::Global;
 use std::fs::File;
 use std::io::{ErrorKind, Write};

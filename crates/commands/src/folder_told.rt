@@ -2,13 +2,13 @@
 
 ghost use Rattle.std.specs.Prelude.{◌<◌, length};
 
+use crate::folder::{CATALOGUE, Standing, has_store};
+use crate::sql_stores::{OpensFiles, file_desk, file_site};
+use catalog::catalogue::Catalog;
 use lines::catalog_difference::{Compared, tell_difference};
 use lines::catalog_file::read_catalog;
 use lines::fault::ProgramFault;
-use crate::folder::{CATALOGUE, Standing, has_store};
 use lines::same_catalog::is_same;
-use crate::sql_stores::{OpensFiles, file_desk, file_site};
-use catalog::catalogue::Catalog;
 use sqlite::Alter;
 use std::io::{ErrorKind, Read, Write};
 use std::rt::HostRuntime;

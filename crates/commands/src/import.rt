@@ -1,18 +1,20 @@
 //! Rows that are inserted, so many in a transaction.
 
-ghost use Rattle.std.specs.Prelude.{◌≡◌, ◌<◌, ◌==◌, ◌%◌, ◌∷◌, [], true, None, IfErr, Ok};
+ghost use Rattle.std.specs.Prelude.{◌≡◌, ◌≢◌, ◌<◌, ◌==◌, ◌%◌, ◌∷◌, ℕ, [], true, false, None, IfErr, IfOk, IfSome, OnOk, Ok};
 ghost use Rattle.commands.specs.Client.{IsOfClient, Serves};
-ghost use Rattle.commands.specs.Import.{Comes, before_row, begins, commits, import_of, insert_says, opening};
+ghost use Rattle.commands.specs.Import.{Comes, IsCutShort, RollsBack, StopsAt, before_row, begins, commits, import_of, insert_says, opening};
 ghost use Rattle.lines.specs.Reply.{Answered, told_by};
+ghost use Rattle.lines.specs.declared.reply.Reply.{Reply as ReplyNow};
 ghost use Rattle.lines.specs.Script.{Runs};
 ghost use Rattle.commands.specs.declared.import.Imported.TheVariants as imported;
 ghost use Rattle.shell.specs.declared.mode.Mode.TheVariants.{Tabs};
 
 use crate::database::Database;
+use crate::row_progress::RowProgress;
+use exchange::insert::insert_text;
 use lines::fault::ProgramFault;
 use lines::reply::Reply;
 use lines::script::Item;
-use exchange::insert::insert_text;
 use meaning::schema::RelationSchema;
 use shell::mode::Mode;
 use std::alloc::Global;
@@ -40,9 +42,11 @@ pub fn import<'a, B: Database>(
     relation: &RelationSchema,
     rows: &[Row],
     many: usize,
+    progress: &mut RowProgress<'_>,
 ) -> Result<Imported, ProgramFault<'a>>
     requires some { 0 < many }
     ensures all { result ≡ Ok imported.All → Comes B.seen (import_of many relation.now.name rows.now) database.old database.new }
+    ensures until { (row committed : ℕ) (reply : ReplyNow) → result ≡ Ok (imported.Until row committed reply) → IsCutShort B.seen (import_of many relation.now.name rows.now) database.old database.new (told_by reply) }
     ensures err { IfErr result IsOfClient }
 {
     if rows.is_empty() {
@@ -59,6 +63,7 @@ pub fn import<'a, B: Database>(
         if let Some(reply) = insert_row(alloc, database, relation, row)? {
             return until(alloc, database, number, committed, reply);
         }
+        progress.inserted(number, rows.len());
     }
     match commit(alloc, database)? {
         Some(reply) => until(alloc, database, rows.len(), committed, reply),
@@ -74,17 +79,28 @@ fn until<'a, B: Database>(
     committed: usize,
     reply: Reply,
 ) -> Result<Imported, ProgramFault<'a>>
-    ensures until { result ≡ Ok imported.All → ⊥ }
+    ensures until { IfOk result (λ made. made ≡ imported.Until row committed reply) }
+    ensures ends { OnOk result (RollsBack B.seen database.old database.new) }
     ensures err { IfErr result IsOfClient }
 {
-    if database.is_open() {
-        let _rolled_back = ask(alloc, database, "ROLLBACK")?;
-    }
+    roll_back_open(alloc, database)?;
     Ok(Imported::Until {
         row,
         committed,
         reply,
     })
+}
+
+/// Rolls back what is open, if something is.
+fn roll_back_open<'a, B: Database>(alloc: Global, database: &mut B) -> Result<(), ProgramFault<'a>>
+    ensures ends { OnOk result (RollsBack B.seen database.old database.new) }
+    ensures err { IfErr result IsOfClient }
+{
+    if !database.is_open() {
+        return Ok(());
+    }
+    let _rolled_back = ask(alloc, database, "ROLLBACK")?;
+    Ok(())
 }
 
 /// Does what comes before the row of this number: where a transaction is full it is committed, and another one begins.
@@ -96,6 +112,7 @@ fn turn_over<'a, B: Database>(
 ) -> Result<Option<Reply>, ProgramFault<'a>>
     requires some { 0 < many }
     ensures all { result ≡ Ok None → Comes B.seen (before_row many number) database.old database.new }
+    ensures stops { IfOk result (λ told. IfSome told (λ reply. StopsAt B.seen (before_row many number) database.old database.new (told_by reply))) }
     ensures err { IfErr result IsOfClient }
 {
     if is_first(many, number) {
@@ -111,6 +128,7 @@ fn open<'a, B: Database>(
     number: usize,
 ) -> Result<Option<Reply>, ProgramFault<'a>>
     ensures all { result ≡ Ok None → Comes B.seen (opening number) database.old database.new }
+    ensures stops { IfOk result (λ told. IfSome told (λ reply. StopsAt B.seen (opening number) database.old database.new (told_by reply))) }
     ensures err { IfErr result IsOfClient }
 {
     if is_zero(number) {
@@ -136,6 +154,7 @@ fn is_first(many: usize, number: usize) -> bool
 /// Commits a transaction, and begins another one.
 fn turn<'a, B: Database>(alloc: Global, database: &mut B) -> Result<Option<Reply>, ProgramFault<'a>>
     ensures all { result ≡ Ok None → Comes B.seen (commits ∷ begins ∷ []) database.old database.new }
+    ensures stops { IfOk result (λ told. IfSome told (λ reply. StopsAt B.seen (commits ∷ begins ∷ []) database.old database.new (told_by reply))) }
     ensures err { IfErr result IsOfClient }
 {
     match commit(alloc, database)? {
@@ -149,6 +168,7 @@ fn begin<'a, B: Database>(
     database: &mut B,
 ) -> Result<Option<Reply>, ProgramFault<'a>>
     ensures all { result ≡ Ok None → Comes B.seen (begins ∷ []) database.old database.new }
+    ensures stops { IfOk result (λ told. IfSome told (λ reply. StopsAt B.seen (begins ∷ []) database.old database.new (told_by reply))) }
     ensures err { IfErr result IsOfClient }
 {
     unless_told(alloc, database, "BEGIN", "begun\n")
@@ -159,6 +179,7 @@ fn commit<'a, B: Database>(
     database: &mut B,
 ) -> Result<Option<Reply>, ProgramFault<'a>>
     ensures all { result ≡ Ok None → Comes B.seen (commits ∷ []) database.old database.new }
+    ensures stops { IfOk result (λ told. IfSome told (λ reply. StopsAt B.seen (commits ∷ []) database.old database.new (told_by reply))) }
     ensures err { IfErr result IsOfClient }
 {
     unless_told(alloc, database, "COMMIT", "committed\n")
@@ -172,6 +193,7 @@ fn insert_row<'a, B: Database>(
     row: &Row,
 ) -> Result<Option<Reply>, ProgramFault<'a>>
     ensures all { result ≡ Ok None → Comes B.seen (insert_says relation.now.name row.now ∷ []) database.old database.new }
+    ensures stops { IfOk result (λ told. IfSome told (λ reply. StopsAt B.seen (insert_says relation.now.name row.now ∷ []) database.old database.new (told_by reply))) }
     ensures err { IfErr result IsOfClient }
 {
     let text = insert_text(alloc, relation, row)?;
@@ -186,6 +208,7 @@ fn unless_told<'a, B: Database>(
     wanted: &str,
 ) -> Result<Option<Reply>, ProgramFault<'a>>
     ensures all { result ≡ Ok None → Comes B.seen ((Runs command.now, Answered wanted.now) ∷ []) database.old database.new }
+    ensures stops { IfOk result (λ told. IfSome told (λ reply. StopsAt B.seen ((Runs command.now, Answered wanted.now) ∷ []) database.old database.new (told_by reply))) }
     ensures err { IfErr result IsOfClient }
 {
     let reply = ask(alloc, database, command)?;
@@ -198,7 +221,8 @@ fn unless_told<'a, B: Database>(
 
 /// Whether a reply is this answer.
 fn is_told(reply: &Reply, wanted: &str) -> bool
-    ensures { result ≡ true → told_by reply.now ≡ Answered wanted.now }
+    ensures told { result ≡ true → told_by reply.now ≡ Answered wanted.now }
+    ensures other { result ≡ false → told_by reply.now ≢ Answered wanted.now }
 {
     match reply {
         Reply::Answer(text) => text.as_str() == wanted,

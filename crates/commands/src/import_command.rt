@@ -1,16 +1,17 @@
 //! The command `import`, over the files that the command line names. What files hold no contract can say; over readers and writers
 //! `import_files` says what is done.
 
-use lines::built_in::{BUILT_IN, BUILT_IN_NAME};
 use crate::database::Database;
 use crate::import_file::import_files;
 use crate::opener::{Folder, Lists, Opens};
-use lines::outcome::{Outcome, Status, exit};
 use crate::perform::{of_script, unread};
+use crate::row_progress::RowProgress;
 use crate::sql_stores::{Files, OpensFiles};
+use lines::built_in::{BUILT_IN, BUILT_IN_NAME};
+use lines::outcome::{Outcome, Status, exit};
 use lines::transfer::Import;
 use sqlite::Alter;
-use std::io::{Read, Write};
+use std::io::{IsTerminal, Read, Write};
 use std::{fs, io};
 
 /// Inserts the rows of the file that is named, over the stores of the folder that is named, and tells what it came to. What files
@@ -122,6 +123,7 @@ fn import_on<
     errors: &mut E,
 ) -> Outcome<'a> {
     let (relation, file, every) = (import.relation, import.file, import.every);
+    let mut progress = progress_of(rt);
     of_script(import_files(
         rt.alloc(),
         opener,
@@ -131,7 +133,17 @@ fn import_on<
         file,
         input,
         every,
+        &mut progress,
         output,
         errors,
     ))
+}
+
+/// Tells a person at a terminal how far an import is, and nobody else.
+fn progress_of(rt: &HostRuntime) -> RowProgress<'_> {
+    if rt.stderr().is_terminal() {
+        RowProgress::told(rt)
+    } else {
+        RowProgress::untold()
+    }
 }

@@ -1,21 +1,22 @@
 //! A file of comma-separated values, whose rows are inserted into a relation.
 
-ghost use Rattle.std.specs.Prelude.{◌≡◌, ◌<◌, false, IfOk, IfSome, OnOk, length};
+ghost use Rattle.std.specs.Prelude.{◌≡◌, ◌<◌, false, IfOk, IfSome, OnOk, length, string_bytes};
 ghost use Rattle.std.specs.Io.KnownBytes.{Appends};
 ghost use Rattle.catalog.specs.Relation.{catalogue_of};
 ghost use Rattle.commands.specs.ImportFile.{HasImported, HasInserted, ImportsFile, imported_text};
 ghost use Rattle.commands.specs.ImportFile as spec;
 
-use lines::catalog_file::{CatalogFault, read_catalog};
 use crate::database::Database;
-use lines::fault::ProgramFault;
 use crate::import::{Imported, import};
 use crate::opener::Opens;
+use crate::row_progress::RowProgress;
 use crate::session_word::tell;
-use lines::written::write_text;
 use catalog::catalogue::Catalog;
 use exchange::file::rows;
 use exchange::line_fault::{LineFault, LineWhat};
+use lines::catalog_file::{CatalogFault, read_catalog};
+use lines::fault::ProgramFault;
+use lines::written::write_text;
 use meaning::schema::RelationSchema;
 use std::alloc::Global;
 use std::io;
@@ -27,8 +28,8 @@ use world::laws::moves_follow;
 
 /// Inserts the rows of the file that `input` gives, which `file` names, into the relation of this name, over the catalogue that
 /// `catalog` gives, which `catalog_file` names: so many in a transaction, or all in one where no number is given. The file is read to
-/// its end first. Tells on `output` how many rows are committed, and on `errors` what is wrong. Answers whether something was
-/// refused.
+/// its end first. Tells on `output` how many rows are committed, by `progress` how far it is, and on `errors` what is wrong.
+/// Answers whether something was refused.
 pub fn import_files<
     'a,
     B: Database + Drop,
@@ -46,6 +47,7 @@ pub fn import_files<
     file: &'a str,
     input: io::Result<R>,
     many: Option<u64>,
+    progress: &mut RowProgress<'_>,
     output: &mut W,
     errors: &mut E,
 ) -> Result<bool, CatalogFault<'a>>
@@ -53,7 +55,7 @@ pub fn import_files<
 {
     match read_catalog(alloc, catalog_file, catalog) {
         Ok(catalog) => match import_over(
-            alloc, opener, &catalog, relation, file, input, many, output, errors,
+            alloc, opener, &catalog, relation, file, input, many, progress, output, errors,
         ) {
             Ok(is_refused) => Ok(is_refused),
             Err(fault) => Err(CatalogFault::Program(fault)),
@@ -71,6 +73,7 @@ fn import_over<'a, B: Database + Drop, O: Opens<B>, R: Read + Drop, W: Write, E:
     file: &'a str,
     input: io::Result<R>,
     many: Option<u64>,
+    progress: &mut RowProgress<'_>,
     output: &mut W,
     errors: &mut E,
 ) -> Result<bool, ProgramFault<'a>>
@@ -90,6 +93,7 @@ fn import_over<'a, B: Database + Drop, O: Opens<B>, R: Read + Drop, W: Write, E:
             schema,
             rows.as_slice(),
             many,
+            progress,
             output,
             errors,
         ),
@@ -108,6 +112,7 @@ fn insert_all<'a, B: Database + Drop, O: Opens<B>, W: Write, E: Write>(
     relation: &RelationSchema,
     rows: &[Row],
     many: Option<u64>,
+    progress: &mut RowProgress<'_>,
     output: &mut W,
     errors: &mut E,
 ) -> Result<bool, ProgramFault<'a>>
@@ -115,7 +120,8 @@ fn insert_all<'a, B: Database + Drop, O: Opens<B>, W: Write, E: Write>(
 {
     moves_follow(catalog);
     let mut database = opener.open(alloc, catalog)?;
-    match import(alloc, &mut database, relation, rows, many_of(many, rows))? {
+    let many = many_of(many, rows);
+    match import(alloc, &mut database, relation, rows, many, progress)? {
         Imported::All => {
             tell_count(alloc, rows.len(), output)?;
             Ok(false)
@@ -133,7 +139,7 @@ fn insert_all<'a, B: Database + Drop, O: Opens<B>, W: Write, E: Write>(
 }
 
 /// How many rows a transaction has: as many as are asked for, or all where that isn't said.
-fn many_of(many: Option<u64>, rows: &[Row]) -> usize
+pub fn many_of(many: Option<u64>, rows: &[Row]) -> usize
     ensures some { 0 < result }
     ensures is { result ≡ spec.many_of many (length rows.now) }
 {
@@ -152,15 +158,22 @@ fn tell_count<'a, W: Write>(
 ) -> Result<(), ProgramFault<'a>>
     ensures { OnOk result (Appends (W.contents output.old) (W.contents output.new) (imported_text count)) }
 {
-    let text = match count {
-        1 => String::from_str(alloc, "imported 1 row\n")?,
-        _ => format!(in alloc; "imported {count} rows\n")?,
-    };
+    let text = imported_text(alloc, count)?;
     write_text(output, text.as_str())
 }
 
+/// How many rows were imported.
+pub fn imported_text(alloc: Global, count: usize) -> Result<String, Memory>
+    ensures { IfOk result (λ text. string_bytes text ≡ spec.imported_text count) }
+{
+    match count {
+        1 => Ok(String::from_str(alloc, "imported 1 row\n")?),
+        _ => Ok(format!(in alloc; "imported {count} rows\n")?),
+    }
+}
+
 /// Tells what was answered in place of a row that is inserted. Nothing is claimed of what stands on the standard error.
-fn tell_row<E: Write>(
+pub fn tell_row<E: Write>(
     alloc: Global,
     rows: &[Row],
     at: usize,
@@ -177,7 +190,7 @@ fn tell_row<E: Write>(
 }
 
 /// Tells what is wrong with a line of a file; that memory ran out is the program's fault.
-fn tell_line<'a, E: Write>(
+pub fn tell_line<'a, E: Write>(
     alloc: Global,
     relation: &RelationSchema,
     file: &'a str,

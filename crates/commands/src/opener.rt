@@ -8,13 +8,13 @@ ghost use Rattle.commands.specs.SqlStores.{AreOfLeaves};
 
 use crate::client::stopped;
 use crate::database::Database;
-use lines::fault::ProgramFault;
 use crate::folder::{Standing, enter, keep_catalogue};
 use crate::found::found_text;
-use lines::play_load::empty_relations;
 use crate::sql_stores::{OpenStores, OpensFiles, file_desk, file_sites, memory_desk, memory_sites};
 use catalog::catalogue::Catalog;
 use desk::refusal::Refusal;
+use lines::fault::ProgramFault;
+use lines::play_load::empty_relations;
 use site::fault::SiteFault;
 use sqlite::{Alter, MemStore};
 use sqlstore::desk::SqlDesk;

@@ -9,15 +9,15 @@ ghost use Rattle.commands.specs.Play.{IsPlayedOver, IsUnplayed, PlaysFiles, Play
 ghost use Rattle.lines.specs.Input.{IsOfOutput};
 ghost use Rattle.commands.specs.Schedule.{IsCounted, LeavesWorld, stage_of, world_over};
 
+use crate::schedule::Schedule;
+use crate::solo::read_script;
+use crate::world_opener::OpensWorld;
+use catalog::catalogue::Catalog;
 use lines::catalog_file::{CatalogFault, read_catalog};
 use lines::fault::ProgramFault;
 use lines::play_items::{Placed, read_items};
 use lines::play_load::loaded;
 use lines::play_script::Item;
-use crate::schedule::Schedule;
-use crate::solo::read_script;
-use crate::world_opener::OpensWorld;
-use catalog::catalogue::Catalog;
 use meaning::whole::Whole;
 use std::alloc::Global;
 use std::io;
@@ -128,9 +128,20 @@ fn play_over<'a, D: DeskStore + Drop, S: SiteStore + Drop, O: OpensWorld<D, S>, 
     let mut schedule = Schedule::new(alloc, world);
     let done = play_items(alloc, &mut schedule, items, output);
     // What was told before a fault goes out too.
-    let flushed = output.flush();
+    let sent = send_out(output);
     done?;
-    flushed.map_err(|error| ProgramFault::writing(&error))?;
+    sent?;
+    Ok(())
+}
+
+/// Waits until what was written has gone out.
+fn send_out<'a, W: Write>(output: &mut W) -> Result<(), ProgramFault<'a>>
+    ensures same { Keeps (W.contents output.old) (W.contents output.new) }
+    ensures err { IfErr result IsOfOutput }
+{
+    output
+        .flush()
+        .map_err(|error| ProgramFault::writing(&error))?;
     Ok(())
 }
 

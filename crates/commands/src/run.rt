@@ -12,23 +12,23 @@ ghost use Rattle.commands.specs.Run.{HasRun, HasWritten, IsUnrun, RunsFiles, Run
 ghost use Rattle.lines.specs.RunScript.{part_of};
 ghost use Rattle.commands.specs.Solo.{longest};
 
-use lines::catalog_file::{CatalogFault, read_catalog};
 use crate::conversation::{Conversation, Manner};
 use crate::conversations::converse_at_once;
-use lines::fault::ProgramFault;
 use crate::opener::unopened;
-use lines::outcome::Outcome;
 use crate::perform::unread;
 use crate::progress::Watches;
 use crate::run_records::{Ran, conclude};
-use lines::run_script::{Part, parts};
 use crate::solo::read_script;
 use crate::sql_stores::OpenStores;
 use crate::store_opener::OpensStores;
-use lines::written::write_text;
 use catalog::catalogue::Catalog;
 use catalog::fault::CatFault;
 use history::records::Records;
+use lines::catalog_file::{CatalogFault, read_catalog};
+use lines::fault::ProgramFault;
+use lines::outcome::Outcome;
+use lines::run_script::{Part, parts};
+use lines::written::write_text;
 use std::alloc::Global;
 use std::io;
 use std::io::{Read, Write};

@@ -12,14 +12,14 @@ ghost use Rattle.lines.specs.RunScript.{SessionPart as SessionPartNow};
 
 use crate::client::stopped;
 use crate::conversation::Conversation;
-use lines::fault::ProgramFault;
 use crate::run_text::put_verdict;
-use lines::same_catalog::is_same;
 use crate::shown::relation_text;
 use catalog::catalogue::Catalog;
 use history::records::Records;
 use history::told::Told;
 use history::weave::{WeaveFault, weave};
+use lines::fault::ProgramFault;
+use lines::same_catalog::is_same;
 use meaning::schema::RelationSchema;
 use shell::mode::{Mode, put_line};
 use std::alloc::Global;

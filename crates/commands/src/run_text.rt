@@ -4,9 +4,9 @@ ghost use Rattle.std.specs.Prelude.{◌≡◌, ◌++◌, IfOk, OnOk, string_byte
 ghost use Rattle.commands.specs.RunText as spec;
 ghost use Rattle.commands.specs.RunText.{denied_lines, replied_lines, verdict_text};
 
-use lines::play_text::{put_told, reply_text, why_name};
 use desk::reply::Reply;
 use history::weave::WeaveFault;
+use lines::play_text::{put_told, reply_text, why_name};
 use std::alloc::Global;
 use terms::memory::Memory;
 use wire::fault::CallFault;

@@ -15,11 +15,11 @@ ghost use Rattle.lines.specs.PlayText.{out_text};
 ghost use Rattle.commands.specs.Schedule as spec;
 ghost use Rattle.commands.specs.Schedule.{Asks, HappensAt, IsCounted, IsNamedFirst, KeepsNames, LeavesWorld, Names, RestartsDesk, Steps, Tries, event_at, of_client, refusal_text, stage_of, unseen, world_over};
 
+use desk::refusal::Refusal;
+use desk::reply::{Notice, Out};
 use lines::cast::Cast;
 use lines::play_script::{Ask, AtSite};
 use lines::play_text::{out_text, put_fault, put_told, refused_text};
-use desk::refusal::Refusal;
-use desk::reply::{Notice, Out};
 use site::fault::SiteFault;
 use std::alloc::Global;
 use store::desk_store::DeskStore;

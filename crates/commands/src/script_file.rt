@@ -6,11 +6,11 @@ ghost use Rattle.commands.specs.Session.{Talks};
 ghost use Rattle.commands.specs.Solo.{IsOfRun};
 
 use crate::database::Database;
-use lines::fault::ProgramFault;
-use lines::script::{ScriptFault, items};
 use crate::session_word::{Turn, tell};
 use crate::solo::{read_script, run_items};
 use crate::texts::OpensText;
+use lines::fault::ProgramFault;
+use lines::script::{ScriptFault, items};
 use shell::mode::Mode;
 use std::alloc::{AllocError, Global};
 use std::io::{Read, Write};

@@ -7,17 +7,17 @@ ghost use Rattle.commands.specs.Session.{HasTalked, IsOfSession, RunsSession, Ta
 ghost use Rattle.commands.specs.Session as spec;
 ghost use Rattle.commands.specs.Solo.{IsOfRun};
 
-use lines::catalog_file::{CatalogFault, read_catalog};
 use crate::database::Database;
-use lines::explaining::explain_text;
-use lines::fault::ProgramFault;
 use crate::opener::Opens;
-use lines::script::Item;
 use crate::session_word::{State, Turn, take_item, take_plan, take_word, tell};
 use crate::texts::OpensText;
 use crate::typed::{Typed, first_of, is_whole, next_line};
-use lines::written::write_text;
 use catalog::catalogue::Catalog;
+use lines::catalog_file::{CatalogFault, read_catalog};
+use lines::explaining::explain_text;
+use lines::fault::ProgramFault;
+use lines::script::Item;
+use lines::written::write_text;
 use meaning::schema::Schema;
 use meaning::statement::Statement;
 use reader::command::Command;
@@ -369,13 +369,14 @@ fn take_part<'a, B: Database, W: Write, E: Write>(
         return Ok(Turn::GoesOn);
     }
     let was_open = database.is_open();
-    take_item(
+    let is_refused = take_item(
         alloc,
         state.mode,
         database,
         Item::Statement(state.typed.as_str()),
         output,
     )?;
+    state.stats = state.stats.with_answer(is_refused);
     let schema = database.catalog().schema();
     explain_answer(alloc, schema, was_open, state.typed.as_str(), errors);
     state.typed.clear();

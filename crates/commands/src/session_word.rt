@@ -2,26 +2,28 @@
 
 ghost use Rattle.std.specs.Prelude.{◌≡◌, ◌≢◌, ℕ, List, [], false, IfErr, IfOk, OnOk, string_bytes};
 ghost use Rattle.catalog.specs.Relation.{catalogue_of};
-ghost use Rattle.commands.specs.Session.{IsAsideOf, Talks};
+ghost use Rattle.commands.specs.Session.{Talks};
 ghost use Rattle.commands.specs.Solo.{IsOfRun};
 
 use crate::database::Database;
-use lines::dot::{WORDS, Word, mode_named, read, switch_named};
 use crate::dump::take_dump;
+use crate::import_word::{Asked, take_import};
+use crate::leaves::take_leaves;
+use crate::misuse::{tell_no_relation, tell_unknown, tell_wanted};
+use crate::script_file::take_script;
+use crate::stats::{Stats, stats_text};
+use crate::texts::OpensText;
+use lines::dot::{Word, mode_named, read, switch_named};
 use lines::explaining::explain_fault;
 use lines::fault::ProgramFault;
-use lines::listing::{leaves_text, schema_text, tables_text};
+use lines::listing::{schema_text, tables_text};
 use lines::plan_text::{PlanFault, plan_typed};
 use lines::script::{Item, is_word};
-use crate::script_file::take_script;
-use crate::texts::OpensText;
 use lines::written::write_text;
-use catalog::catalogue::Catalog;
 use meaning::schema::Schema;
 use reader::fault::ReadFault;
 use shell::mode::Mode;
-use shell::nearest::nearest;
-use std::alloc::{AllocError, Global};
+use std::alloc::Global;
 use std::io::{Read, Write};
 use terms::memory::Memory;
 
@@ -31,12 +33,15 @@ const HELP: &str =
 .help               this text
 .tables             the relations
 .schema [RELATION]  their columns
-.leaves [RELATION]  their fragments, with sites, columns and conditions
+.leaves [RELATION]  their fragments, with sites, columns, conditions and rows
 .show RELATION      the rows of a relation, rebuilt
 .leaf LEAF          the rows of a fragment
 .plan STATEMENT     which fragments a statement reads; EXPLAIN tells it too
 .dump [RELATION]    statements that make the rows of relations anew
 .read FILE          answers the lines of a script
+.import FILE RELATION [ROWS]
+                    inserts the rows of a CSV file, so many in a transaction
+.stats              what this session has done, and what that cost
 .timer on|off       tells how long each answer takes
 .mode MODE          shows answers in tabs, columns, csv or json
 .quit               the end, as Ctrl-D
@@ -50,6 +55,8 @@ pub struct State {
     pub mode: Mode,
     /// Whether it is told how long answers take.
     pub is_timed: bool,
+    /// What was stated so far.
+    pub stats: Stats,
     /// The lines of a statement that isn't whole.
     pub typed: String,
 }
@@ -64,6 +71,7 @@ impl State {
         State {
             mode,
             is_timed: false,
+            stats: Stats::none(),
             typed: String::new(alloc),
         }
     }
@@ -128,8 +136,8 @@ fn take_known<'a, B: Database, K: OpensText<T>, T: Read + Drop, W: Write, E: Wri
     ensures err { IfErr result IsOfRun }
 {
     match word {
-        Word::Help | Word::Tables | Word::Quit => {
-            take_lone(alloc, database, word, rest, output, errors)
+        Word::Help | Word::Tables | Word::Stats | Word::Quit => {
+            take_lone(alloc, database, state, word, rest, output, errors)
         }
         Word::Schema | Word::Leaves => take_listing(alloc, database, word, rest, output, errors),
         Word::Show | Word::Leaf | Word::Dump => {
@@ -137,6 +145,7 @@ fn take_known<'a, B: Database, K: OpensText<T>, T: Read + Drop, W: Write, E: Wri
         }
         Word::Plan => take_plan(alloc, database, rest, output, errors),
         Word::Read => take_file(alloc, host, state.mode, database, rest, output, errors),
+        Word::Import => take_rows_of(alloc, host, database, rest, output, errors),
         Word::Timer | Word::Mode => {
             if !set(state, word, rest) {
                 tell_wanted(alloc, word, errors)?;
@@ -150,6 +159,7 @@ fn take_known<'a, B: Database, K: OpensText<T>, T: Read + Drop, W: Write, E: Wri
 fn take_lone<'a, B: Database, W: Write, E: Write>(
     alloc: Global,
     database: &mut B,
+    state: &State,
     word: Word,
     rest: &str,
     output: &mut W,
@@ -169,6 +179,11 @@ fn take_lone<'a, B: Database, W: Write, E: Write>(
             write_text(output, text.as_str())?;
             Ok(Turn::GoesOn)
         }
+        Word::Stats => {
+            let text = stats_text(alloc, state.stats, database.traffic())?;
+            write_text(output, text.as_str())?;
+            Ok(Turn::GoesOn)
+        }
         _ => {
             write_text(output, HELP)?;
             Ok(Turn::GoesOn)
@@ -176,7 +191,7 @@ fn take_lone<'a, B: Database, W: Write, E: Write>(
     }
 }
 
-/// Lists columns or leaves, of each relation or of the one of this name.
+/// Lists columns, or leaves with their rows, of each relation or of the one of this name.
 fn take_listing<'a, B: Database, W: Write, E: Write>(
     alloc: Global,
     database: &mut B,
@@ -192,22 +207,35 @@ fn take_listing<'a, B: Database, W: Write, E: Write>(
         tell_wanted(alloc, word, errors)?;
         return Ok(Turn::GoesOn);
     }
-    let text = listing(alloc, database.catalog(), word, asked)?;
-    if text.is_empty() {
+    if !asked.is_empty()
+        && database
+            .catalog()
+            .schema()
+            .relation(asked.as_bytes())
+            .is_none()
+    {
         tell_no_relation(alloc, database.catalog(), asked, errors)?;
+        return Ok(Turn::GoesOn);
     }
-    write_text(output, text.as_str())?;
-    Ok(Turn::GoesOn)
+    match word {
+        Word::Leaves => take_leaves(alloc, database, asked, output),
+        _ => take_schema(alloc, database, asked, output),
+    }
 }
 
-/// The columns of relations, or their leaves.
-fn listing(alloc: Global, catalog: &Catalog, word: Word, asked: &str) -> Result<String, Memory>
-    ensures { IfOk result (λ text. IsAsideOf (catalogue_of catalog.now) (string_bytes text)) }
+/// Lists columns.
+fn take_schema<'a, B: Database, W: Write>(
+    alloc: Global,
+    database: &mut B,
+    asked: &str,
+    output: &mut W,
+) -> Result<Turn, ProgramFault<'a>>
+    ensures ok { OnOk result (Talks B.seen (W.contents output.old) (W.contents output.new) database.old database.new) }
+    ensures err { IfErr result IsOfRun }
 {
-    match word {
-        Word::Leaves => leaves_text(alloc, catalog, asked),
-        _ => schema_text(alloc, catalog, asked),
-    }
+    let text = schema_text(alloc, database.catalog(), asked)?;
+    write_text(output, text.as_str())?;
+    Ok(Turn::GoesOn)
 }
 
 /// Shows or writes the rows of what is named; where no name is given, writes those of each relation.
@@ -278,6 +306,25 @@ fn take_file<'a, B: Database, K: OpensText<T>, T: Read + Drop, W: Write, E: Writ
     take_script(alloc, host, mode, database, name, output, errors)
 }
 
+/// Inserts the rows of the file that is named, where one is, and a relation.
+fn take_rows_of<'a, B: Database, K: OpensText<T>, T: Read + Drop, W: Write, E: Write>(
+    alloc: Global,
+    host: &K,
+    database: &mut B,
+    rest: &str,
+    output: &mut W,
+    errors: &mut E,
+) -> Result<Turn, ProgramFault<'a>>
+    ensures ok { OnOk result (Talks B.seen (W.contents output.old) (W.contents output.new) database.old database.new) }
+    ensures err { IfErr result IsOfRun }
+{
+    let Some(asked) = Asked::read(rest) else {
+        tell_wanted(alloc, Word::Import, errors)?;
+        return Ok(Turn::GoesOn);
+    };
+    take_import(alloc, host, database, asked, output, errors)
+}
+
 /// Shows what is named, where a name is given.
 fn take_named<'a, B: Database, W: Write, E: Write>(
     alloc: Global,
@@ -300,19 +347,20 @@ fn take_named<'a, B: Database, W: Write, E: Write>(
     Ok(Turn::Answered)
 }
 
-/// Answers one thing that is asked for.
+/// Answers one thing that is asked for, and says whether it was refused.
 pub fn take_item<'a, B: Database, W: Write>(
     alloc: Global,
     mode: Mode,
     database: &mut B,
     item: Item<'_>,
     output: &mut W,
-) -> Result<(), ProgramFault<'a>>
+) -> Result<bool, ProgramFault<'a>>
     ensures ok { OnOk result (Talks B.seen (W.contents output.old) (W.contents output.new) database.old database.new) }
     ensures err { IfErr result IsOfRun }
 {
     let reply = database.answer(alloc, mode, item)?;
-    write_text(output, reply.text())
+    write_text(output, reply.text())?;
+    Ok(reply.is_refusal())
 }
 
 /// Shows which leaves a statement reads.
@@ -383,64 +431,6 @@ fn set(state: &mut State, word: Word, rest: &str) -> bool {
         }
         _ => false,
     }
-}
-
-/// How a word is to be typed.
-fn usage_of(word: Word) -> &'static str {
-    match word {
-        Word::Help => ".help",
-        Word::Tables => ".tables",
-        Word::Schema => ".schema [RELATION]",
-        Word::Leaves => ".leaves [RELATION]",
-        Word::Show => ".show RELATION",
-        Word::Leaf => ".leaf LEAF",
-        Word::Plan => ".plan STATEMENT",
-        Word::Dump => ".dump [RELATION]",
-        Word::Read => ".read FILE",
-        Word::Timer => ".timer on|off",
-        Word::Mode => ".mode tabs|columns|csv|json",
-        Word::Quit => ".quit",
-    }
-}
-
-/// Tells how a word is to be typed.
-fn tell_wanted<E: Write>(alloc: Global, word: Word, errors: &mut E) -> Result<(), AllocError> {
-    let text = format!(in alloc; "wanted: {}\n", usage_of(word))?;
-    tell(errors, text.as_str());
-    Ok(())
-}
-
-/// Tells that the shell has no such word, and which one was likely meant.
-fn tell_unknown<E: Write>(alloc: Global, line: &str, errors: &mut E) -> Result<(), AllocError> {
-    let word = match line.split_once(' ') {
-        Some((front, _)) => front,
-        None => line,
-    };
-    let text = match nearest(alloc, word, &WORDS)? {
-        Some(name) => format!(in alloc; "no command {word}; did you mean {name}?\n")?,
-        None => format!(in alloc; "no command {word}; .help lists them\n")?,
-    };
-    tell(errors, text.as_str());
-    Ok(())
-}
-
-/// Tells that there is no such relation, and which one was likely meant.
-fn tell_no_relation<E: Write>(
-    alloc: Global,
-    catalog: &Catalog,
-    asked: &str,
-    errors: &mut E,
-) -> Result<(), AllocError> {
-    let mut names = Vec::new(alloc);
-    for relation in catalog.schema().relations.as_slice() {
-        names.push(relation.name.as_str())?;
-    }
-    let text = match nearest(alloc, asked, names.as_slice())? {
-        Some(name) => format!(in alloc; "no relation {asked}; did you mean {name}?\n")?,
-        None => format!(in alloc; "no relation {asked}; .tables lists them\n")?,
-    };
-    tell(errors, text.as_str());
-    Ok(())
 }
 
 /// Tells what was wrong with a line. Where the standard error is closed nobody can be told; so nothing is claimed of what

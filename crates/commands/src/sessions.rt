@@ -1,13 +1,13 @@
 //! The sessions of a script, run over the files and the stores that the command line names.
 
-use lines::built_in::{BUILT_IN, BUILT_IN_NAME};
 use crate::conversation::Manner;
 use crate::opener::{Folder, InMemory, Lists};
-use lines::outcome::{Status, exit};
 use crate::progress::{Progress, Unwatched, Watches};
 use crate::run::run_files;
 use crate::sql_stores::{Files, OpensFiles};
 use crate::store_opener::OpensStores;
+use lines::built_in::{BUILT_IN, BUILT_IN_NAME};
+use lines::outcome::{Status, exit};
 use lines::usage::{Sessions, Stores};
 use sqlite::Alter;
 use std::io::{IsTerminal, Read, Write};

@@ -10,14 +10,14 @@ ghost use Rattle.commands.specs.Schedule.{LeavesWorld, stage_of, world_over};
 ghost use Rattle.commands.specs.Shown as spec;
 ghost use Rattle.commands.specs.Shown.{IsShownLeaf, IsShownParts, IsShownRelation, ShowsOf, failed_text, names_text, no_leaf_text, written_leaf};
 
-use lines::cast::Cast;
-use lines::check::columns_of;
-use lines::play_text::{column_names, leaf_columns};
 use crate::schedule::{Schedule, refusal};
 use catalog::catalogue::Catalog;
 use catalog::fragment_leaf::FragmentLeaf;
 use desk::refusal::Refusal;
 use exchange::dump::dump;
+use lines::cast::Cast;
+use lines::check::{columns_of, put_leaf_alone};
+use lines::play_text::{column_names, leaf_columns};
 use meaning::answer::Answer;
 use shell::mode::{Mode, show, show_line};
 use site::fault::SiteFault;
@@ -124,6 +124,42 @@ pub fn parts_text(
         }
         None => no_leaf(alloc, mode, name),
     }
+}
+
+/// This leaf in a line, with how many rows it has, if there is one; `name` is what it is called where there is none.
+pub fn parts_counted(
+    alloc: Global,
+    mode: Mode,
+    catalog: &Catalog,
+    leaf: &Leaf,
+    name: &str,
+    found: Option<Vec<Part>>,
+) -> Result<String, Memory>
+    ensures { IfOk result (λ text. string_bytes text ≡ spec.counted_text mode (catalogue_of catalog.now) name.now leaf.now (option_map (λ parts. parts.items) found)) }
+{
+    let Some(parts) = found else {
+        return no_leaf(alloc, mode, name);
+    };
+    match catalog.leaf(leaf) {
+        Some(fragment) => counted_line(alloc, catalog, fragment, parts.len()),
+        None => no_leaf(alloc, mode, name),
+    }
+}
+
+/// A leaf in a line, with how many rows it has.
+fn counted_line(
+    alloc: Global,
+    catalog: &Catalog,
+    leaf: &FragmentLeaf,
+    count: usize,
+) -> Result<String, Memory>
+    ensures { IfOk result (λ text. string_bytes text ≡ spec.counted_line (catalogue_of catalog.now) leaf.now count) }
+{
+    let mut text = String::new(alloc);
+    put_leaf_alone(&mut text, catalog.sites(), catalog.schema(), leaf)?;
+    let noun = if count == 1 { " row\n" } else { " rows\n" };
+    write!(text, ": {count}{noun}")?;
+    Ok(text)
 }
 
 /// What is told where a store fails while this is shown, for another reason than memory.

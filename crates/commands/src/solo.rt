@@ -6,13 +6,13 @@ ghost use Rattle.catalog.specs.Relation.{catalogue_of};
 ghost use Rattle.lines.specs.Script.{task_of};
 ghost use Rattle.commands.specs.Solo.{IsOfRead, IsOfRun, IsRun, IsUnrun, RunsFiles, RunsOrStops, RunsScript, Stretches, longest};
 
-use lines::catalog_file::{CatalogFault, read_catalog};
 use crate::database::Database;
+use crate::opener::Opens;
+use catalog::catalogue::Catalog;
+use lines::catalog_file::{CatalogFault, read_catalog};
 use lines::fault::ProgramFault;
 use lines::input::read_up_to;
-use crate::opener::Opens;
 use lines::script::{Item, items};
-use catalog::catalogue::Catalog;
 use shell::mode::Mode;
 use std::alloc::Global;
 use std::io;

@@ -6,10 +6,10 @@ ghost use Rattle.commands.specs.Client.{IsOfClient};
 ghost use Rattle.catalog.specs.FragmentLeaf.{catalogue_leaves, names_at};
 ghost use Rattle.commands.specs.SqlStores.{AreNewSites, AreOfLeaves, IsNewDesk, IsNewSite};
 
-use lines::fault::ProgramFault;
 use crate::folder::Standing;
 use crate::found::{SiteFound, decided, site_found};
 use catalog::catalogue::Catalog;
+use lines::fault::ProgramFault;
 use sqlite::{Alter, Connection, Error, ErrorCode, File, FileStore, MemStore};
 use sqlstore::desk::SqlDesk;
 use sqlstore::site::SqlSite;

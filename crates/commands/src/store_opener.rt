@@ -6,11 +6,11 @@ ghost use Rattle.wire.specs.Opening.{HaveLeaves};
 ghost use Rattle.commands.specs.Client.{IsOfClient};
 
 use crate::database::Database;
-use lines::fault::ProgramFault;
 use crate::folder::Standing;
 use crate::opener::{Folder, InMemory, Lists, Opens, open_files};
 use crate::sql_stores::{OpenStores, OpensFiles, memory_desk, memory_sites};
 use catalog::catalogue::Catalog;
+use lines::fault::ProgramFault;
 use sqlite::{Alter, MemStore};
 use sqlstore::desk::SqlDesk;
 use sqlstore::site::SqlSite;

@@ -1,8 +1,8 @@
 //! The command `suggest`, over the file that the command line names. What files hold no contract can say; over readers and writers
 //! `suggest_file` says what is done.
 
-use lines::outcome::{Outcome, Status, exit};
 use crate::suggest_file::{relation_of, suggest_file};
+use lines::outcome::{Outcome, Status, exit};
 use lines::transfer::Suggest;
 use std::io::{Read, Write};
 use std::{fs, io};

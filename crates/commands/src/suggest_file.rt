@@ -3,13 +3,13 @@
 ghost use Rattle.std.specs.Prelude.{◌≡◌, false, IfOk};
 ghost use Rattle.commands.specs.SuggestFile.{HasSuggested};
 
-use lines::fault::ProgramFault;
 use crate::session_word::tell;
-use lines::written::write_text;
 use exchange::line_fault::LineWhat;
 use exchange::suggest_fault::SuggestFault;
 use exchange::suggestion::suggest;
 use exchange::tell::tell_suggestion;
+use lines::fault::ProgramFault;
+use lines::written::write_text;
 use std::alloc::Global;
 use std::io;
 use std::io::{Read, Write};

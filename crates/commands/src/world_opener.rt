@@ -8,10 +8,10 @@ ghost use Rattle.store.specs.declared.fault.StoreFault.{StoreFault as StoreFault
 ghost use Rattle.commands.specs.Schedule.{world_over};
 ghost use Rattle.commands.specs.WorldOpener.{IsOpenedOver, StopsOpening};
 
-use lines::fault::ProgramFault;
 use crate::opener::{InMemory, Lists, unopened};
 use crate::sql_stores::{memory_desk, memory_sites};
 use catalog::catalogue::Catalog;
+use lines::fault::ProgramFault;
 use meaning::whole::Whole;
 use sqlite::MemStore;
 use sqlstore::desk::SqlDesk;

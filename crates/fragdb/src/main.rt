@@ -7,23 +7,22 @@
 //! `perform::perform`: what is written and what comes of each request.
 #![tactic(auto)]
 
-
-use lines::built_in::{BUILT_IN, BUILT_IN_NAME};
 use commands::database::Database;
 use commands::dump_command::do_dump;
-use lines::explaining::explain_outcome;
-use lines::fault::ProgramFault;
 use commands::folder_told::tell_folder;
 use commands::import_command::do_import;
 use commands::opener::{Folder, InMemory, Lists, Opens};
-use lines::outcome::{Outcome, Status, exit};
 use commands::perform::{perform, perform_session};
 use commands::sessions::do_run;
 use commands::solo::SCRIPT_LIMIT;
 use commands::sql_stores::{Files, OpensFiles};
 use commands::suggest_command::do_suggest;
-use lines::usage::{Asked, Request, Stores, read_words, show_usage, unreadable_words};
 use commands::world_opener::OpensWorld;
+use lines::built_in::{BUILT_IN, BUILT_IN_NAME};
+use lines::explaining::explain_outcome;
+use lines::fault::ProgramFault;
+use lines::outcome::{Outcome, Status, exit};
+use lines::usage::{Asked, Request, Stores, read_words, show_usage, unreadable_words};
 use sqlite::Alter;
 use std::alloc::Global;
 use std::io::{BufWriter, IsTerminal, Read, Write};

@@ -20,10 +20,14 @@ said (Some bytes) as_tree file old new catalogue text (Err (Refused fault)) of v
 said (Some bytes) as_tree file old new catalogue text (Err (Program fault)) of valid is written (inl memory) = (inl (inl memory), λ none. absurd (none catalogue of valid))
 said (Some bytes) as_tree file old new catalogue text (Err (Program fault)) of valid is written (inr closed) = (inr closed, λ none. absurd (none catalogue of valid))
 
--- a line in its parts, and the marks between them
-pub line_of : (old name site columns conds blank opening close feed a b c d e f all : List ℕ) → a ≡ old ++ (name ++ blank) → b ≡ a ++ site → c ≡ b ++ opening → d ≡ c ++ columns → e ≡ d ++ close → f ≡ e ++ conds → all ≡ f ++ feed →
-    all ≡ old ++ ((name ++ (blank ++ site) ++ opening ++ columns ++ close ++ conds) ++ feed)
-line_of old name site columns conds blank opening close feed a b c d e f all is_a is_b is_c is_d is_e is_f is_all = rw (is_all, is_f, is_e, is_d, is_c, is_b, is_a) (simp append_assoc refl)
+-- what is told in its parts, and the marks between them
+pub told_of : (old name site columns conds blank opening close a b c d e all : List ℕ) → a ≡ old ++ (name ++ blank) → b ≡ a ++ site → c ≡ b ++ opening → d ≡ c ++ columns → e ≡ d ++ close → all ≡ e ++ conds →
+    all ≡ old ++ (name ++ (blank ++ site) ++ opening ++ columns ++ close ++ conds)
+told_of old name site columns conds blank opening close a b c d e all is_a is_b is_c is_d is_e is_all = rw (is_all, is_e, is_d, is_c, is_b, is_a) (simp append_assoc refl)
+
+-- in a line of its own
+pub line_of : (old told feed now all : List ℕ) → now ≡ old ++ told → all ≡ now ++ feed → all ≡ old ++ (told ++ feed)
+line_of old told feed now all is_now is_all = rw (is_all, is_now) (append_assoc old told feed)
 
 grouped : (a s b r c l d e : List ℕ) → a ++ (s ++ (b ++ (r ++ (c ++ (l ++ (d ++ e)))))) ≡ a ++ s ++ b ++ r ++ c ++ l ++ d ++ e
 grouped a s b r c l d e = simp append_assoc refl

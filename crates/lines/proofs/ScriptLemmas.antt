@@ -9,7 +9,7 @@ use Rattle.std.proofs.lemmas.List.FromFn.{length-enumerate_from}
 use Rattle.std.proofs.lemmas.Str.{IsUtf8-from_is_utf8, is_utf8-from_IsUtf8}
 use Rattle.std.proofs.lemmas.Str.Pattern.{starts_text}
 use Rattle.lines.specs.declared.script.Item.{Item}
-use Rattle.lines.specs.declared.script.Item.TheVariants.{Statement, Show, Leaf, Dump}
+use Rattle.lines.specs.declared.script.Item.TheVariants.{Statement, Show, Leaf, Dump, Count}
 use Rattle.reader.specs.declared.class.Class.TheVariants.{Blank}
 use Rattle.reader.specs.Class.{is_in}
 use Rattle.lines.specs.Script.{Reading, Nothing, Runs, Unreadable, argument_of, first_unreadable, first_unreadable_from, is_unreadable, is_word, reading_of, reading_of_command, reading_of_text, task_of, tasks_of, tasks_of_lines}
@@ -143,9 +143,11 @@ tasks_of-item (Statement text) = refl
 tasks_of-item (Show name) = refl
 tasks_of-item (Leaf name) = refl
 tasks_of-item (Dump name) = refl
+tasks_of-item (Count name) = refl
 
 pub is_unreadable-item : (item : Item) → is_unreadable (task_of item) ≡ false
 is_unreadable-item (Statement text) = refl
 is_unreadable-item (Show name) = refl
 is_unreadable-item (Leaf name) = refl
 is_unreadable-item (Dump name) = refl
+is_unreadable-item (Count name) = refl

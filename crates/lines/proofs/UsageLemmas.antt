@@ -1,5 +1,5 @@
 -- Lemmas on the words of the command line.
-use Rattle.std.proofs.Common.{◌≡◌, ℕ, Bool, Box, Global, List, [], ◌∷◌, inl, inr, Option, Some, None, codes, refl, sym, ◌∙◌, option_map, ap, ap₂, subst, Result, Ok, Err, IfOk, IfErr, IsErrAnd}
+use Rattle.std.proofs.Common.{◌≡◌, ℕ, Bool, Box, Global, List, [], ◌∷◌, inl, inr, Option, Some, None, codes, refl, sym, ◌∙◌, option_map, ap, ap₂, subst, Result, Ok, Err, IfOk, IfErr, IsErrAnd, true, is_none}
 use Rattle.clap.specs.Words.{Row, Text, first_of, rows_of, subcommand_name_of, subcommand_of, subcommand_rows, subcommand_rows_of}
 use Rattle.clap.specs.Matches.{first_value}
 use Rattle.clap.specs.declared.parser.matches.Found.{Found}
@@ -18,7 +18,8 @@ use Rattle.clap.specs.declared.error.kind.ErrorKind.TheVariants.{ArgumentConflic
 use Rattle.clap.specs.declared.error.Error.{Error}
 use Rattle.clap.specs.Words.{kind_of}
 use Rattle.shell.specs.declared.mode.Mode.{Mode}
-use Rattle.lines.specs.Usage.{Asks, AsksImport, AsksSessions, AsksSuggest, IsGiven, IsNoCount, no_count, no_memory_for_it, IsMisuse, IsNoNumber, mode_of_flags, no_memory, no_memory_left, no_number, no_script, two_modes, asked, asked_dump, asked_import, asked_sessions, asked_suggest, every_of, retry_of, sites_of, flags_of, is_interactive, is_set, script_of}
+use Rattle.shell.specs.declared.mode.Mode.TheVariants.{Tabs}
+use Rattle.lines.specs.Usage.{Asks, AsksDump, flags_of_mode, AsksImport, AsksSessions, AsksSuggest, IsGiven, IsNoCount, no_count, no_memory_for_it, IsMisuse, IsNoNumber, mode_of_flags, no_memory, no_memory_left, no_number, no_script, two_modes, asked, asked_dump, asked_import, asked_sessions, asked_suggest, every_of, retry_of, sites_of, flags_of, is_interactive, is_set, script_of}
 use Rattle.lines.specs.Grammar.{usage}
 
 pub subcommand_name_of-rows : (m : ArgMatches) → subcommand_name_of m ≡ option_map (λ p. p.0) (subcommand_rows_of m)
@@ -108,10 +109,15 @@ sessions_asked words entered found script e n r s sessions a sqlite retry =
 
 -- what `dump` asks for, where its arguments were found so
 pub dump_asked : (words : List Text) (entered : Option (Text × List Row)) (found : Found) → entered ≡ subcommand_of usage words → Some (codes "dump") ≡ option_map (λ p. p.0) entered → Some (rows_of found) ≡ option_map (λ p. p.1) entered → (dump : Dump) →
-    option_map (λ file. file.now) dump.catalog ≡ first_value found (codes "CATALOG") → option_map (λ name. name.now) dump.relation ≡ first_value found (codes "RELATION") → option_map (λ folder. folder.now) dump.dir ≡ first_value found (codes "DIR") → IsGiven words (asked_dump dump) []
-dump_asked words entered found e n r dump catalog relation dir =
-    let row_of : (name : Text) (value : Option Text) → value ≡ first_value found name → first_of name (rows_of found) ≡ value = λ name value is. sym (is ∙ first_value-rows found name) in
-    record { rows = rows_of found; command = command_is words entered (codes "dump") (rows_of found) e n r; arguments = (row_of (codes "CATALOG") _ catalog, (row_of (codes "RELATION") _ relation, (row_of (codes "DIR") _ dir, tt))); set = tt }
+    asked_dump dump ≡ (codes "dump", (codes "CATALOG", first_value found (codes "CATALOG")) ∷ (codes "RELATION", first_value found (codes "RELATION")) ∷ (codes "DIR", first_value found (codes "DIR")) ∷ []) →
+    AllByRecursion (λ flag. is_set (first_value found flag.0) ≡ flag.1) (flags_of_mode dump.mode) → (is_none dump.relation ≡ true → dump.mode ≡ Tabs) → AsksDump words dump
+dump_asked words entered found e n r dump a flags named =
+    let rows = rows_of found in
+    let row_of : (name : Text) → first_of name rows ≡ first_value found name = λ name. sym (first_value-rows found name) in
+    let arguments : AllByRecursion (λ argument. first_of argument.0 rows ≡ argument.1) (asked_dump dump).1 =
+    subst (λ (request : Text × List (Text × Option Text)). AllByRecursion (λ argument. first_of argument.0 rows ≡ argument.1) request.1) (sym a) (row_of (codes "CATALOG"), (row_of (codes "RELATION"), (row_of (codes "DIR"), tt))) in
+    let set : AllByRecursion (λ flag. is_set (first_of flag.0 rows) ≡ flag.1) (flags_of_mode dump.mode) = (ap is_set (row_of (codes "COLUMNS")) ∙ flags.0, (ap is_set (row_of (codes "CSV")) ∙ flags.1.0, (ap is_set (row_of (codes "JSON")) ∙ flags.1.1.0, tt))) in
+    record { given = record { rows = rows; command = command_is words entered (codes "dump") rows e n r; arguments = arguments; set = set }; named = named }
 
 -- what `import` asks for, where its arguments were found so
 pub import_asked : (words : List Text) (entered : Option (Text × List Row)) (found : Found) (relation file : Text) → entered ≡ subcommand_of usage words → Some (codes "import") ≡ option_map (λ p. p.0) entered → Some (rows_of found) ≡ option_map (λ p. p.1) entered → Some relation ≡ first_value found (codes "RELATION") → Some file ≡ first_value found (codes "FILE") → (import : Import) →

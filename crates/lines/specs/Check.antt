@@ -26,9 +26,13 @@ leaf_over sites names leaf =
     ++ codes " (" ++ separated_bytes (name_in names) (codes ", ") leaf.columns ++ codes ")"
     ++ where_text names leaf.conds
 
--- the same in a line of its own
+-- the same of a leaf of these relations
+abbrev pub leaf_told : List (List ℕ) → List RelationSchema → FragmentLeaf → List ℕ
+leaf_told sites relations leaf = leaf_over sites (names_of_columns (columns_of relations leaf.name.relation)) leaf
+
+-- in a line of its own
 abbrev pub leaf_line : List (List ℕ) → List RelationSchema → FragmentLeaf → List ℕ
-leaf_line sites relations leaf = leaf_over sites (names_of_columns (columns_of relations leaf.name.relation)) leaf ++ 10 ∷ []
+leaf_line sites relations leaf = leaf_told sites relations leaf ++ 10 ∷ []
 
 -- how much a catalogue has
 abbrev pub counts_text : ℕ → ℕ → ℕ → List ℕ

@@ -6,12 +6,13 @@ use Rattle.lines.specs.Cut.{cut}
 use Rattle.lines.specs.declared.dot.Word.{Word}
 use Rattle.lines.specs.declared.dot.Word.TheVariants as word
 
--- the words that answer a file's lines, or write what makes one
+-- the words that answer a file's lines, insert its rows, or write what makes one
 abbrev pub filing_word : List ℕ → Option Word
 filing_word text =
     if bytes_eq text (codes ".dump") then Some word.Dump
     else (if bytes_eq text (codes ".read") then Some word.Read
-    else None)
+    else (if bytes_eq text (codes ".import") then Some word.Import
+    else None))
 
 -- the words that show something by its name, or a plan
 abbrev pub showing_word : List ℕ → Option Word
@@ -27,7 +28,8 @@ telling_word text =
     if bytes_eq text (codes ".tables") then Some word.Tables
     else (if bytes_eq text (codes ".schema") then Some word.Schema
     else (if bytes_eq text (codes ".leaves") then Some word.Leaves
-    else showing_word text))
+    else (if bytes_eq text (codes ".stats") then Some word.Stats
+    else showing_word text)))
 
 -- each word
 abbrev pub word_of : List ℕ → Option Word

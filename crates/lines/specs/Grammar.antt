@@ -101,7 +101,7 @@ program = record {
 abbrev pub usage : App
 usage =
     with_subcommand (with_subcommand (with_subcommand (with_subcommand (with_subcommand (with_subcommand (with_subcommand (with_subcommand program (stored (shown (held (explained (of_any_script (codes "solo")))))).top) (treed (explained (command_with (codes "check") (codes "CATALOG")))).top)
-    (treed (command_with_two (codes "plan") (codes "CATALOG") (codes "STATEMENT"))).top) (in_sqlite (of_script (codes "play"))).top) (retried (stored (of_script (codes "run")))).top) (in_folder (of_relation (codes "dump"))).top) (counted (in_folder (of_file (codes "import")))).top) suggesting.top
+    (treed (command_with_two (codes "plan") (codes "CATALOG") (codes "STATEMENT"))).top) (in_sqlite (of_script (codes "play"))).top) (retried (stored (of_script (codes "run")))).top) (shown (in_folder (of_relation (codes "dump")))).top) (counted (in_folder (of_file (codes "import")))).top) suggesting.top
 
 -- an argument of this rule, of its own command alone
 pub record IsRule (rule : Rule) (arg : Arg) : Type 0 where

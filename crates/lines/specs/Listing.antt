@@ -1,8 +1,7 @@
 -- What is told of a catalogue to a person who asks.
 use Rattle.std.specs.Prelude.{ℕ, ◌==◌, ◌||◌, Bool, List, [], ◌∷◌, ◌++◌, if◌then◌else◌, bytes_eq, flat_map, length}
 use Rattle.catalog.specs.Catalogue.{Catalogue}
-use Rattle.catalog.specs.FragmentLeaf.{catalogue_leaves, schemas_of}
-use Rattle.lines.specs.Check.{leaf_line}
+use Rattle.catalog.specs.FragmentLeaf.{schemas_of}
 pub use Rattle.lines.specs.SchemaLine.{column_text, schema_line}
 
 -- the name of each relation in a line
@@ -20,7 +19,3 @@ where_asked asked text = if asked then text else []
 -- the relations that are asked for, each in a line
 abbrev pub schema_text : Catalogue → List ℕ → List ℕ
 schema_text catalogue asked = flat_map (λ relation. where_asked (is_asked asked relation.name) (schema_line relation)) (schemas_of catalogue)
-
--- the leaves of the relations that are asked for, each in a line
-abbrev pub leaves_text : Catalogue → List ℕ → List ℕ
-leaves_text catalogue asked = flat_map (λ leaf. where_asked (is_asked asked leaf.name.relation) (leaf_line catalogue.sites (schemas_of catalogue) leaf)) (catalogue_leaves catalogue)

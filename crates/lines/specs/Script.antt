@@ -5,17 +5,18 @@ use Rattle.std.specs.Str.{is_utf8}
 use Rattle.reader.specs.declared.class.Class.TheVariants.{Blank}
 use Rattle.reader.specs.Class.{is_in}
 use Rattle.lines.specs.declared.script.Item.{Item}
-use Rattle.lines.specs.declared.script.Item.TheVariants.{Statement, Show, Leaf, Dump}
+use Rattle.lines.specs.declared.script.Item.TheVariants.{Statement, Show, Leaf, Dump, Count}
 use Rattle.lines.specs.declared.script.Line.{Line}
 use Rattle.lines.specs.declared.script.Line.TheVariants.{PassedOver, Asks, Malformed}
 
--- what is asked for: nothing, to execute a command, to show a relation or a leaf, or to write a relation as statements; or nothing that can be read
+-- what is asked for: nothing, to execute a command, to show a relation or a leaf, to write a relation as statements, or to tell of a leaf and how many rows it has; or nothing that can be read
 pub data Reading : Type 0 where
   Nothing : Reading
   Runs : (command : List ℕ) → Reading
   ShowsRelation : (name : List ℕ) → Reading
   ShowsLeaf : (name : List ℕ) → Reading
   DumpsRelation : (name : List ℕ) → Reading
+  CountsLeaf : (name : List ℕ) → Reading
   Unreadable : Reading
 
 -- a line ends at its line feed, which is no part of it; what follows the last line feed is a line too
@@ -62,6 +63,7 @@ tasks_of (Runs statement) = Runs statement ∷ []
 tasks_of (ShowsRelation name) = ShowsRelation name ∷ []
 tasks_of (ShowsLeaf name) = ShowsLeaf name ∷ []
 tasks_of (DumpsRelation name) = DumpsRelation name ∷ []
+tasks_of (CountsLeaf name) = CountsLeaf name ∷ []
 tasks_of _ = []
 
 -- what there is to do, in the order of the lines
@@ -84,6 +86,7 @@ task_of (Statement text) = Runs text.now
 task_of (Show name) = ShowsRelation name.now
 task_of (Leaf name) = ShowsLeaf name.now
 task_of (Dump name) = DumpsRelation name.now
+task_of (Count name) = CountsLeaf name.now
 
 -- what a line that was read stands for
 abbrev pub reading_of_line : Line → Reading

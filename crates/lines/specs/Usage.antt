@@ -1,5 +1,5 @@
 -- What the words of the command line ask for.
-use Rattle.std.specs.Prelude.{◌≡◌, ◌⊎◌, ℕ, Bool, true, false, List, [], ◌∷◌, Option, Some, None, bytes_eq, codes, if◌then◌else◌, nat_le, option_map, ◌&&◌}
+use Rattle.std.specs.Prelude.{◌≡◌, ◌⊎◌, ℕ, Bool, true, false, is_none, List, [], ◌∷◌, Option, Some, None, bytes_eq, codes, if◌then◌else◌, nat_le, option_map, ◌&&◌}
 use Rattle.std.specs.Option.{option_and_then}
 use Rattle.std.specs.Borrow.{Bor}
 use Rattle.std.specs.List.{AllByRecursion}
@@ -141,9 +141,18 @@ pub data IsNoNumber (found : Found) : ErrorKind → Type 0 where
   no_number : retry_of (first_value found (codes "N")) ≡ None → IsNoNumber found InvalidValue
   no_memory_left : IsNoNumber found OutOfMemory
 
+-- the flags that ask for a way to show rows, each with whether it is set
+abbrev pub flags_of_mode : Mode → List (Text × Bool)
+flags_of_mode mode = (codes "COLUMNS", is_columns mode) ∷ (codes "CSV", is_csv mode) ∷ (codes "JSON", is_json mode) ∷ []
+
 -- a dump in words: the command, and its arguments, each with its name
 abbrev pub asked_dump : Dump → Text × List (Text × Option Text)
 asked_dump dump = (codes "dump", (codes "CATALOG", option_map (λ file. file.now) dump.catalog) ∷ (codes "RELATION", option_map (λ name. name.now) dump.relation) ∷ (codes "DIR", option_map (λ folder. folder.now) dump.dir) ∷ [])
+
+-- the words ask for a dump: rows are shown of one relation alone
+pub record AsksDump (words : List Text) (dump : Dump) : Type 0 where
+  pub given : IsGiven words (asked_dump dump) (flags_of_mode dump.mode)
+  pub named : is_none dump.relation ≡ true → dump.mode ≡ Tabs
 
 -- how many rows a transaction has, by the word for it: a number from 1 to a million; all, where there is no word
 abbrev pub every_of : Option Text → Option (Option ℕ)
@@ -185,7 +194,7 @@ abbrev pub AsksFor : List Text → Bool → Asked → Type 0
 AsksFor words at_terminal (ToSuggest suggest) = AsksSuggest words suggest
 AsksFor words at_terminal (ToImport import) = AsksImport words import
 AsksFor words at_terminal (Alone request) = Asks words at_terminal request
-AsksFor words at_terminal (ToDump dump) = IsGiven words (asked_dump dump) []
+AsksFor words at_terminal (ToDump dump) = AsksDump words dump
 AsksFor words at_terminal (OfSessions sessions) = AsksSessions words sessions
 
 -- what no word asks for: `solo -`, and none of its flags

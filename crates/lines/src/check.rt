@@ -6,7 +6,7 @@ ghost use Rattle.catalog.specs.Relation.{catalogue_of};
 ghost use Rattle.reader.specs.PrintStatement.{separated_bytes};
 ghost use Rattle.reader.specs.Written.{name_in};
 ghost use Rattle.lines.specs.Check as spec;
-ghost use Rattle.lines.specs.Check.{ChecksFile, IsWriteFault, accepted_line, leaf_line, leaf_lines, names_of_columns, where_text};
+ghost use Rattle.lines.specs.Check.{ChecksFile, IsWriteFault, accepted_line, leaf_line, leaf_lines, leaf_told, names_of_columns, where_text};
 
 use crate::catalog_file::{CatalogFault, read_catalog};
 use crate::fragment_tree::put_trees;
@@ -82,7 +82,7 @@ fn put_leaves(out: &mut String, catalog: &Catalog) -> Result<(), Memory>
     Ok(())
 }
 
-/// A leaf's line: its name, its site, its columns, and its conditions if it has any.
+/// A leaf in a line of its own.
 pub fn put_leaf(
     out: &mut String,
     sites: &[Text],
@@ -91,6 +91,20 @@ pub fn put_leaf(
 ) -> Result<(), Memory>
     ensures { OnOk result (string_bytes out.new ≡ string_bytes out.old ++ leaf_line sites.now schema.now.relations leaf.now) }
 {
+    put_leaf_alone(out, sites, schema, leaf)?;
+    out.push('\n')?;
+    Ok(())
+}
+
+/// What is told of a leaf: its name, its site, its columns, and its conditions if it has any.
+pub fn put_leaf_alone(
+    out: &mut String,
+    sites: &[Text],
+    schema: &Schema,
+    leaf: &FragmentLeaf,
+) -> Result<(), Memory>
+    ensures { OnOk result (string_bytes out.new ≡ string_bytes out.old ++ leaf_told sites.now schema.now.relations leaf.now) }
+{
     let columns = columns_of(schema, &leaf.name.relation);
     write!(out, "{} ", leaf.name)?;
     put_site(out, sites, leaf.site)?;
@@ -98,7 +112,6 @@ pub fn put_leaf(
     put_names(out, columns, leaf.columns.as_slice())?;
     out.push(')')?;
     put_where(out, columns, &leaf.conds)?;
-    out.push('\n')?;
     Ok(())
 }
 

@@ -27,6 +27,10 @@ pub enum Word {
     Dump,
     /// To answer the lines of a file.
     Read,
+    /// To insert the rows of a file.
+    Import,
+    /// To tell what the session has cost so far.
+    Stats,
     /// To tell from now on how long answers take, or no longer.
     Timer,
     /// To say how answers are shown.
@@ -36,9 +40,9 @@ pub enum Word {
 }
 
 /// The words, in the order in which help tells them.
-pub const WORDS: [&str; 12] = [
+pub const WORDS: [&str; 14] = [
     ".help", ".tables", ".schema", ".leaves", ".show", ".leaf", ".plan", ".dump", ".read",
-    ".timer", ".mode", ".quit",
+    ".import", ".stats", ".timer", ".mode", ".quit",
 ];
 
 /// The word of a line, if it is one of the shell's, and what stands behind it and its space.
@@ -77,6 +81,8 @@ fn telling_word(text: &str) -> Option<Word>
         Some(Word::Schema)
     } else if text == ".leaves" {
         Some(Word::Leaves)
+    } else if text == ".stats" {
+        Some(Word::Stats)
     } else {
         showing_word(text)
     }
@@ -97,7 +103,7 @@ fn showing_word(text: &str) -> Option<Word>
     }
 }
 
-/// A word that answers a file's lines, or writes what makes one.
+/// A word that answers a file's lines, inserts its rows, or writes what makes one.
 fn filing_word(text: &str) -> Option<Word>
     ensures { result ≡ spec.filing_word text.now }
 {
@@ -105,6 +111,8 @@ fn filing_word(text: &str) -> Option<Word>
         Some(Word::Dump)
     } else if text == ".read" {
         Some(Word::Read)
+    } else if text == ".import" {
+        Some(Word::Import)
     } else {
         None
     }

@@ -135,7 +135,7 @@ fn run_command<'a>(alloc: Global) -> Result<Command<'a>, AllocError>
 }
 
 fn dump_command<'a>(alloc: Global) -> Result<Command<'a>, AllocError>
-    ensures { IfOk result (IsCommand (in_folder (of_relation (codes "dump")))) }
+    ensures { IfOk result (IsCommand (shown (in_folder (of_relation (codes "dump"))))) }
 {
     let about = "Writes the relations of a folder's database as statements that make them anew";
     let dump = new_command(alloc, "dump", about);
@@ -143,7 +143,8 @@ fn dump_command<'a>(alloc: Global) -> Result<Command<'a>, AllocError>
     let dump = with(dump, catalog)?;
     let relation = optional(alloc, "RELATION", "A relation; all where none is named");
     let dump = with(dump, relation)?;
-    with_folder(alloc, dump)
+    let dump = with_folder(alloc, dump)?;
+    with_modes(alloc, dump)
 }
 
 fn import_command<'a>(alloc: Global) -> Result<Command<'a>, AllocError>

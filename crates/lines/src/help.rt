@@ -125,6 +125,9 @@ pub const DIR_HELP: &str =
 pub const TWO_MODES: &str =
     "the arguments '--columns', '--csv' and '--json' cannot be used with one another";
 
+/// What is told of a dump that is to show rows of no relation.
+pub const NO_RELATION: &str = "the following required arguments were not provided:\n  <RELATION>";
+
 /// What is told where a script is left out, and no line is to be asked for.
 pub const NO_SCRIPT: &str = "the following required arguments were not provided:\n  <SCRIPT>";
 

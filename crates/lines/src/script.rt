@@ -19,6 +19,8 @@ pub enum Item<'a> {
     Leaf(&'a str),
     /// To write a relation as statements that make it anew.
     Dump(&'a str),
+    /// To tell of a leaf, and how many rows it has.
+    Count(&'a str),
 }
 
 /// Why a script has no items.

@@ -8,6 +8,7 @@ ghost use Rattle.lines.specs.Usage.{IsNoCount, asked_import, asked_suggest, ever
 use crate::play_script::number;
 use clap::error::ErrorKind;
 use clap::{ArgMatches, Command, Error};
+use shell::mode::Mode;
 use std::alloc::{AllocError, Global};
 
 /// How many sites a catalogue may be asked to have.
@@ -16,14 +17,16 @@ const SITES_LIMIT: u64 = 16;
 /// How many rows a transaction may be asked to have.
 const EVERY_LIMIT: u64 = 1_000_000;
 
-/// To write the relation of this name as statements, or each where none is named, of the database of this catalogue, a file's name,
-/// or of one of the built-in catalogue, whose stores are in a folder.
+/// To write the relation of this name as statements, or each where none is named, or the rows of that relation, of the database
+/// of this catalogue, a file's name, or of one of the built-in catalogue, whose stores are in a folder.
 #[derive(Clone, Copy)]
 pub struct Dump<'a> {
     pub catalog: Option<&'a str>,
     pub relation: Option<&'a str>,
     /// The folder of its stores. Where there is none, its relations have no rows.
     pub dir: Option<&'a str>,
+    /// How the rows of the relation are shown; statements are written where nothing is asked for.
+    pub mode: Mode,
 }
 
 /// To insert the rows of this file of comma-separated values into the relation of this name, over the database of this catalogue, a

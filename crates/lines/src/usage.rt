@@ -1,18 +1,18 @@
 //! The words of the command line.
 
-ghost use Rattle.std.specs.Prelude.{◌≡◌, ◌≢◌, ◌≤◌, ◌<◌, ◌⊎◌, ◌∷◌, [], IfErr, IfOk, IfSome, IsOkAnd, List, Some, bytes_eq, codes, length, map, option_map};
+ghost use Rattle.std.specs.Prelude.{true, is_none, ◌≡◌, ◌≢◌, ◌≤◌, ◌<◌, ◌⊎◌, ◌∷◌, [], IfErr, IfOk, IfSome, IsOkAnd, List, Some, bytes_eq, codes, length, map, option_map};
 ghost use Rattle.std.specs.Io.KnownBytes.{Keeps};
 ghost use Rattle.std.specs.List.{AllByRecursion};
 ghost use Rattle.std.specs.IoError.{error_kind};
 ghost use Rattle.clap.specs.Matches.{first_value};
 ghost use Rattle.clap.specs.Words.{Text, found_of, kind_of, subcommand_of, subcommand_rows_of};
 ghost use Rattle.lines.specs.Grammar.{usage};
-ghost use Rattle.lines.specs.Usage.{Asks, AsksFor, AsksForInput, IsMisuse, IsNoNumber, asked, asked_sessions, flags_of, is_columns, is_csv, is_interactive, is_json, mode_of_flags, retry_of, script_of, stores_in, usage_status};
+ghost use Rattle.lines.specs.Usage.{Asks, AsksFor, AsksForInput, IsMisuse, IsNoNumber, asked, asked_dump, asked_sessions, flags_of, flags_of_mode, is_columns, is_csv, is_interactive, is_json, mode_of_flags, retry_of, script_of, stores_in, usage_status};
 ghost use Rattle.lines.specs.Usage as spec;
 
 use crate::fault::ProgramFault;
 use crate::grammar::command;
-use crate::help::{NO_SCRIPT, TWO_MODES};
+use crate::help::{NO_RELATION, NO_SCRIPT, TWO_MODES};
 use crate::outcome::{Outcome, Status, exit};
 use crate::play_script::number;
 use crate::transfer::{Dump, Import, Suggest, import_given, suggest_given};
@@ -172,11 +172,8 @@ fn read_given<'a, S: AsStr>(
         return Ok(Asked::Sessions(sessions));
     }
     if let Some(("dump", dump)) = matches.subcommand() {
-        return Ok(Asked::Dump(Dump {
-            catalog: dump.get_str("CATALOG"),
-            relation: dump.get_str("RELATION"),
-            dir: dump.get_str("DIR"),
-        }));
+        let dump = dump_given(&mut command, dump)?;
+        return Ok(Asked::Dump(dump));
     }
     if let Some(("import", import)) = matches.subcommand()
         && let Some(relation) = import.get_str("RELATION")
@@ -242,6 +239,34 @@ fn request_given<'a>(
         });
     }
     Err(command.error(ErrorKind::MissingSubcommand, "a command is missing")?)
+}
+
+/// What the words after `dump` ask for. Rows are shown of one relation alone.
+fn dump_given<'a>(command: &mut Command<'_>, dump: &ArgMatches<'a>) -> Result<Dump<'a>, Error>
+    ensures asks { IfOk result (λ asked. asked_dump asked ≡ (codes "dump", (codes "CATALOG", first_value (found_of dump.entry.now) (codes "CATALOG")) ∷ (codes "RELATION", first_value (found_of dump.entry.now) (codes "RELATION")) ∷ (codes "DIR", first_value (found_of dump.entry.now) (codes "DIR")) ∷ [])) }
+    ensures flags { IfOk result (λ asked. AllByRecursion (λ flag. spec.is_set (first_value (found_of dump.entry.now) flag.0) ≡ flag.1) (flags_of_mode asked.mode)) }
+    ensures named { IfOk result (λ asked. is_none asked.relation ≡ true → asked.mode ≡ Mode.Tabs) }
+{
+    let Some(mode) = mode_given(dump) else {
+        return Err(command.error(ErrorKind::ArgumentConflict, TWO_MODES)?);
+    };
+    let relation = dump.get_str("RELATION");
+    if relation.is_none() && !is_plain(mode) {
+        return Err(command.error(ErrorKind::MissingRequiredArgument, NO_RELATION)?);
+    }
+    Ok(Dump {
+        catalog: dump.get_str("CATALOG"),
+        relation,
+        dir: dump.get_str("DIR"),
+        mode,
+    })
+}
+
+/// Whether no form of rows is asked for.
+fn is_plain(mode: Mode) -> bool
+    ensures { result ≡ true → mode ≡ Mode.Tabs }
+{
+    matches!(mode, Mode::Tabs)
 }
 
 /// What the words after `run` ask for, which name this script.

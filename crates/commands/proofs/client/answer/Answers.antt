@@ -31,3 +31,11 @@ returns-in_ok-relation_written-in-Dump g c = record {
       subst (λ (item : Item). IsAnswered (seen_over g.D.DeskStore.is_clean g.S.SiteStore.is_clean g.D.DeskStore.is_sound g.S.SiteStore.is_sound g.D.DeskStore.kept g.S.SiteStore.kept g.D.DeskStore.refused g.S.SiteStore.refused) c.args.mode catalogue whole (task_of item) past c.args.database.now c.relation_written.new.database (Answered (string_bytes c.in_ok-relation_written-in-Dump.field-0))) (sym c.in-Dump.is) (c.in_ok-relation_written-in-Dump.ensures.answers catalogue whole past clean h);
   err = tt;
 }
+
+pub returns-in_ok-leaf_counted-in-Count : goal.returns-in_ok-leaf_counted-in-Count
+returns-in_ok-leaf_counted-in-Count g c = record {
+  clean = c.in_ok-leaf_counted-in-Count.ensures.clean;
+  answers = λ catalogue whole past clean h.
+      subst (λ (item : Item). IsAnswered (seen_over g.D.DeskStore.is_clean g.S.SiteStore.is_clean g.D.DeskStore.is_sound g.S.SiteStore.is_sound g.D.DeskStore.kept g.S.SiteStore.kept g.D.DeskStore.refused g.S.SiteStore.refused) c.args.mode catalogue whole (task_of item) past c.args.database.now c.leaf_counted.new.database (Answered (string_bytes c.in_ok-leaf_counted-in-Count.field-0))) (sym c.in-Count.is) (c.in_ok-leaf_counted-in-Count.ensures.answers catalogue whole past clean h);
+  err = tt;
+}

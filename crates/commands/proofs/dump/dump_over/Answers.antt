@@ -4,7 +4,6 @@ use Rattle.catalog.specs.Relation.{catalogue_of}
 use Rattle.commands.specs.Dump.{dumps_asked, is_missing, tasks_asked}
 use Rattle.lines.specs.Script.{Reading, task_of}
 use Rattle.commands.specs.Solo.{IsRun}
-use Rattle.shell.specs.declared.mode.Mode.TheVariants.{Tabs}
 use Rattle.commands.proofs.SoloLemmas.{Appends-kept}
 use Rattle.commands.proofs.dump.dump_over.Goals as goal
 
@@ -16,6 +15,6 @@ returns-clause-ok g c =
       written = ran.0;
       told = Appends-kept (g.W.Write.contents c.args.output.now) (g.W.Write.contents c.run-outcome.new.output) (g.W.Write.contents c.flush-flushed.new.self) ran.0 ran.1 c.flush-flushed.ensures.bytes;
       any_refused = c.in_ok-outcome.field-0;
-      ran = subst (λ (tasks : List Reading). IsRun g.B.Database.seen g.O.Opens.origin Tabs (catalogue_of c.args.catalog) tasks ran.0 c.in_ok-outcome.field-0) (ap (map task_of) c.as_slice-2.ensures.value ∙ c.in_ok-items.ensures ∙ ap (tasks_asked asked) (c.as_slice.ensures.value ∙ c.in_ok-names.ensures ∙ ap (map (λ (relation : RelationSchema). relation.name)) c.schema-2.ensures.schemas)) ran.2;
+      ran = subst (λ (tasks : List Reading). IsRun g.B.Database.seen g.O.Opens.origin c.args.mode (catalogue_of c.args.catalog) tasks ran.0 c.in_ok-outcome.field-0) (ap (map task_of) c.as_slice-2.ensures.value ∙ c.in_ok-items.ensures ∙ ap (tasks_asked c.args.mode asked) (c.as_slice.ensures.value ∙ c.in_ok-names.ensures ∙ ap (map (λ (relation : RelationSchema). relation.name)) c.schema-2.ensures.schemas)) ran.2;
       lacks = c.is_missing-is_missing.ensures ∙ ap (is_missing asked) c.schema.ensures.schemas;
     }

@@ -18,7 +18,7 @@ returns-in-All g c = λ _.
     let opened = c.in_ok-database.database in
     let ended = c.import.new.database in
     let answers = import_of (many_of c.args.many (length rows)) name rows in
-    let comes : Comes seen answers opened ended = subst (λ (many : ℕ). Comes seen (import_of many name rows) opened ended) c.many_of.ensures.is (c.in_ok-import.ensures.all (ap (λ r. Ok r) c.in-All.is)) in
+    let comes : Comes seen answers opened ended = subst (λ (many : ℕ). Comes seen (import_of many name rows) opened ended) c.many_of-many.ensures.is (c.in_ok-import.ensures.all (ap (λ r. Ok r) c.in-All.is)) in
     record {
       any_refused = list_any (λ (one : Reading × Told). is_refusal one.1) answers;
       ran = run_from seen g.O.Opens.origin Tabs (catalogue_of c.args.catalog.now) (map (λ (one : Reading × Told). one.0) answers) (flat_map (λ (one : Reading × Told). text_of one.1) answers) (list_any (λ (one : Reading × Told). is_refusal one.1) answers) opened ended c.in_ok-database.ensures.ok c.moves_follow.ensures comes.clean

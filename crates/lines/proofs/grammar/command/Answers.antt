@@ -22,7 +22,7 @@ abbrev five : App
 five = with_subcommand four (retried (stored (of_script (codes "run")))).top
 
 abbrev six : App
-six = with_subcommand five (in_folder (of_relation (codes "dump"))).top
+six = with_subcommand five (shown (in_folder (of_relation (codes "dump")))).top
 
 abbrev seven : App
 seven = with_subcommand six (counted (in_folder (of_file (codes "import")))).top

@@ -18,7 +18,7 @@ returns-in-Some-dump-default g c =
     let entered = (c.in_ok-matches.ensures.ok.2 (ap is_simple usage_is)).1 ∙ ap (λ a. subcommand_of a (map g.S.AsStr.text c.args.words.now)) usage_is in
     let name = c.in-Some-dump-default.ensures.name ∙ subcommand_name_of-rows c.in_ok-matches.matches in
     dump_asked (map g.S.AsStr.text c.args.words.now) _ (found_of c.in-Some-dump-default.dump.now) entered (ap (λ (t : List ℕ). Some t) (sym c.in-Some-dump-default.is-dump) ∙ name) c.in-Some-dump-default.ensures.rows
-    _ c.get_str-in-Some-dump-default.ensures c.get_str-in-Some-dump-default-2.ensures c.get_str-in-Some-dump-default-3.ensures
+    c.in_ok-dump.dump c.in_ok-dump.ensures.asks c.in_ok-dump.ensures.flags c.in_ok-dump.ensures.named
 
 pub returns-2 : goal.returns-2
 returns-2 g c =

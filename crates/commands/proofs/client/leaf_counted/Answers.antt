@@ -1,0 +1,41 @@
+use Rattle.std.proofs.Common.{◌≡◌, None, Option, Some, ap, refl, string_bytes, subst, sym, ◌∙◌}
+use Rattle.std.proofs.lemmas.Result.{IfOk-weaker}
+use Rattle.terms.specs.declared.leaf.Leaf.{Leaf}
+use Rattle.catalog.specs.FragmentLeaf.{catalogue_leaves}
+use Rattle.catalog.specs.Relation.{catalogue_of}
+use Rattle.commands.specs.Client.{CountsLeafAs, seen_over, standing_of}
+use Rattle.commands.specs.Shown.{written_leaf}
+use Rattle.commands.proofs.client.leaf_counted.Goals as goal
+
+pub returns-in-Some : goal.returns-in-Some
+returns-in-Some g c = record {
+  clean = c.parts_told.ensures.clean;
+  answers = λ catalogue whole past clean h.
+      let seen = seen_over g.D.DeskStore.is_clean g.S.SiteStore.is_clean g.D.DeskStore.is_sound g.S.SiteStore.is_sound g.D.DeskStore.kept g.S.SiteStore.kept g.D.DeskStore.refused g.S.SiteStore.refused in
+      let over = ap catalogue_of c.catalog.ensures ∙ h.catalog in
+      let is : Some c.in-Some.leaf ≡ written_leaf c.args.name.now (catalogue_leaves catalogue) =
+      sym c.in-Some.is ∙ c.in_ok-leaf.ensures ∙ ap (written_leaf c.args.name.now) (c.leaves.ensures.leaves ∙ ap catalogue_leaves over) in
+      IfOk-weaker c.parts_told.result _ _ (λ text shown. record {
+        later = past;
+        goes_on = shown.0;
+        answers = subst (λ (found : Option Leaf). CountsLeafAs c.args.mode catalogue c.args.name.now found (standing_of seen catalogue c.args.database.now past) (standing_of seen catalogue c.parts_told.new.database past) (string_bytes text)) is shown.1;
+      }) (c.parts_told.ensures.counted catalogue whole past clean h);
+  err = c.parts_told.ensures.err;
+}
+
+pub returns-in_ok-no_leaf-in-None : goal.returns-in_ok-no_leaf-in-None
+returns-in_ok-no_leaf-in-None g c = record {
+  clean = λ clean. clean;
+  answers = λ catalogue whole past clean h.
+      let seen = seen_over g.D.DeskStore.is_clean g.S.SiteStore.is_clean g.D.DeskStore.is_sound g.S.SiteStore.is_sound g.D.DeskStore.kept g.S.SiteStore.kept g.D.DeskStore.refused g.S.SiteStore.refused in
+      let over = ap catalogue_of c.catalog.ensures ∙ h.catalog in
+      let is : None ≡ written_leaf c.args.name.now (catalogue_leaves catalogue) =
+      sym c.in-None.is ∙ c.in_ok-leaf.ensures ∙ ap (written_leaf c.args.name.now) (c.leaves.ensures.leaves ∙ ap catalogue_leaves over) in
+      let here = standing_of seen catalogue c.args.database.now past in
+      record {
+        later = past;
+        goes_on = h;
+        answers = subst (λ (found : Option Leaf). CountsLeafAs c.args.mode catalogue c.args.name.now found here here (string_bytes c.in_ok-no_leaf-in-None.field-0)) is (record { machines = refl; current = refl; past = refl }, c.in_ok-no_leaf-in-None.ensures);
+      };
+  err = tt;
+}
