@@ -207,7 +207,8 @@ fn removals(alloc: Global, rows: &[Row]) -> Result<Vec<Change>, Memory>
     Ok(changes)
 }
 
-fn refragmented(alloc: Global, table: &Table) -> Outcome
+/// What a REFRAGMENT answers; it writes nothing between whole databases.
+pub(crate) fn refragmented(alloc: Global, table: &Table) -> Outcome
     ensures { result ≡ refragment_outcome table.now }
 {
     Outcome {
