@@ -5,9 +5,10 @@ ghost use Rattle.std.specs.FinMap as map;
 ghost use Rattle.std.specs.List.{AllByRecursion};
 ghost use Rattle.store.specs.declared.fault.StoreFault.TheVariants.{Refused, Damaged};
 ghost use Rattle.store.specs.Content.{made_by, parts};
+ghost use Rattle.terms.specs.Leaf.{leaf_text};
 ghost use Rattle.terms.specs.Row.{key_of};
 ghost use Rattle.terms.specs.Stored.{part_from};
-ghost use Rattle.sqlstore.specs.Cells.{text_at, int_at};
+ghost use Rattle.sqlstore.specs.Cells.{text_at, int_at, is_text};
 ghost use Rattle.sqlstore.specs.Content.{leaf_named};
 ghost use Rattle.sqlstore.specs.Listed.{HasCells, with_row, with_rows};
 ghost use Rattle.sqlstore.specs.Sound.{IsPart};
@@ -22,7 +23,19 @@ use store::fault::StoreFault;
 use terms::cond::Conds;
 use terms::copy::TryCopy;
 use terms::leaf::Leaf;
+use terms::memory::Memory;
 use terms::part::Part;
+
+/// Whether a leaf has this name. Where its relation's name doesn't begin it, the leaf's own needn't be written out.
+fn has_name(alloc: Global, leaf: &Leaf, name: &[u8]) -> Result<bool, Memory>
+    ensures { IfOk result (λ has. has ≡ is_text name.now (leaf_text leaf.now)) }
+{
+    if !name.starts_with(leaf.relation.as_str().as_bytes()) {
+        return Ok(false);
+    }
+    let own = name_of(alloc, leaf)?;
+    Ok(name.cmp(own.as_bytes()).is_eq())
+}
 
 /// The leaf that has this name.
 pub fn named<'a>(
@@ -34,8 +47,7 @@ pub fn named<'a>(
     ensures memory { (result ≢ Err Damaged) × (result ≢ Err Refused) }
 {
     for leaf in leaves {
-        let own = name_of(alloc, leaf)?;
-        if name.cmp(own.as_bytes()).is_eq() {
+        if has_name(alloc, leaf, name)? {
             return Ok(Some(leaf));
         }
     }
