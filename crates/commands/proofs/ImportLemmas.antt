@@ -1,5 +1,5 @@
 -- Lemmas on rows that are inserted: what tasks are answered by, one after another.
-use Rattle.std.proofs.Common.{◌≡◌, ◌≢◌, ◌==◌, ◌%◌, ◌++◌, ◌∷◌, [], ◌+◌, Bool, true, false, arith, ap, get_or, take, ◌<◌, append_assoc, append-nil, length, map, refl, sym, subst, suc, zero, ◌∙◌, ℕ, List, Option, None, Some, Result, Ok, Err, IfOk, IfSome, OnOk}
+use Rattle.std.proofs.Common.{◌≡◌, ◌≢◌, ◌==◌, ◌%◌, ◌++◌, ◌∷◌, [], ◌+◌, true, false, arith, ap, get_or, take, ◌<◌, append_assoc, append-nil, is_some, length, map, refl, sym, subst, suc, zero, ◌∙◌, ℕ, List, Option, None, Some, Result, Ok, Err, IfOk, IfSome, OnOk}
 use Rattle.std.specs.List.{flat_map, list_any}
 use Rattle.std.proofs.lemmas.List.{take_more}
 use Rattle.std.proofs.lemmas.Grind.{common_steps}
@@ -12,10 +12,10 @@ use Rattle.desk.specs.CatalogueDatabase.{database}
 use Rattle.shell.specs.declared.mode.Mode.TheVariants.{Tabs}
 use Rattle.lines.specs.declared.fault.ProgramFault.{ProgramFault}
 use Rattle.lines.specs.declared.reply.Reply.{Reply}
-use Rattle.commands.specs.Client.{GoesOn, IsAnswered, Seen, Serves, Standing, standing_of}
+use Rattle.commands.specs.Client.{GoesOn, IsAnswered, Seen, Standing, standing_of}
 use Rattle.commands.specs.declared.import.Imported.{Imported}
 use Rattle.commands.specs.declared.import.Imported.TheVariants.{All, Until}
-use Rattle.commands.specs.Import.{Comes, HasCome, IsCutShort, RollsBack, StopsAt, before_row, begins, commits, import_of, inserts_from, last_commit, opening, row_says}
+use Rattle.commands.specs.Import.{Comes, HasCome, IsCommitted, IsCutShort, IsImport, RollsBack, StopsAt, before_row, begins, commits, ending, import_of, inserts_from, row_says}
 use Rattle.lines.specs.Reply.{Answered, Told, is_refusal, text_of, told_by}
 use Rattle.lines.specs.Script.{Reading, Runs}
 use Rattle.commands.specs.Solo.{AnswersTasks, IsStretch}
@@ -70,10 +70,6 @@ inserts_next many name rows number row within is =
     let earlier = inserts_from many name 0 (take number rows) in
     ap (λ r. earlier ++ row_says many name number r) is ∙ sym (rw (take_more rows number row within) (inserts_snoc many name 0 (take number rows) (get_or rows number row) ∙ ap (λ n. earlier ++ row_says many name n (get_or rows number row)) (taken rows number within)))
 
--- where there are rows, the last transaction is committed
-pub import_ends : (many : ℕ) (name : List ℕ) (rows : List (List Value)) → (length rows == 0) ≡ false → inserts_from many name 0 rows ++ commits ∷ [] ≡ import_of many name rows
-import_ends many name rows some = rw (some) refl
-
 -- tasks that have come to their answers are a stretch of a run
 pub comes_ran : {B : Type 0} (seen : Seen B) (answers : List (Reading × Told)) (old new : B) → Comes seen answers old new → (catalogue : Catalogue) (whole : Relations) (past : List (Deed (language (database catalogue)))) → seen.is_clean new → GoesOn seen catalogue whole past old →
     IsStretch seen Tabs catalogue whole (map (λ (one : Reading × Told). one.0) answers) past old new (flat_map (λ (one : Reading × Told). text_of one.1) answers) (list_any (λ (one : Reading × Told). is_refusal one.1) answers)
@@ -85,14 +81,15 @@ comes_ran seen answers old new comes catalogue whole past clean h =
 pub before_none : (many number : ℕ) → (number % many == 0) ≡ false → [] ≡ before_row many number
 before_none many number other = rw (other) refl
 
-pub before_some : (many number : ℕ) → (number % many == 0) ≡ true → opening number ≡ before_row many number
+pub before_some : (many number : ℕ) → (number % many == 0) ≡ true → ending number ++ begins ∷ [] ≡ before_row many number
 before_some many number first = rw (first) refl
 
-pub opening_first : (number : ℕ) → (number == 0) ≡ true → begins ∷ [] ≡ opening number
-opening_first number none = rw (none) refl
+-- what ends the transaction before it
+pub ending_none : (number : ℕ) → (number == 0) ≡ true → [] ≡ ending number
+ending_none number none = rw (none) refl
 
-pub opening_next : (number : ℕ) → (number == 0) ≡ false → commits ∷ begins ∷ [] ≡ opening number
-opening_next number some = rw (some) refl
+pub ending_some : (number : ℕ) → (number == 0) ≡ false → commits ∷ [] ≡ ending number
+ending_some number some = rw (some) refl
 
 -- a task that is answered by this reply
 pub comes_so : {B : Type 0} (seen : Seen B) (task : Reading) (old new : B) (told : Told) → (seen.is_clean new → seen.is_clean old) →
@@ -105,33 +102,38 @@ comes_so seen task old new told was_clean answers = record {
 }
 
 -- one command is answered otherwise than is wanted
-pub stops_once : {B : Type 0} (seen : Seen B) (command wanted : List ℕ) (old new : B) (told : Told) → Comes seen ((Runs command, told) ∷ []) old new → told ≢ Answered wanted → StopsAt seen ((Runs command, Answered wanted) ∷ []) old new told
-stops_once seen command wanted old new told come other = record { made = []; command = command; answer = wanted; rest = []; place = refl; other = other; come = come }
+pub stops_once : {B : Type 0} (seen : Seen B) (command wanted : List ℕ) (old new : B) (told : Told) → Comes seen ((Runs command, told) ∷ []) old new → told ≢ Answered wanted → StopsAt seen [] ((Runs command, Answered wanted) ∷ []) old new told
+stops_once seen command wanted old new told come other = record { command = command; differs = record { answer = wanted; rest = []; place = refl; other = other }; come = come }
 
 -- so it is where more was wanted behind it
-pub stops_before : {B : Type 0} (seen : Seen B) (first others : List (Reading × Told)) (old new : B) (told : Told) → StopsAt seen first old new told → StopsAt seen (first ++ others) old new told
-stops_before seen first others old new told stops = record {
-  made = stops.made;
-  command = stops.command;
-  answer = stops.answer;
-  rest = stops.rest ++ others;
-  place = ap (λ (all : List (Reading × Told)). all ++ others) stops.place ∙ append_assoc stops.made ((Runs stops.command, Answered stops.answer) ∷ stops.rest) others;
-  other = stops.other;
-  come = stops.come;
-}
+pub stops_before : {B : Type 0} (seen : Seen B) (made first others : List (Reading × Told)) (old new : B) (told : Told) → StopsAt seen made first old new told → StopsAt seen made (first ++ others) old new told
+stops_before seen made first others old new told stops =
+    let differs = stops.differs in
+    record {
+      command = stops.command;
+      differs = record {
+        answer = differs.answer;
+        rest = differs.rest ++ others;
+        place = ap (λ (all : List (Reading × Told)). all ++ others) differs.place ∙ append_assoc made ((Runs stops.command, Answered differs.answer) ∷ differs.rest) others;
+        other = differs.other;
+      };
+      come = stops.come;
+    }
 
 -- and where something came before it
-pub stops_behind : {B : Type 0} (seen : Seen B) (first others : List (Reading × Told)) (old middle new : B) (told : Told) → Comes seen first old middle → StopsAt seen others middle new told → StopsAt seen (first ++ others) old new told
-stops_behind seen first others old middle new told came stops =
+pub stops_behind : {B : Type 0} (seen : Seen B) (first made others : List (Reading × Told)) (old middle new : B) (told : Told) → Comes seen first old middle → StopsAt seen made others middle new told → StopsAt seen (first ++ made) (first ++ others) old new told
+stops_behind seen first made others old middle new told came stops =
     let last : List (Reading × Told) = (Runs stops.command, told) ∷ [] in
+    let differs = stops.differs in
     record {
-      made = first ++ stops.made;
       command = stops.command;
-      answer = stops.answer;
-      rest = stops.rest;
-      place = ap (λ (all : List (Reading × Told)). first ++ all) stops.place ∙ sym (append_assoc first stops.made ((Runs stops.command, Answered stops.answer) ∷ stops.rest));
-      other = stops.other;
-      come = subst (λ (tasks : List (Reading × Told)). Comes seen tasks old new) (sym (append_assoc first stops.made last)) (comes_then seen first (stops.made ++ last) old middle new came stops.come);
+      differs = record {
+        answer = differs.answer;
+        rest = differs.rest;
+        place = ap (λ (all : List (Reading × Told)). first ++ all) differs.place ∙ sym (append_assoc first made ((Runs stops.command, Answered differs.answer) ∷ differs.rest));
+        other = differs.other;
+      };
+      come = subst (λ (tasks : List (Reading × Told)). Comes seen tasks old new) (sym (append_assoc first made last)) (comes_then seen first (made ++ last) old middle new came stops.come);
     }
 
 -- what is wanted of all rows: of those up to a place, of the one there, and of the others
@@ -151,25 +153,20 @@ inserts_at many name from (first ∷ rows) (suc number) row within is =
     )
 
 -- an import that stops at a row's own tasks
-pub stops_at_row : {B : Type 0} (seen : Seen B) (many : ℕ) (name : List ℕ) (rows : List (List Value)) (number : ℕ) (row : List Value) (old middle new : B) (told : Told) → number < length rows → row ≡ get_or rows number row →
-    Comes seen (inserts_from many name 0 (take number rows)) old middle → StopsAt seen (row_says many name number row) middle new told → StopsAt seen (import_of many name rows) old new told
-stops_at_row seen many name rows number row old middle new told within is came stops =
+pub stops_at_row : {B : Type 0} (seen : Seen B) (many : ℕ) (name : List ℕ) (rows : List (List Value)) (number : ℕ) (row : List Value) (made : List (Reading × Told)) (old middle new : B) (told : Told) → number < length rows → row ≡ get_or rows number row →
+    Comes seen (inserts_from many name 0 (take number rows)) old middle → StopsAt seen made (row_says many name number row) middle new told → StopsAt seen (inserts_from many name 0 (take number rows) ++ made) (import_of many name rows) old new told
+stops_at_row seen many name rows number row made old middle new told within is came stops =
     let earlier = inserts_from many name 0 (take number rows) in
+    let last = ending (length rows) in
     let split = inserts_at many name 0 rows number row within is in
     let at : 0 + number ≡ number = omega arith in
-    let others = split.0 ++ last_commit rows in
-    let all : inserts_from many name 0 rows ++ last_commit rows ≡ earlier ++ (row_says many name number row ++ others) =
-    ap (λ (some : List (Reading × Told)). some ++ last_commit rows) (split.1 ∙ ap (λ (n : ℕ). earlier ++ (row_says many name n row ++ split.0)) at)
-    ∙ append_assoc earlier (row_says many name number row ++ split.0) (last_commit rows)
-    ∙ ap (λ (some : List (Reading × Told)). earlier ++ some) (append_assoc (row_says many name number row) split.0 (last_commit rows)) in
-    subst (λ (tasks : List (Reading × Told)). StopsAt seen tasks old new told) (sym all)
-    (stops_behind seen earlier (row_says many name number row ++ others) old middle new told came (stops_before seen (row_says many name number row) others middle new told stops))
-
--- what came of an import is what came of some tasks
-pub cut_comes : {B : Type 0} (seen : Seen B) (wanted : List (Reading × Told)) (old new : B) (told : Told) → IsCutShort seen wanted old new told → (answers : List (Reading × Told)) × Comes seen answers old new
-cut_comes seen wanted old new told cut =
-    let last = cut.stops.made ++ ((Runs cut.stops.command, told) ∷ []) in
-    (last ++ cut.ends.0, comes_then seen last cut.ends.0 old cut.middle new cut.stops.come cut.ends.2)
+    let others = split.0 ++ last in
+    let all : inserts_from many name 0 rows ++ last ≡ earlier ++ (row_says many name number row ++ others) =
+    ap (λ (some : List (Reading × Told)). some ++ last) (split.1 ∙ ap (λ (n : ℕ). earlier ++ (row_says many name n row ++ split.0)) at)
+    ∙ append_assoc earlier (row_says many name number row ++ split.0) last
+    ∙ ap (λ (some : List (Reading × Told)). earlier ++ some) (append_assoc (row_says many name number row) split.0 last) in
+    subst (λ (tasks : List (Reading × Told)). StopsAt seen (earlier ++ made) tasks old new told) (sym all)
+    (stops_behind seen earlier made (row_says many name number row ++ others) old middle new told came (stops_before seen made (row_says many name number row) others middle new told stops))
 
 -- what is known of a reply is known of it, where there is one
 pub on_reply : {T E : Type 0} {P Q : T → Type 0} (result : Result (Option T) E) → ((x : T) → P x → Q x) → IfOk result (λ told. IfSome told P) → IfOk result (λ told. IfSome told Q)
@@ -184,16 +181,32 @@ is_ok (Err e) = ⊥
 err_not_ok : {T E : Type 0} (e : E) (x : T) → Err e ≡ Ok x → ⊥
 err_not_ok e x same = subst is_ok (sym same) tt
 
--- what a reply tells in place of which an import ended
+-- what a reply tells in place of which an import ended, and how many rows are committed then
 abbrev told_of : Result Imported ProgramFault → Told
 told_of (Ok (Until row committed reply)) = told_by reply
 told_of (Ok All) = Answered []
 told_of (Err fault) = Answered []
 
+abbrev count_of : Result Imported ProgramFault → ℕ
+count_of (Ok (Until row committed reply)) = committed
+count_of (Ok All) = 0
+count_of (Err fault) = 0
+
 -- where what is wanted stops, and what is open is rolled back, the import is cut short there
-pub cut_short : {B : Type 0} (seen : Seen B) (wanted : List (Reading × Told)) (old middle new : B) (result : Result Imported ProgramFault) (row committed at so_far : ℕ) (reply given : Reply) → result ≡ Ok (Until row committed reply) → IfOk result (λ made. made ≡ Until at so_far given) →
-    StopsAt seen wanted old middle (told_by given) → OnOk result (RollsBack seen middle new) → IsCutShort seen wanted old new (told_by reply)
-cut_short seen wanted old middle new (Ok made) row committed at so_far reply given is made_so stops rest =
-    let same : told_by given ≡ told_by reply = sym (ap (λ (m : Imported). told_of (Ok m)) made_so) ∙ ap told_of is in
-    subst (IsCutShort seen wanted old new) same (record { middle = middle; stops = stops; ends = rest })
-cut_short seen wanted old middle new (Err fault) row committed at so_far reply given is made_so stops rest = absurd (err_not_ok fault (Until row committed reply) is)
+pub cut_short : {B : Type 0} (seen : Seen B) (many : ℕ) (name : List ℕ) (rows : List (List Value)) (made : List (Reading × Told)) (old middle new : B) (result : Result Imported ProgramFault) (row count at so_far : ℕ) (reply given : Reply) → result ≡ Ok (Until row count reply) → IfOk result (λ made. made ≡ Until at so_far given) →
+    StopsAt seen made (import_of many name rows) old middle (told_by given) → IsCommitted many name rows so_far made → OnOk result (RollsBack seen middle new) → IsCutShort seen many name rows old new count (told_by reply)
+cut_short seen many name rows made old middle new (Ok imported) row count at so_far reply given is imported_so stops committed rest =
+    let same_reply : told_by given ≡ told_by reply = sym (ap (λ (m : Imported). told_of (Ok m)) imported_so) ∙ ap told_of is in
+    let same_count : so_far ≡ count = sym (ap (λ (m : Imported). count_of (Ok m)) imported_so) ∙ ap count_of is in
+    subst (λ (n : ℕ). IsCutShort seen many name rows old new n (told_by reply)) same_count (subst (IsCutShort seen many name rows old new so_far) same_reply (record { made = made; middle = middle; stops = stops; committed = committed; ends = rest }))
+cut_short seen many name rows made old middle new (Err fault) row count at so_far reply given is imported_so stops committed rest = absurd (err_not_ok fault (Until row count reply) is)
+
+-- what came of an import that was cut short
+pub cut_comes : {B : Type 0} (seen : Seen B) (many : ℕ) (name : List ℕ) (rows : List (List Value)) (old new : B) (count : ℕ) (reply : Told) → IsCutShort seen many name rows old new count reply → (answers : List (Reading × Told)) × IsImport true many name rows answers count × Comes seen answers old new
+cut_comes seen many name rows old new count reply cut =
+    let last : List (Reading × Told) = (Runs cut.stops.command, reply) ∷ [] in
+    let answers = cut.made ++ ((Runs cut.stops.command, reply) ∷ cut.ends.0) in (
+      answers,
+      record { made = cut.made; command = cut.stops.command; reply = reply; differs = cut.stops.differs; committed = cut.committed; is_open = is_some (seen.current cut.middle); last = cut.ends.0; ends = cut.ends.1; all = refl },
+      subst (λ (tasks : List (Reading × Told)). Comes seen tasks old new) (append_assoc cut.made last cut.ends.0) (comes_then seen (cut.made ++ last) cut.ends.0 old cut.middle new cut.stops.come cut.ends.2),
+    )

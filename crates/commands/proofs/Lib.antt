@@ -9,9 +9,11 @@ pub mod PerformLemmas
 pub mod SessionLemmas
 pub mod ScriptFileLemmas
 pub mod ImportLemmas
+pub mod ImportCounts
 pub mod SqlStoresLemmas
 pub mod ConversationLemmas
 pub mod RunLemmas
 pub mod RunRecordsLemmas
 pub mod RunTextLemmas
 pub mod ImportTalks
+pub mod ImportFileLemmas

@@ -1,5 +1,6 @@
 -- What inserts the rows of a file, transaction by transaction.
-use Rattle.std.specs.Prelude.{◌≡◌, ◌≢◌, ℕ, ◌+◌, ◌%◌, ◌==◌, Bool, true, false, if◌then◌else◌, List, [], ◌∷◌, ◌++◌, codes, is_some, length}
+use Rattle.std.specs.Prelude.{◌≡◌, ◌≢◌, ◌⊎◌, ℕ, ◌%◌, ◌+◌, ◌==◌, Bool, true, false, if◌then◌else◌, List, [], ◌∷◌, ◌++◌, codes, is_some, length, map}
+use Rattle.std.specs.Fmt.{decimal}
 use Rattle.terms.specs.declared.value.Value.{Value}
 use Rattle.meaning.specs.Whole.{Relations}
 use Rattle.catalog.specs.Catalogue.{Catalogue}
@@ -14,6 +15,10 @@ use Rattle.lines.specs.Reply.{Answered, Told}
 use Rattle.lines.specs.Script.{Reading, Runs}
 use Rattle.commands.specs.Solo.{AnswersTasks}
 
+-- how many rows were imported
+abbrev pub imported_text : ℕ → List ℕ
+imported_text count = if count == 1 then codes "imported 1 row\n" else codes "imported " ++ decimal count ++ codes " rows\n"
+
 -- a command, and its answer
 abbrev pub says : List ℕ → List ℕ → Reading × Told
 says command answer = (Runs command, Answered answer)
@@ -25,19 +30,19 @@ begins = says (codes "BEGIN") (codes "begun\n")
 abbrev pub commits : Reading × Told
 commits = says (codes "COMMIT") (codes "committed\n")
 
--- a transaction begins, after the end of the one before it; before the first row there is none
-abbrev pub opening : ℕ → List (Reading × Told)
-opening number = if number == 0 then begins ∷ [] else commits ∷ begins ∷ []
-
--- what comes before a row: so much where as many rows as a transaction has, or none, stand before it
-abbrev pub before_row : ℕ → ℕ → List (Reading × Told)
-before_row many number = if number % many == 0 then opening number else []
-
 -- the INSERT of a row into the relation of this name, which changes one row
 abbrev pub insert_says : List ℕ → List Value → Reading × Told
 insert_says name row = says (statement_bytes (insert_of name row)) (codes "changed 1\n")
 
--- so with what comes before it
+-- what ends the transaction before the row of this number; before the first row there is none
+abbrev pub ending : ℕ → List (Reading × Told)
+ending number = if number == 0 then [] else commits ∷ []
+
+-- what comes before a row: where as many rows as a transaction has, or none, stand before it, that transaction ends and another one begins
+abbrev pub before_row : ℕ → ℕ → List (Reading × Told)
+before_row many number = if number % many == 0 then ending number ++ begins ∷ [] else []
+
+-- a row's INSERT with what comes before it
 abbrev pub row_says : ℕ → List ℕ → ℕ → List Value → List (Reading × Told)
 row_says many name number row = before_row many number ++ insert_says name row ∷ []
 
@@ -46,13 +51,63 @@ abbrev pub inserts_from : ℕ → List ℕ → ℕ → List (List Value) → Lis
 inserts_from many name number [] = []
 inserts_from many name number (row ∷ rows) = row_says many name number row ++ inserts_from many name (number + 1) rows
 
--- the end of the last transaction; without a row there is none
-abbrev pub last_commit : List (List Value) → List (Reading × Told)
-last_commit rows = if length rows == 0 then [] else commits ∷ []
-
 -- all rows are inserted and committed, so many in a transaction
 abbrev pub import_of : ℕ → List ℕ → List (List Value) → List (Reading × Told)
-import_of many name rows = inserts_from many name 0 rows ++ last_commit rows
+import_of many name rows = inserts_from many name 0 rows ++ ending (length rows)
+
+-- what came of a transaction, if it began: its BEGIN, and the INSERTs of rows
+abbrev pub transaction_of : Bool → List ℕ → List (List Value) → List (Reading × Told)
+transaction_of false name rows = []
+transaction_of true name rows = begins ∷ map (insert_says name) rows
+
+-- So much had come of an import: the first rows were inserted and committed, so many, as an import of them alone; then a transaction began, perhaps, and some more rows were inserted.
+pub record IsCommitted (many : ℕ) (name : List ℕ) (rows : List (List Value)) (count : ℕ) (made : List (Reading × Told)) : Type 0 where
+  pub done : List (List Value)
+  pub more : List (List Value)
+  pub others : List (List Value)
+  pub begun : Bool
+  pub split : rows ≡ done ++ (more ++ others)
+  pub counted : count ≡ length done
+  pub is : made ≡ import_of many name done ++ transaction_of begun name more
+
+-- one command was answered otherwise than was wanted. made: what came before it, as it was wanted
+pub record Differs (made wanted : List (Reading × Told)) (command : List ℕ) (reply : Told) : Type 0 where
+  pub answer : List ℕ
+  pub rest : List (Reading × Told)
+  pub place : wanted ≡ made ++ ((Runs command, Answered answer) ∷ rest)
+  pub other : reply ≢ Answered answer
+
+-- a transaction that is open is rolled back; without one nothing comes
+abbrev pub IsRolledBack : Bool → List (Reading × Told) → Type 0
+IsRolledBack true answers = (told : Told) × (answers ≡ (Runs (codes "ROLLBACK"), told) ∷ [])
+IsRolledBack false answers = answers ≡ []
+
+-- an import that was cut short: what was wanted came up to one command, and then what was open was rolled back. So many rows are committed
+pub record IsCut (many : ℕ) (name : List ℕ) (rows : List (List Value)) (answers : List (Reading × Told)) (count : ℕ) : Type 0 where
+  pub made : List (Reading × Told)
+  pub command : List ℕ
+  pub reply : Told
+  pub differs : Differs made (import_of many name rows) command reply
+  pub committed : IsCommitted many name rows count made
+  pub is_open : Bool
+  pub last : List (Reading × Told)
+  pub ends : IsRolledBack is_open last
+  pub all : answers ≡ made ++ ((Runs command, reply) ∷ last)
+
+-- the commands of an import with their answers, and how many rows are committed: all of them, or it was cut short
+abbrev pub IsImport : (is_cut : Bool) (many : ℕ) (name : List ℕ) (rows : List (List Value)) (answers : List (Reading × Told)) (count : ℕ) → Type 0
+IsImport false many name rows answers count = (answers ≡ import_of many name rows) × (count ≡ length rows)
+IsImport true many name rows answers count = IsCut many name rows answers count
+
+-- an import of rows into the relation of this name, so many in a transaction
+pub record ImportMade : Type 0 where
+  pub many : ℕ
+  pub name : List ℕ
+  pub rows : List (List Value)
+  pub is_cut : Bool
+  pub answers : List (Reading × Told)
+  pub count : ℕ
+  pub is : IsImport is_cut many name rows answers count
 
 -- these tasks are answered so, over a database that goes on
 pub record HasCome {B : Type 0} (seen : Seen B) (catalogue : Catalogue) (whole : Relations) (answers : List (Reading × Told)) (past : List (Deed (language (database catalogue)))) (old new : B) : Type 0 where
@@ -66,26 +121,25 @@ pub record Comes {B : Type 0} (seen : Seen B) (answers : List (Reading × Told))
   pub come : (catalogue : Catalogue) (whole : Relations) (past : List (Deed (language (database catalogue)))) → seen.is_clean new → GoesOn seen catalogue whole past old → HasCome seen catalogue whole answers past old new
 
 -- What was wanted came up to one command, which was answered otherwise. made: what came before it
-pub record StopsAt {B : Type 0} (seen : Seen B) (wanted : List (Reading × Told)) (old new : B) (reply : Told) : Type 0 where
-  pub made : List (Reading × Told)
+pub record StopsAt {B : Type 0} (seen : Seen B) (made wanted : List (Reading × Told)) (old new : B) (reply : Told) : Type 0 where
   pub command : List ℕ
-  pub answer : List ℕ
-  pub rest : List (Reading × Told)
-  pub place : wanted ≡ made ++ ((Runs command, Answered answer) ∷ rest)
-  pub other : reply ≢ Answered answer
+  pub differs : Differs made wanted command reply
   pub come : Comes seen (made ++ ((Runs command, reply) ∷ [])) old new
 
--- a transaction that is open is rolled back; without one nothing comes
-abbrev pub IsRolledBack : Bool → List (Reading × Told) → Type 0
-IsRolledBack true answers = (told : Told) × (answers ≡ (Runs (codes "ROLLBACK"), told) ∷ [])
-IsRolledBack false answers = answers ≡ []
+-- What comes before the row of this number stops at its COMMIT, and so many rows are committed as were before; or it stops behind that, and those before the row are committed.
+abbrev pub StopsBefore : {B : Type 0} → Seen B → (many number was committed : ℕ) → B → B → Told → Type 0
+StopsBefore seen many number was committed old new reply =
+    ((committed ≡ was) × StopsAt seen [] (before_row many number) old new reply)
+    ⊎ ((committed ≡ number) × ((number % many == 0) ≡ true) × StopsAt seen (ending number) (before_row many number) old new reply)
 
 -- what is open is rolled back
 abbrev pub RollsBack : {B : Type 0} → Seen B → B → B → Type 0
-RollsBack seen old new = (ending : List (Reading × Told)) × IsRolledBack (is_some (seen.current old)) ending × Comes seen ending old new
+RollsBack seen old new = (last : List (Reading × Told)) × IsRolledBack (is_some (seen.current old)) last × Comes seen last old new
 
--- So it ended: what was wanted came up to one command, and then what was open was rolled back. What was committed before, in whole transactions, stays.
-pub record IsCutShort {B : Type 0} (seen : Seen B) (wanted : List (Reading × Told)) (old new : B) (reply : Told) : Type 0 where
+-- So it ended: what was wanted came up to one command, and then what was open was rolled back. So many rows were committed before, in whole transactions, and stay.
+pub record IsCutShort {B : Type 0} (seen : Seen B) (many : ℕ) (name : List ℕ) (rows : List (List Value)) (old new : B) (count : ℕ) (reply : Told) : Type 0 where
+  pub made : List (Reading × Told)
   pub middle : B
-  pub stops : StopsAt seen wanted old middle reply
+  pub stops : StopsAt seen made (import_of many name rows) old middle reply
+  pub committed : IsCommitted many name rows count made
   pub ends : RollsBack seen middle new

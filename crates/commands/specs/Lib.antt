@@ -10,6 +10,7 @@ pub mod Solo
 pub mod Play
 pub mod Import
 pub mod ImportFile
+pub mod ImportWord
 pub mod Leaves
 pub mod Stats
 pub mod Session

@@ -1,5 +1,5 @@
 -- A session: what is typed is answered line by line, over one database.
-use Rattle.std.specs.Prelude.{ℕ, ◌≡◌, ◌⊎◌, Bool, if◌then◌else◌, List, [], ◌∷◌, ◌++◌, codes, flat_map, Option, Result, Ok, Err}
+use Rattle.std.specs.Prelude.{ℕ, ◌≡◌, ◌⊎◌, Bool, if◌then◌else◌, List, [], ◌∷◌, ◌++◌, codes, flat_map, map, Option, Result, Ok, Err}
 use Rattle.std.specs.Borrow.{Bor}
 use Rattle.std.specs.Io.KnownBytes.{Appends, Keeps}
 use Rattle.meaning.specs.Whole.{Relations}
@@ -12,6 +12,7 @@ use Rattle.world.specs.Executed.{Stands}
 use Rattle.world.specs.Runs.{IsSerialRun}
 use Rattle.world.specs.Client.{IsServed}
 use Rattle.shell.specs.declared.mode.Mode.{Mode}
+use Rattle.shell.specs.declared.mode.Mode.TheVariants.{Tabs}
 use Rattle.lines.specs.declared.catalog_file.CatalogFault.{CatalogFault}
 use Rattle.lines.specs.declared.catalog_file.CatalogFault.TheVariants.{Program, Refused}
 use Rattle.lines.specs.declared.fault.ProgramFault.{ProgramFault}
@@ -20,7 +21,7 @@ use Rattle.commands.specs.Client.{AnswersTask, GoesOn, Seen, Standing, standing_
 use Rattle.lines.specs.Input.{IsOfInput}
 use Rattle.lines.specs.Listing.{schema_text, tables_text}
 use Rattle.commands.specs.declared.stats.Stats.{Stats}
-use Rattle.commands.specs.ImportFile.{imported_text}
+use Rattle.commands.specs.Import.{ImportMade, imported_text}
 use Rattle.commands.specs.Stats.{stats_text}
 use Rattle.world.specs.declared.traffic.Traffic.{Traffic}
 use Rattle.commands.specs.Origin.{BeginsWith, Origin}
@@ -65,7 +66,6 @@ pub data Aside (catalogue : Catalogue) : Type 0 where
   Help : Aside catalogue
   Tables : Aside catalogue
   Schema : (asked : List ℕ) → Aside catalogue
-  Imported : (count : ℕ) → Aside catalogue
   Cost : (stats : Stats) (traffic : Traffic) → Aside catalogue
   Plan : (typed text : List ℕ) (of_typed : IsPlanOf catalogue typed text) → Aside catalogue
   LineEnd : Aside catalogue
@@ -76,7 +76,6 @@ aside_text catalogue (Prompt is_more is_open) = prompt_text is_more is_open
 aside_text catalogue Help = help_text
 aside_text catalogue Tables = tables_text catalogue
 aside_text catalogue (Schema asked) = schema_text catalogue asked
-aside_text catalogue (Imported count) = imported_text count
 aside_text catalogue (Cost stats traffic) = stats_text stats traffic
 aside_text catalogue (Plan typed text of_typed) = text
 aside_text catalogue LineEnd = 10 ∷ []
@@ -91,20 +90,25 @@ pub record Exchange : Type 0 where
   pub task : Reading
   pub told : Told
 
--- a piece of what is written: an answer, or something else; or nothing, by a command that the session itself asks for, as an import does
+-- so of a command that an import asks for
+abbrev pub imports_by : Reading × Told → Exchange
+imports_by one = record { mode = Tabs; task = one.0; told = one.1 }
+
+-- A piece of what is written: an answer, something else, or what came of an import. The rows of a file are inserted into a relation then, so many in a transaction; of each command that this
+-- asks for nothing is written, but once how many rows are committed.
 pub data Piece (catalogue : Catalogue) : Type 0 where
   Answer : (exchange : Exchange) → Piece catalogue
-  Hushed : (exchange : Exchange) → Piece catalogue
+  Import : (made : ImportMade) → Piece catalogue
   Beside : (aside : Aside catalogue) → Piece catalogue
 
 abbrev pub piece_text : (catalogue : Catalogue) → Piece catalogue → List ℕ
 piece_text catalogue (Answer exchange) = text_of exchange.told
-piece_text catalogue (Hushed exchange) = []
+piece_text catalogue (Import made) = imported_text made.count
 piece_text catalogue (Beside aside) = aside_text catalogue aside
 
 abbrev pub exchange_in : (catalogue : Catalogue) → Piece catalogue → List Exchange
 exchange_in catalogue (Answer exchange) = exchange ∷ []
-exchange_in catalogue (Hushed exchange) = exchange ∷ []
+exchange_in catalogue (Import made) = map imports_by made.answers
 exchange_in catalogue (Beside aside) = []
 
 abbrev pub exchanges_in : (catalogue : Catalogue) → List (Piece catalogue) → List Exchange
@@ -137,7 +141,7 @@ pub record IsSessionFrom (catalogue : Catalogue) (whole : Relations) (written : 
 abbrev pub IsOfSession : Bor (List ℕ) → ProgramFault → Type 0
 IsOfSession file fault = IsOfRun fault ⊎ IsOfInput file fault
 
--- a stretch of a session, over a database that goes on: all that was asked is answered, in order, and between the answers stands nothing but asides
+-- a stretch of a session, over a database that goes on: all that was asked is answered, in order, and written are the answers, what came of imports, and asides
 pub record IsTalk {B : Type 0} (seen : Seen B) (catalogue : Catalogue) (whole : Relations) (past : List (Deed (language (database catalogue)))) (old new : B) (written : List ℕ) : Type 0 where
   pub later : List (Deed (language (database catalogue)))
   pub goes_on : GoesOn seen catalogue whole later new

@@ -39,7 +39,7 @@ pub fn site_found<M: Alter + Drop>(
     })
 }
 
-/// The transactions whose commit rows a coordinator's table has, for a person's eyes as well.
+/// The transactions whose commit rows a coordinator's table has. It is for a person's eyes as well, so no clause says it.
 pub fn decided<M: Alter + Drop>(alloc: Global, mut conn: Connection<M>) -> Result<Vec<Txn>, Error> {
     txns_of(
         alloc,

@@ -1,8 +1,8 @@
 //! Rows that are inserted, so many in a transaction.
 
-ghost use Rattle.std.specs.Prelude.{◌≡◌, ◌≢◌, ◌<◌, ◌==◌, ◌%◌, ◌∷◌, ℕ, [], true, false, None, IfErr, IfOk, IfSome, OnOk, Ok};
+ghost use Rattle.std.specs.Prelude.{◌≡◌, ◌≢◌, ◌<◌, ◌==◌, ◌%◌, ◌∷◌, ℕ, [], true, false, if◌then◌else◌, None, IfErr, IfOk, IfSome, OnOk, Ok};
 ghost use Rattle.commands.specs.Client.{IsOfClient, Serves};
-ghost use Rattle.commands.specs.Import.{Comes, IsCutShort, RollsBack, StopsAt, before_row, begins, commits, import_of, insert_says, opening};
+ghost use Rattle.commands.specs.Import.{Comes, IsCutShort, RollsBack, StopsAt, StopsBefore, before_row, begins, commits, ending, import_of, insert_says};
 ghost use Rattle.lines.specs.Reply.{Answered, told_by};
 ghost use Rattle.lines.specs.declared.reply.Reply.{Reply as ReplyNow};
 ghost use Rattle.lines.specs.Script.{Runs};
@@ -25,8 +25,8 @@ use terms::row::Row;
 pub enum Imported {
     /// All of them are committed.
     All,
-    /// This reply came in place of the one that was wanted, at the row of this place, or as the transaction before it was to
-    /// be committed. So many rows are committed, in whole transactions, and no transaction is open.
+    /// This reply came in place of the one that was wanted: at the row of this place, or as the transaction before it was to be
+    /// committed, or its own to begin. So many rows are committed, in whole transactions, and no transaction is open.
     Until {
         row: usize,
         committed: usize,
@@ -46,26 +46,20 @@ pub fn import<'a, B: Database>(
 ) -> Result<Imported, ProgramFault<'a>>
     requires some { 0 < many }
     ensures all { result ≡ Ok imported.All → Comes B.seen (import_of many relation.now.name rows.now) database.old database.new }
-    ensures until { (row committed : ℕ) (reply : ReplyNow) → result ≡ Ok (imported.Until row committed reply) → IsCutShort B.seen (import_of many relation.now.name rows.now) database.old database.new (told_by reply) }
+    ensures until { (row committed : ℕ) (reply : ReplyNow) → result ≡ Ok (imported.Until row committed reply) → IsCutShort B.seen many relation.now.name rows.now database.old database.new committed (told_by reply) }
     ensures err { IfErr result IsOfClient }
 {
-    if rows.is_empty() {
-        return Ok(Imported::All);
-    }
     let mut committed = 0;
     for (number, row) in rows.iter().enumerate() {
-        if let Some(reply) = turn_over(alloc, database, many, number)? {
+        if let Some(reply) = turn_over(alloc, database, many, number, &mut committed)? {
             return until(alloc, database, number, committed, reply);
-        }
-        if is_first(many, number) {
-            committed = number;
         }
         if let Some(reply) = insert_row(alloc, database, relation, row)? {
             return until(alloc, database, number, committed, reply);
         }
         progress.inserted(number, rows.len());
     }
-    match commit(alloc, database)? {
+    match end(alloc, database, rows.len())? {
         Some(reply) => until(alloc, database, rows.len(), committed, reply),
         None => Ok(Imported::All),
     }
@@ -103,44 +97,29 @@ fn roll_back_open<'a, B: Database>(alloc: Global, database: &mut B) -> Result<()
     Ok(())
 }
 
-/// Does what comes before the row of this number: where a transaction is full it is committed, and another one begins.
+/// Does what comes before the row of this number: where a transaction is full it is committed, and another one begins. Counts in
+/// `committed` the rows that are committed: all before this one, once that COMMIT has come.
 fn turn_over<'a, B: Database>(
     alloc: Global,
     database: &mut B,
     many: usize,
     number: usize,
+    committed: &mut usize,
 ) -> Result<Option<Reply>, ProgramFault<'a>>
     requires some { 0 < many }
     ensures all { result ≡ Ok None → Comes B.seen (before_row many number) database.old database.new }
-    ensures stops { IfOk result (λ told. IfSome told (λ reply. StopsAt B.seen (before_row many number) database.old database.new (told_by reply))) }
+    ensures committed { result ≡ Ok None → committed.new ≡ (if number % many == 0 then number else committed.old) }
+    ensures stops { IfOk result (λ told. IfSome told (λ reply. StopsBefore B.seen many number committed.old committed.new database.old database.new (told_by reply))) }
     ensures err { IfErr result IsOfClient }
 {
-    if is_first(many, number) {
-        return open(alloc, database, number);
+    if !is_first(many, number) {
+        return Ok(None);
     }
-    Ok(None)
-}
-
-/// Begins a transaction before the row of this number, and commits the one before it.
-fn open<'a, B: Database>(
-    alloc: Global,
-    database: &mut B,
-    number: usize,
-) -> Result<Option<Reply>, ProgramFault<'a>>
-    ensures all { result ≡ Ok None → Comes B.seen (opening number) database.old database.new }
-    ensures stops { IfOk result (λ told. IfSome told (λ reply. StopsAt B.seen (opening number) database.old database.new (told_by reply))) }
-    ensures err { IfErr result IsOfClient }
-{
-    if is_zero(number) {
-        return begin(alloc, database);
+    if let Some(reply) = end(alloc, database, number)? {
+        return Ok(Some(reply));
     }
-    turn(alloc, database)
-}
-
-fn is_zero(number: usize) -> bool
-    ensures { result ≡ (number == 0) }
-{
-    number == 0
+    *committed = number;
+    begin(alloc, database)
 }
 
 /// Whether a row of this number is the first of a transaction.
@@ -151,16 +130,20 @@ fn is_first(many: usize, number: usize) -> bool
     number % many == 0
 }
 
-/// Commits a transaction, and begins another one.
-fn turn<'a, B: Database>(alloc: Global, database: &mut B) -> Result<Option<Reply>, ProgramFault<'a>>
-    ensures all { result ≡ Ok None → Comes B.seen (commits ∷ begins ∷ []) database.old database.new }
-    ensures stops { IfOk result (λ told. IfSome told (λ reply. StopsAt B.seen (commits ∷ begins ∷ []) database.old database.new (told_by reply))) }
+/// Commits the transaction before the row of this number. Before the first row there is none.
+fn end<'a, B: Database>(
+    alloc: Global,
+    database: &mut B,
+    number: usize,
+) -> Result<Option<Reply>, ProgramFault<'a>>
+    ensures all { result ≡ Ok None → Comes B.seen (ending number) database.old database.new }
+    ensures stops { IfOk result (λ told. IfSome told (λ reply. StopsAt B.seen [] (ending number) database.old database.new (told_by reply))) }
     ensures err { IfErr result IsOfClient }
 {
-    match commit(alloc, database)? {
-        None => begin(alloc, database),
-        Some(reply) => Ok(Some(reply)),
+    if number == 0 {
+        return Ok(None);
     }
+    commit(alloc, database)
 }
 
 fn begin<'a, B: Database>(
@@ -168,7 +151,7 @@ fn begin<'a, B: Database>(
     database: &mut B,
 ) -> Result<Option<Reply>, ProgramFault<'a>>
     ensures all { result ≡ Ok None → Comes B.seen (begins ∷ []) database.old database.new }
-    ensures stops { IfOk result (λ told. IfSome told (λ reply. StopsAt B.seen (begins ∷ []) database.old database.new (told_by reply))) }
+    ensures stops { IfOk result (λ told. IfSome told (λ reply. StopsAt B.seen [] (begins ∷ []) database.old database.new (told_by reply))) }
     ensures err { IfErr result IsOfClient }
 {
     unless_told(alloc, database, "BEGIN", "begun\n")
@@ -179,7 +162,7 @@ fn commit<'a, B: Database>(
     database: &mut B,
 ) -> Result<Option<Reply>, ProgramFault<'a>>
     ensures all { result ≡ Ok None → Comes B.seen (commits ∷ []) database.old database.new }
-    ensures stops { IfOk result (λ told. IfSome told (λ reply. StopsAt B.seen (commits ∷ []) database.old database.new (told_by reply))) }
+    ensures stops { IfOk result (λ told. IfSome told (λ reply. StopsAt B.seen [] (commits ∷ []) database.old database.new (told_by reply))) }
     ensures err { IfErr result IsOfClient }
 {
     unless_told(alloc, database, "COMMIT", "committed\n")
@@ -193,7 +176,7 @@ fn insert_row<'a, B: Database>(
     row: &Row,
 ) -> Result<Option<Reply>, ProgramFault<'a>>
     ensures all { result ≡ Ok None → Comes B.seen (insert_says relation.now.name row.now ∷ []) database.old database.new }
-    ensures stops { IfOk result (λ told. IfSome told (λ reply. StopsAt B.seen (insert_says relation.now.name row.now ∷ []) database.old database.new (told_by reply))) }
+    ensures stops { IfOk result (λ told. IfSome told (λ reply. StopsAt B.seen [] (insert_says relation.now.name row.now ∷ []) database.old database.new (told_by reply))) }
     ensures err { IfErr result IsOfClient }
 {
     let text = insert_text(alloc, relation, row)?;
@@ -208,7 +191,7 @@ fn unless_told<'a, B: Database>(
     wanted: &str,
 ) -> Result<Option<Reply>, ProgramFault<'a>>
     ensures all { result ≡ Ok None → Comes B.seen ((Runs command.now, Answered wanted.now) ∷ []) database.old database.new }
-    ensures stops { IfOk result (λ told. IfSome told (λ reply. StopsAt B.seen ((Runs command.now, Answered wanted.now) ∷ []) database.old database.new (told_by reply))) }
+    ensures stops { IfOk result (λ told. IfSome told (λ reply. StopsAt B.seen [] ((Runs command.now, Answered wanted.now) ∷ []) database.old database.new (told_by reply))) }
     ensures err { IfErr result IsOfClient }
 {
     let reply = ask(alloc, database, command)?;

@@ -11,7 +11,7 @@ use lines::built_in::{BUILT_IN, BUILT_IN_NAME};
 use lines::outcome::{Outcome, Status, exit};
 use lines::transfer::Import;
 use sqlite::Alter;
-use std::io::{IsTerminal, Read, Write};
+use std::io::{Read, Write};
 use std::{fs, io};
 
 /// Inserts the rows of the file that is named, over the stores of the folder that is named, and tells what it came to. What files
@@ -123,7 +123,7 @@ fn import_on<
     errors: &mut E,
 ) -> Outcome<'a> {
     let (relation, file, every) = (import.relation, import.file, import.every);
-    let mut progress = progress_of(rt);
+    let mut progress = RowProgress::at_terminal(rt);
     of_script(import_files(
         rt.alloc(),
         opener,
@@ -137,13 +137,4 @@ fn import_on<
         output,
         errors,
     ))
-}
-
-/// Tells a person at a terminal how far an import is, and nobody else.
-fn progress_of(rt: &HostRuntime) -> RowProgress<'_> {
-    if rt.stderr().is_terminal() {
-        RowProgress::told(rt)
-    } else {
-        RowProgress::untold()
-    }
 }

@@ -1,9 +1,10 @@
 //! A file of comma-separated values, whose rows are inserted into a relation.
 
-ghost use Rattle.std.specs.Prelude.{◌≡◌, ◌<◌, false, IfOk, IfSome, OnOk, length, string_bytes};
+ghost use Rattle.std.specs.Prelude.{◌≡◌, ◌<◌, IfOk, IfSome, OnOk, length, string_bytes};
 ghost use Rattle.std.specs.Io.KnownBytes.{Appends};
 ghost use Rattle.catalog.specs.Relation.{catalogue_of};
-ghost use Rattle.commands.specs.ImportFile.{HasImported, HasInserted, ImportsFile, imported_text};
+ghost use Rattle.commands.specs.Import as imports;
+ghost use Rattle.commands.specs.ImportFile.{HasInserted, ImportsFile, ImportsOver};
 ghost use Rattle.commands.specs.ImportFile as spec;
 
 use crate::database::Database;
@@ -77,7 +78,7 @@ fn import_over<'a, B: Database + Drop, O: Opens<B>, R: Read + Drop, W: Write, E:
     output: &mut W,
     errors: &mut E,
 ) -> Result<bool, ProgramFault<'a>>
-    ensures { IfOk input (λ reader. IfOk result (λ is_refused. is_refused ≡ false → HasImported B.seen O.origin R.remaining (catalogue_of catalog.now) relation.now reader many (W.contents output.old) (W.contents output.new))) }
+    ensures { IfOk input (λ reader. IfOk result (ImportsOver B.seen O.origin R.remaining (catalogue_of catalog.now) relation.now reader many (W.contents output.old) (W.contents output.new))) }
 {
     let Some(schema) = catalog.schema().relation(relation.as_bytes()) else {
         let text = format!(in alloc; "no relation {relation}\n")?;
@@ -104,7 +105,7 @@ fn import_over<'a, B: Database + Drop, O: Opens<B>, R: Read + Drop, W: Write, E:
     }
 }
 
-/// Inserts these rows over a database of this catalogue.
+/// Inserts these rows over a database of this catalogue. Answers whether a command was refused, at which it was cut short.
 fn insert_all<'a, B: Database + Drop, O: Opens<B>, W: Write, E: Write>(
     alloc: Global,
     opener: &O,
@@ -116,7 +117,7 @@ fn insert_all<'a, B: Database + Drop, O: Opens<B>, W: Write, E: Write>(
     output: &mut W,
     errors: &mut E,
 ) -> Result<bool, ProgramFault<'a>>
-    ensures { IfOk result (λ is_refused. is_refused ≡ false → HasInserted B.seen O.origin (catalogue_of catalog.now) relation.now.name rows.now many (W.contents output.old) (W.contents output.new)) }
+    ensures { IfOk result (λ is_cut. HasInserted B.seen O.origin (catalogue_of catalog.now) relation.now.name rows.now many is_cut (W.contents output.old) (W.contents output.new)) }
 {
     moves_follow(catalog);
     let mut database = opener.open(alloc, catalog)?;
@@ -156,7 +157,7 @@ fn tell_count<'a, W: Write>(
     count: usize,
     output: &mut W,
 ) -> Result<(), ProgramFault<'a>>
-    ensures { OnOk result (Appends (W.contents output.old) (W.contents output.new) (imported_text count)) }
+    ensures { OnOk result (Appends (W.contents output.old) (W.contents output.new) (imports.imported_text count)) }
 {
     let text = imported_text(alloc, count)?;
     write_text(output, text.as_str())
@@ -164,7 +165,7 @@ fn tell_count<'a, W: Write>(
 
 /// How many rows were imported.
 pub fn imported_text(alloc: Global, count: usize) -> Result<String, Memory>
-    ensures { IfOk result (λ text. string_bytes text ≡ spec.imported_text count) }
+    ensures { IfOk result (λ text. string_bytes text ≡ imports.imported_text count) }
 {
     match count {
         1 => Ok(String::from_str(alloc, "imported 1 row\n")?),
@@ -189,7 +190,8 @@ pub fn tell_row<E: Write>(
     Ok(())
 }
 
-/// Tells what is wrong with a line of a file; that memory ran out is the program's fault.
+/// Tells what is wrong with a line of a file; that memory ran out is the program's fault. Nothing is claimed of what stands on the
+/// standard error.
 pub fn tell_line<'a, E: Write>(
     alloc: Global,
     relation: &RelationSchema,

@@ -1,6 +1,7 @@
 //! A file of comma-separated values that is named in a session, whose rows are inserted into a relation.
 
-ghost use Rattle.std.specs.Prelude.{IfErr, OnOk};
+ghost use Rattle.std.specs.Prelude.{◌≡◌, IfErr, OnOk, option_map};
+ghost use Rattle.commands.specs.ImportWord as spec;
 ghost use Rattle.commands.specs.Session.{Talks};
 ghost use Rattle.commands.specs.Solo.{IsOfRun};
 
@@ -12,7 +13,9 @@ use crate::session_word::{Turn, tell};
 use crate::texts::OpensText;
 use exchange::file::rows;
 use exchange::line_fault::{LineFault, LineWhat};
+use lines::cut::cut;
 use lines::fault::ProgramFault;
+use lines::play_script::number;
 use lines::written::write_text;
 use meaning::schema::RelationSchema;
 use std::alloc::Global;
@@ -35,13 +38,11 @@ pub struct Asked<'a> {
 
 impl<'a> Asked<'a> {
     /// A file, a relation, and perhaps a number of rows from 1 to 1,000,000.
-    pub fn read(words: &'a str) -> Option<Asked<'a>> {
-        let (file, rest) = words.split_once(' ')?;
-        let rest = rest.trim_ascii();
-        let (relation, many) = match rest.split_once(' ') {
-            None => (rest, None),
-            Some((relation, number)) => (relation, Some(rows_in(number.trim_ascii())?)),
-        };
+    pub fn read(words: &'a str) -> Option<Asked<'a>>
+        ensures { option_map spec.asked_of result ≡ spec.asked_in words.entry.now }
+    {
+        let (file, rest) = cut(words, ' ')?;
+        let (relation, many) = relation_in(trimmed(rest))?;
         if relation.is_empty() {
             return None;
         }
@@ -53,13 +54,32 @@ impl<'a> Asked<'a> {
     }
 }
 
+/// A relation, and the number of rows behind it, where one is said.
+fn relation_in(text: &str) -> Option<(&str, Option<u64>)>
+    ensures { option_map (λ parts. (parts.0.now, parts.1)) result ≡ spec.relation_in text.now }
+{
+    match cut(text, ' ') {
+        None => Some((text, None)),
+        Some((relation, word)) => Some((relation, Some(rows_in(trimmed(word))?))),
+    }
+}
+
 /// The number of rows that a word says.
-fn rows_in(word: &str) -> Option<u64> {
-    let number: u64 = word.parse().ok()?;
-    if number == 0 || number > 1_000_000 {
+fn rows_in(word: &str) -> Option<u64>
+    ensures { result ≡ spec.rows_in word.now }
+{
+    let many = number(word)?;
+    if many == 0 || many > 1_000_000 {
         return None;
     }
-    Some(number)
+    Some(many)
+}
+
+/// A text without the blanks at its ends.
+fn trimmed(text: &str) -> &str
+    ensures { result.now ≡ spec.trimmed text.now }
+{
+    text.trim_ascii()
 }
 
 /// Inserts the rows of the file that is named, as `fragdb import` does. What can't be read, or is no row, is told, and costs nothing
@@ -87,21 +107,39 @@ pub fn take_import<'a, B: Database, K: OpensText<T>, T: Read + Drop, W: Write, E
         tell(errors, text.as_str());
         return Ok(Turn::GoesOn);
     };
-    match rows_named(alloc, host, &relation, asked.file) {
+    take_rows(alloc, host, database, &relation, asked, output, errors)
+}
+
+/// Inserts the rows of the file that is named into a relation, or tells why there are none.
+fn take_rows<'a, B: Database, K: OpensText<T>, T: Read + Drop, W: Write, E: Write>(
+    alloc: Global,
+    host: &K,
+    database: &mut B,
+    relation: &RelationSchema,
+    asked: Asked<'_>,
+    output: &mut W,
+    errors: &mut E,
+) -> Result<Turn, ProgramFault<'a>>
+    ensures ok { OnOk result (Talks B.seen (W.contents output.old) (W.contents output.new) database.old database.new) }
+    ensures err { IfErr result IsOfRun }
+{
+    match rows_named(alloc, host, relation, asked.file) {
         Ok(rows) => {
+            let mut progress = host.row_progress();
             bring_in(
                 alloc,
                 database,
-                &relation,
+                relation,
                 rows.as_slice(),
                 asked.many,
+                &mut progress,
                 output,
                 errors,
             )?;
             Ok(Turn::Answered)
         }
         Err(fault) => {
-            tell_unread(alloc, &relation, asked.file, &fault, errors)?;
+            tell_unread(alloc, relation, asked.file, &fault, errors)?;
             Ok(Turn::GoesOn)
         }
     }
@@ -142,15 +180,15 @@ fn bring_in<'a, B: Database, W: Write, E: Write>(
     relation: &RelationSchema,
     rows: &[Row],
     many: Option<u64>,
+    progress: &mut RowProgress<'_>,
     output: &mut W,
     errors: &mut E,
 ) -> Result<(), ProgramFault<'a>>
     ensures ok { OnOk result (Talks B.seen (W.contents output.old) (W.contents output.new) database.old database.new) }
     ensures err { IfErr result IsOfRun }
 {
-    let mut progress = RowProgress::untold();
     let many = many_of(many, rows);
-    match import(alloc, database, relation, rows, many, &mut progress)? {
+    match import(alloc, database, relation, rows, many, progress)? {
         Imported::All => {
             let text = imported_text(alloc, rows.len())?;
             write_text(output, text.as_str())

@@ -1,4 +1,4 @@
-//! What is told of the shell's words where they are not typed as is wanted. Nothing is claimed of what stands on the standard error.
+//! What is told of the shell's words where they are not typed as is wanted.
 
 use crate::session_word::tell;
 use catalog::catalogue::Catalog;
@@ -27,14 +27,14 @@ fn usage_of(word: Word) -> &'static str {
     }
 }
 
-/// Tells how a word is to be typed.
+/// Tells how a word is to be typed. Nothing is claimed of what stands on the standard error.
 pub fn tell_wanted<E: Write>(alloc: Global, word: Word, errors: &mut E) -> Result<(), AllocError> {
     let text = format!(in alloc; "wanted: {}\n", usage_of(word))?;
     tell(errors, text.as_str());
     Ok(())
 }
 
-/// Tells that the shell has no such word, and which one was likely meant.
+/// Tells that the shell has no such word, and which one was likely meant. Nothing is claimed of what stands on the standard error.
 pub fn tell_unknown<E: Write>(alloc: Global, line: &str, errors: &mut E) -> Result<(), AllocError> {
     let word = match line.split_once(' ') {
         Some((front, _)) => front,
@@ -48,7 +48,7 @@ pub fn tell_unknown<E: Write>(alloc: Global, line: &str, errors: &mut E) -> Resu
     Ok(())
 }
 
-/// Tells that there is no such relation, and which one was likely meant.
+/// Tells that there is no such relation, and which one was likely meant. Nothing is claimed of what stands on the standard error.
 pub fn tell_no_relation<E: Write>(
     alloc: Global,
     catalog: &Catalog,

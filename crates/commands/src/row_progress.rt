@@ -1,6 +1,6 @@
 //! How far an import is told to be.
 
-use std::io::Write;
+use std::io::{IsTerminal, Write};
 use std::time::Instant;
 
 /// Tells a person how many rows are inserted, at most once a second, and not within the first one; or tells nobody.
@@ -14,7 +14,7 @@ pub struct RowProgress<'r> {
 }
 
 impl<'r> RowProgress<'r> {
-    /// Nobody is told.
+    /// Nobody is told. What that writes, nothing, has no clause.
     pub fn untold() -> RowProgress<'r> {
         RowProgress {
             rt: None,
@@ -32,7 +32,16 @@ impl<'r> RowProgress<'r> {
         }
     }
 
-    /// The row of this number, counted from 0, is inserted, of so many in all.
+    /// A person at a terminal is told, and nobody else. What stands on the standard error has no clause.
+    pub fn at_terminal(rt: &'r HostRuntime) -> RowProgress<'r> {
+        if rt.stderr().is_terminal() {
+            RowProgress::told(rt)
+        } else {
+            RowProgress::untold()
+        }
+    }
+
+    /// The row of this number, counted from 0, is inserted, of so many in all. What is told of that has no clause.
     pub fn inserted(&mut self, number: usize, all: usize) {
         if let (Some(rt), Some(begun)) = (self.rt, self.begun)
             && let Ok(took) = begun.elapsed(rt)

@@ -67,7 +67,8 @@ fn tell_fault<'a, E: Write>(
     Ok(())
 }
 
-/// The name of a file's relation: that of the file without its folders, up to its first dot.
+/// The name of a file's relation: that of the file without its folders, up to its first dot. It stands in for a name that isn't given,
+/// so no clause says it.
 pub fn relation_of(file: &str) -> &str {
     let name = match file.rsplit_once('/') {
         Some((_, name)) => name,

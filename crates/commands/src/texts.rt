@@ -1,18 +1,26 @@
-//! The files that are named in a session.
+//! The files that are named in a session, and who is told how far their rows are.
 
+use crate::row_progress::RowProgress;
 use std::fs::File;
 use std::io::Read;
 use std::rt::HostRuntime;
 use std::{fs, io};
 
-/// Opens files by their names.
+/// Opens files by their names, and knows who is told how far their rows are.
 pub trait OpensText<T: Read> {
     /// Opens the file of this name, to be read. No clause says what it holds, since a file may change meanwhile.
     fn open_text(&self, name: &str) -> io::Result<T>;
+
+    /// Who is told how far an import is. What is told has no clause.
+    fn row_progress(&self) -> RowProgress<'_>;
 }
 
 impl OpensText<File> for HostRuntime {
     fn open_text(&self, name: &str) -> io::Result<File> {
         fs::open(self, name)
+    }
+
+    fn row_progress(&self) -> RowProgress<'_> {
+        RowProgress::at_terminal(self)
     }
 }
