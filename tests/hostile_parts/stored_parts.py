@@ -39,8 +39,10 @@ def read_part(data):
     return values if at == len(data) else "Trailing"
 
 
-# Leaves that no site of the employees' catalogue has, or not this one.
-OTHER_LEAVES = ["", "emp", "emp.", "emp.0", "emp.4", "emp.01", "emp.1 ", "Emp.1", "emp.1\n", "emp.99999999999999999999", "zone.1", "dept.3"]
+# Leaves that no relation of the employees' catalogue can have.
+NO_LEAVES = ["", "emp", "emp.", "emp.0", "emp.33", "emp.01", "emp.1 ", "Emp.1", "emp.1\n", "emp.99999999999999999999", "zone.1", "dept.33"]
+# Leaves that its relations can have, but that it puts at no site.
+FREE_LEAVES = ["emp.4", "emp.32", "dept.3", "dept.32"]
 BY_RUN = 10
 
 
@@ -73,8 +75,8 @@ class Parts:
             turned = (body[:at] + bytes([body[at] ^ 1 << bit]) + body[at + 1 :] for at in range(len(body)) for bit in range(8))
             bodies = [body, *(body[:length] for length in range(len(body))), *turned, *(bytes([byte]) for byte in range(0, 256, 15))]
             yield from ((site, leaf, names, key, "body", it) for it in bodies)
-            others = [*OTHER_LEAVES, *(["emp.3", "dept.2"] if site == "north" else ["emp.1", "emp.2", "dept.1"])]
-            yield from ((site, leaf, names, key, "leaf", it) for it in others)
+            others = ["emp.3", "dept.2"] if site == "north" else ["emp.1", "emp.2", "dept.1"]
+            yield from ((site, leaf, names, key, "leaf", it) for it in (*NO_LEAVES, *FREE_LEAVES, *others))
 
     def differs(self, numbered):
         number, (site, leaf, names, key, column, value) = numbered
@@ -89,10 +91,11 @@ class Parts:
         base.close()
         before = contents(f"{folder}/{site}.db")
         had = run(["solo", "--catalog", f"{DATA}/emp_and_dept.toml", "--dir", folder, "-"], f".leaf {leaf}\n".encode())
-        values = read_part(value) if column == "body" else "a leaf that isn't there"
-        told = f"{leaf} with the {column} {value!r}, which is {values}"
-        if not isinstance(values, str) and values[0] == key:
-            wanted = (0, (names + "\n" + "\t".join(map(str, values)) + "\n1 row\n").encode(), b"")
+        values = read_part(value) if column == "body" else "no leaf" if value in NO_LEAVES else []
+        told = f"{leaf} with the {column} {value!r}, which is {values or 'another leaf'}"
+        if values == [] or not isinstance(values, str) and values[0] == key:
+            rows = "\n".join([names, *(["\t".join(map(str, values)), "1 row"] if values else ["0 rows"])])
+            wanted = (0, f"{rows}\n".encode(), b"")
             return None if had == wanted else f"{told}: {had}, wanted {wanted}"
         if had == DAMAGED and number % BY_RUN == 0:
             had = run(["run", "--catalog", f"{DATA}/emp_and_dept.toml", "--dir", folder, "-"], b"a SELECT id FROM emp\n")

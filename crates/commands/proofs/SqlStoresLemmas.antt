@@ -8,7 +8,7 @@ use Rattle.std.specs.Ordering.{is_eq}
 use Rattle.terms.specs.declared.leaf.Leaf.{Leaf}
 use Rattle.terms.specs.Leaf.{leaf_cmp}
 use Rattle.catalog.specs.Catalogue.{Catalogue}
-use Rattle.catalog.specs.FragmentLeaf.{catalogue_leaves, names_at}
+use Rattle.catalog.specs.FragmentLeaf.{schemas_of}
 use Rattle.store.specs.SiteContent.{SiteContent}
 use Rattle.protocol.specs.Parts.{In}
 use Rattle.site.specs.State.{AreHad}
@@ -18,6 +18,7 @@ use Rattle.sqlstore.specs.declared.site.SqlSite.{SqlSite}
 use Rattle.sqlstore.specs.Content.{has_leaf}
 use Rattle.sqlstore.specs.Desk.{IsSoundDesk, desk_kept}
 use Rattle.sqlstore.specs.Site.{IsSound, kept_by}
+use Rattle.world.specs.Leaves.{known_leaves}
 use Rattle.world.specs.Recovery.{HaveLeaves}
 use Rattle.world.specs.Start.{AreNew, KeepsNothing}
 use Rattle.wire.specs.Opening as opening
@@ -36,53 +37,43 @@ has_in (one ∷ leaves) leaf (inr more) = ap (λ b. is_eq (leaf_cmp leaf one) ||
 abbrev kept_in : SqlSite MemStore over_memory → SiteContent
 kept_in site = kept_by over_memory site.leaves.items site.conn
 
-has_its : (catalogue : Catalogue) (place : ℕ) (site : SqlSite MemStore over_memory) → IsNewSite catalogue place site → AreHad (names_at place (catalogue_leaves catalogue)) (kept_in site)
-has_its catalogue place site new leaf inside = has_in site.leaves.items leaf (subst (In leaf) (sym new.leaves) inside)
+has_its : (catalogue : Catalogue) (site : SqlSite MemStore over_memory) → IsNewSite catalogue site → AreHad (known_leaves (schemas_of catalogue)) (kept_in site)
+has_its catalogue site new leaf inside = has_in site.leaves.items leaf (subst (In leaf) (sym new.leaves) inside)
 
-have_leaves : (catalogue : Catalogue) (place : ℕ) (sites : List (SqlSite MemStore over_memory)) → AreNewSites catalogue place sites → HaveLeaves catalogue place (map kept_in sites)
-have_leaves catalogue place [] new = tt
-have_leaves catalogue place (site ∷ sites) new = (has_its catalogue place site new.0, have_leaves catalogue (suc place) sites new.1)
+have_leaves : (catalogue : Catalogue) (sites : List (SqlSite MemStore over_memory)) → AreNewSites catalogue sites → HaveLeaves catalogue (map kept_in sites)
+have_leaves catalogue [] new = tt
+have_leaves catalogue (site ∷ sites) new = (has_its catalogue site new.0, have_leaves catalogue sites new.1)
 
-all_sound : (catalogue : Catalogue) (place : ℕ) (sites : List (SqlSite MemStore over_memory)) → AreNewSites catalogue place sites → AllByRecursion (λ site. IsSound over_memory site.leaves.items site.conn) sites
-all_sound catalogue place [] new = tt
-all_sound catalogue place (site ∷ sites) new = (new.0.sound, all_sound catalogue (suc place) sites new.1)
+all_sound : (catalogue : Catalogue) (sites : List (SqlSite MemStore over_memory)) → AreNewSites catalogue sites → AllByRecursion (λ site. IsSound over_memory site.leaves.items site.conn) sites
+all_sound catalogue [] new = tt
+all_sound catalogue (site ∷ sites) new = (new.0.sound, all_sound catalogue sites new.1)
 
 early : (life : ℕ) → life ≡ 0 → life + 1 < 2 ^ 63
 early life none = rw (none) (omega arith)
 
-keep_nothing : (catalogue : Catalogue) (place : ℕ) (sites : List (SqlSite MemStore over_memory)) → AreNewSites catalogue place sites → AllByRecursion KeepsNothing (map kept_in sites)
-keep_nothing catalogue place [] new = tt
-keep_nothing catalogue place (site ∷ sites) new = (record { content = new.0.nothing.content; prepared = new.0.nothing.prepared; life = early (kept_in site).life new.0.nothing.life }, keep_nothing catalogue (suc place) sites new.1)
+keep_nothing : (catalogue : Catalogue) (sites : List (SqlSite MemStore over_memory)) → AreNewSites catalogue sites → AllByRecursion KeepsNothing (map kept_in sites)
+keep_nothing catalogue [] new = tt
+keep_nothing catalogue (site ∷ sites) new = (record { content = new.0.nothing.content; prepared = new.0.nothing.prepared; life = early (kept_in site).life new.0.nothing.life }, keep_nothing catalogue sites new.1)
 
 -- new stores in SQLite are new stores
-pub are_new : (catalogue : Catalogue) (desk : SqlDesk MemStore over_memory) (sites : List (SqlSite MemStore over_memory)) → IsNewDesk desk → AreNewSites catalogue 0 sites →
+pub are_new : (catalogue : Catalogue) (desk : SqlDesk MemStore over_memory) (sites : List (SqlSite MemStore over_memory)) → IsNewDesk desk → AreNewSites catalogue sites →
     AreNew (λ (desk : SqlDesk MemStore over_memory). IsSoundDesk over_memory desk.conn) (λ desk. desk_kept over_memory desk.conn) (λ (site : SqlSite MemStore over_memory). IsSound over_memory site.leaves.items site.conn) kept_in catalogue desk sites
 are_new catalogue desk sites new news = record {
-  sound = (new.sound, all_sound catalogue 0 sites news);
+  sound = (new.sound, all_sound catalogue sites news);
   keep = record {
-    leaves = have_leaves catalogue 0 sites news;
-    sites = keep_nothing catalogue 0 sites news;
+    leaves = have_leaves catalogue sites news;
+    sites = keep_nothing catalogue sites news;
     commits = new.nothing.commits;
     life = early (desk_kept over_memory desk.conn).life new.nothing.life;
   };
 }
 
--- one new store more, behind others
-pub and_one : (catalogue : Catalogue) (place : ℕ) (sites : List (SqlSite MemStore over_memory)) (site : SqlSite MemStore over_memory) → AreNewSites catalogue place sites → IsNewSite catalogue (place + length sites) site → AreNewSites catalogue place (sites ++ site ∷ [])
-and_one catalogue place [] site news new = (subst (λ (n : ℕ). IsNewSite catalogue n site) (omega arith) new, tt)
-and_one catalogue place (first ∷ sites) site news new = (news.0, and_one catalogue (suc place) sites site news.1 (subst (λ (n : ℕ). IsNewSite catalogue n site) (omega arith) new))
+-- new stores have the leaves that their sites know
+pub new_of_leaves : (catalogue : Catalogue) (sites : List (SqlSite MemStore over_memory)) → AreNewSites catalogue sites → AreOfLeaves catalogue sites
+new_of_leaves catalogue [] new = tt
+new_of_leaves catalogue (site ∷ sites) new = (new.0.leaves, new_of_leaves catalogue sites new.1)
 
--- one store more that has its site's leaves, behind others
-pub of_leaves_one : {M : Type 0} {g : Ghosts M} (catalogue : Catalogue) (place : ℕ) (sites : List (SqlSite M g)) (site : SqlSite M g) → AreOfLeaves catalogue place sites → site.leaves.items ≡ names_at (place + length sites) (catalogue_leaves catalogue) → AreOfLeaves catalogue place (sites ++ site ∷ [])
-of_leaves_one catalogue place [] site have its = (subst (λ (n : ℕ). site.leaves.items ≡ names_at n (catalogue_leaves catalogue)) (omega arith) its, tt)
-of_leaves_one catalogue place (first ∷ sites) site have its = (have.0, of_leaves_one catalogue (suc place) sites site have.1 (subst (λ (n : ℕ). site.leaves.items ≡ names_at n (catalogue_leaves catalogue)) (omega arith) its))
-
--- new stores have the leaves of their sites
-pub new_of_leaves : (catalogue : Catalogue) (place : ℕ) (sites : List (SqlSite MemStore over_memory)) → AreNewSites catalogue place sites → AreOfLeaves catalogue place sites
-new_of_leaves catalogue place [] new = tt
-new_of_leaves catalogue place (site ∷ sites) new = (new.0.leaves, new_of_leaves catalogue (suc place) sites new.1)
-
--- stores that have the leaves of their sites, as those ask that open a database over them
-pub sql_have : {M : Type 0} {g : Ghosts M} (is_clean : SqlSite M g → Type 0) (catalogue : Catalogue) (place : ℕ) (sites : List (SqlSite M g)) → AreOfLeaves catalogue place sites → opening.HaveLeaves is_clean (λ (site : SqlSite M g). kept_by g site.leaves.items site.conn) catalogue place sites
-sql_have is_clean catalogue place [] have = tt
-sql_have is_clean catalogue place (site ∷ sites) have = (λ clean leaf inside. has_in site.leaves.items leaf (subst (In leaf) (sym have.0) inside), sql_have is_clean catalogue (suc place) sites have.1)
+-- stores that have the leaves that their sites know, as those ask that open a database over them
+pub sql_have : {M : Type 0} {g : Ghosts M} (is_clean : SqlSite M g → Type 0) (catalogue : Catalogue) (sites : List (SqlSite M g)) → AreOfLeaves catalogue sites → opening.HaveLeaves is_clean (λ (site : SqlSite M g). kept_by g site.leaves.items site.conn) catalogue sites
+sql_have is_clean catalogue [] have = tt
+sql_have is_clean catalogue (site ∷ sites) have = (λ clean leaf inside. has_in site.leaves.items leaf (subst (In leaf) (sym have.0) inside), sql_have is_clean catalogue sites have.1)

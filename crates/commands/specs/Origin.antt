@@ -44,7 +44,7 @@ pub record LeftBy (catalogue : Catalogue) (found : Found) (whole : Relations) : 
   pub served : IsServed (database catalogue) first machines past
   pub memory : IsMemory machines.table
   pub kept : AreKept machines found.desk found.sites
-  pub leaves : HaveLeaves catalogue 0 found.sites
+  pub leaves : HaveLeaves catalogue found.sites
   pub is : whole ≡ after_committed (database catalogue) past first
 
 -- the whole relations that a database begins with

@@ -1,32 +1,32 @@
--- Stores in SQLite: those that have the leaves of their sites, and new ones in memory.
-use Rattle.std.specs.Prelude.{◌≡◌, ⊤, ℕ, suc, List, [], ◌∷◌}
+-- Stores in SQLite: those that have the leaves that their sites know, and new ones in memory.
+use Rattle.std.specs.Prelude.{◌≡◌, List}
+use Rattle.std.specs.List.{AllByRecursion}
 use Rattle.sqlite.specs.Steps.{over_memory}
 use Rattle.sqlite.specs.Store.{Ghosts}
 use Rattle.sqlite_trees.specs.declared.memory.MemStore.{MemStore}
 use Rattle.catalog.specs.Catalogue.{Catalogue}
-use Rattle.catalog.specs.FragmentLeaf.{catalogue_leaves, names_at}
+use Rattle.catalog.specs.FragmentLeaf.{schemas_of}
 use Rattle.sqlstore.specs.declared.desk.SqlDesk.{SqlDesk}
 use Rattle.sqlstore.specs.declared.site.SqlSite.{SqlSite}
 use Rattle.sqlstore.specs.Desk.{IsSoundDesk, desk_kept}
 use Rattle.sqlstore.specs.DeskFresh.{KeepsNoCommit}
 use Rattle.sqlstore.specs.Fresh.{KeepsNothing}
 use Rattle.sqlstore.specs.Site.{IsSound, kept_by}
+use Rattle.world.specs.Leaves.{known_leaves}
 
--- each store has the leaves of its site, numbered on from a first one
-abbrev pub AreOfLeaves : {M : Type 0} {g : Ghosts M} → Catalogue → ℕ → List (SqlSite M g) → Type 0
-AreOfLeaves catalogue place [] = ⊤
-AreOfLeaves catalogue place (site ∷ sites) = (site.leaves.items ≡ names_at place (catalogue_leaves catalogue)) × AreOfLeaves catalogue (suc place) sites
+-- each store has the leaves that the relations of a catalogue can have
+abbrev pub AreOfLeaves : {M : Type 0} {g : Ghosts M} → Catalogue → List (SqlSite M g) → Type 0
+AreOfLeaves catalogue sites = AllByRecursion (λ site. site.leaves.items ≡ known_leaves (schemas_of catalogue)) sites
 
--- a store of the site of this number is new: it has the site's leaves, and keeps nothing
-pub record IsNewSite (catalogue : Catalogue) (place : ℕ) (site : SqlSite MemStore over_memory) : Type 0 where
-  pub leaves : site.leaves.items ≡ names_at place (catalogue_leaves catalogue)
+-- a store of a site is new: it has the leaves that the relations of a catalogue can have, and keeps nothing
+pub record IsNewSite (catalogue : Catalogue) (site : SqlSite MemStore over_memory) : Type 0 where
+  pub leaves : site.leaves.items ≡ known_leaves (schemas_of catalogue)
   pub sound : IsSound over_memory site.leaves.items site.conn
   pub nothing : KeepsNothing (kept_by over_memory site.leaves.items site.conn)
 
--- so are the stores of sites, numbered on from a first one
-abbrev pub AreNewSites : Catalogue → ℕ → List (SqlSite MemStore over_memory) → Type 0
-AreNewSites catalogue place [] = ⊤
-AreNewSites catalogue place (site ∷ sites) = IsNewSite catalogue place site × AreNewSites catalogue (suc place) sites
+-- so are the stores of sites
+abbrev pub AreNewSites : Catalogue → List (SqlSite MemStore over_memory) → Type 0
+AreNewSites catalogue sites = AllByRecursion (IsNewSite catalogue) sites
 
 -- the coordinator's store is new: it keeps no commit row
 pub record IsNewDesk (desk : SqlDesk MemStore over_memory) : Type 0 where

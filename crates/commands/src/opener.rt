@@ -130,7 +130,7 @@ pub fn open_files<'a, M: Alter + Drop, F: OpensFiles<M>>(
     standing: Standing,
 ) -> Result<OpenStores<SqlDesk<M>, SqlSite<M>>, ProgramFault<'a>>
     ensures all { IfOk result (λ stores. length stores.sites.items ≡ length catalog.now.0) }
-    ensures leaves { IfOk result (λ stores. AreOfLeaves (catalogue_of catalog.now) 0 stores.sites.items) }
+    ensures leaves { IfOk result (λ stores. AreOfLeaves (catalogue_of catalog.now) stores.sites.items) }
     ensures err { IfErr result IsOfClient }
 {
     let sites = file_sites(alloc, folder.files, folder.dir, catalog, standing)?;

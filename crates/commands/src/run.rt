@@ -296,7 +296,7 @@ fn run_over<
     parts: &[Part<'_>],
 ) -> Result<Ran, RunFault<'a>>
     requires one_each { length stores.sites.items ≡ length catalog.now.0 }
-    requires leaves { HaveLeaves S.is_clean S.kept (catalogue_of catalog.now) 0 stores.sites.items }
+    requires leaves { HaveLeaves S.is_clean S.kept (catalogue_of catalog.now) stores.sites.items }
     ensures ok { IfOk result (λ ran. HasRun D.is_clean D.is_sound D.kept S.is_clean S.is_sound S.kept (catalogue_of catalog.now) (map part_of parts.now) (string_bytes ran.printed) ran.is_woven) }
     ensures err { IfErr result StopsRun }
 {
@@ -333,7 +333,7 @@ fn hold<
     parts: &[Part<'_>],
 ) -> Result<Held<D, S>, RunFault<'a>>
     requires one_each { length stores.sites.items ≡ length catalog.now.0 }
-    requires leaves { HaveLeaves S.is_clean S.kept (catalogue_of catalog.now) 0 stores.sites.items }
+    requires leaves { HaveLeaves S.is_clean S.kept (catalogue_of catalog.now) stores.sites.items }
     ensures held { IfOk result (λ held. AreOfParts (map part_of parts.now) held.conversations.items) }
     ensures records { IfOk result (λ held. AreRecords D.is_clean D.is_sound D.kept S.is_clean S.is_sound S.kept held.records.machines held.records.opening held.records.entries.items held.records.pasts.items) }
     ensures err { IfErr result StopsRun }

@@ -3,7 +3,8 @@
 ghost use Rattle.std.specs.Prelude.{◌≡◌, ◌<◌, IfErr, IfOk, length};
 ghost use Rattle.catalog.specs.Relation.{catalogue_of};
 ghost use Rattle.commands.specs.Client.{IsOfClient};
-ghost use Rattle.catalog.specs.FragmentLeaf.{catalogue_leaves, names_at};
+ghost use Rattle.catalog.specs.FragmentLeaf.{schemas_of};
+ghost use Rattle.world.specs.Leaves.{known_leaves};
 ghost use Rattle.commands.specs.SqlStores.{AreNewSites, AreOfLeaves, IsNewDesk, IsNewSite};
 
 use crate::folder::Standing;
@@ -18,6 +19,7 @@ use std::rt::HostRuntime;
 use store::fault::StoreFault;
 use store::name::Txn;
 use terms::leaf::Leaf;
+use world::site_leaves::known_leaves;
 
 /// The stores of a database: those of its sites, in the catalogue's order, and the coordinator's.
 #[derive(Drop)]
@@ -31,13 +33,13 @@ pub fn memory_sites<'a>(
     alloc: Global,
     catalog: &Catalog,
 ) -> Result<Vec<SqlSite<MemStore>>, ProgramFault<'a>>
-    ensures new { IfOk result (λ sites. AreNewSites (catalogue_of catalog.now) 0 sites.items) }
+    ensures new { IfOk result (λ sites. AreNewSites (catalogue_of catalog.now) sites.items) }
     ensures all { IfOk result (λ sites. length sites.items ≡ length catalog.now.0) }
     ensures err { IfErr result IsOfClient }
 {
     let mut sites = Vec::new(alloc);
-    for place in 0..catalog.sites().len() {
-        let site = memory_site(catalog, place)?;
+    for _place in 0..catalog.sites().len() {
+        let site = memory_site(alloc, catalog)?;
         if sites.push(site).is_err() {
             return Err(ProgramFault::Memory);
         }
@@ -45,12 +47,12 @@ pub fn memory_sites<'a>(
     Ok(sites)
 }
 
-/// A new store of the site of this number.
-fn memory_site<'a>(catalog: &Catalog, place: usize) -> Result<SqlSite<MemStore>, ProgramFault<'a>>
-    ensures new { IfOk result (IsNewSite (catalogue_of catalog.now) place) }
+/// A new store of a site.
+fn memory_site<'a>(alloc: Global, catalog: &Catalog) -> Result<SqlSite<MemStore>, ProgramFault<'a>>
+    ensures new { IfOk result (IsNewSite (catalogue_of catalog.now)) }
     ensures err { IfErr result IsOfClient }
 {
-    let leaves = catalog.leaves_at(place)?;
+    let leaves = known_leaves(alloc, catalog)?;
     match SqlSite::memory(leaves) {
         Ok(site) => Ok(site),
         Err(fault) => Err(of_store(fault)),
@@ -166,7 +168,7 @@ pub fn file_sites<'a, M: Alter + Drop, F: OpensFiles<M>>(
     standing: Standing,
 ) -> Result<Vec<SqlSite<M>>, ProgramFault<'a>>
     ensures all { IfOk result (λ sites. length sites.items ≡ length catalog.now.0) }
-    ensures leaves { IfOk result (λ sites. AreOfLeaves (catalogue_of catalog.now) 0 sites.items) }
+    ensures leaves { IfOk result (λ sites. AreOfLeaves (catalogue_of catalog.now) sites.items) }
     ensures err { IfErr result IsOfClient }
 {
     let mut sites = Vec::new(alloc);
@@ -189,11 +191,11 @@ pub fn file_site<'a, M: Alter + Drop, F: OpensFiles<M>>(
     standing: Standing,
 ) -> Result<SqlSite<M>, ProgramFault<'a>>
     requires { place < length catalog.now.0 }
-    ensures leaves { IfOk result (λ site. site.leaves.items ≡ names_at place (catalogue_leaves (catalogue_of catalog.now))) }
+    ensures leaves { IfOk result (λ site. site.leaves.items ≡ known_leaves (schemas_of (catalogue_of catalog.now))) }
     ensures err { IfErr result IsOfClient }
 {
     let path = format!(in alloc; "{dir}/{}.db", catalog.sites()[place])?;
-    let leaves = catalog.leaves_at(place)?;
+    let leaves = known_leaves(alloc, catalog)?;
     match files.site(path.as_str(), leaves, standing) {
         Ok(site) => Ok(site),
         Err(fault) => Err(of_store(fault)),

@@ -31,7 +31,7 @@ pub trait OpensStores<D: DeskStore, S: SiteStore> {
         catalog: &Catalog,
     ) -> Result<OpenStores<D, S>, ProgramFault<'a>>
         ensures one_each { IfOk result (λ stores. length stores.sites.items ≡ length catalog.now.0) }
-        ensures leaves { IfOk result (λ stores. HaveLeaves S.is_clean S.kept (catalogue_of catalog.now) 0 stores.sites.items) }
+        ensures leaves { IfOk result (λ stores. HaveLeaves S.is_clean S.kept (catalogue_of catalog.now) stores.sites.items) }
         ensures err { IfErr result IsOfClient };
 }
 

@@ -59,7 +59,7 @@ use Rattle.catalog.specs.Catalogue.{Catalogue}
 use Rattle.catalog.specs.FragmentLeaf.{schemas_of}
 use Rattle.catalog.specs.Laws.{LeafNamesAreUnique}
 use Rattle.meaning.specs.declared.schema.RelationSchema.{RelationSchema}
-use Rattle.meaning.specs.Statement.{IsStatementOf}
+use Rattle.meaning.specs.Statement.{IsStatementOf, is_refragment}
 use Rattle.plan.specs.Reduced.{FindsAll}
 use Rattle.plan.specs.Stated.{AreFetchesOf}
 use Rattle.reader.specs.Printable.{AreDistinct}
@@ -103,7 +103,7 @@ module _ (db : Database) (of : IsOfCatalogue db) (n : ℕ) (txn : Txn) (u : Unde
   pub wanted_is : (choice : desk.Choice (language db)) → wanted choice ≡ begun choice (map (ask_of db) asks)
   wanted_is choice =
       ap (λ st. desk.on_state {L = language db} (txn_name txn) (undecided_of db u) (n, stated) choice (stage_of db u.participants st)) idle
-      ∙ ap (λ (list : List (desk.Ask (language db))). begun choice list) (ap (map (desk.ask_of {L = language db})) (of.fetches n stated plan.fetches planned.statement planned.fetches) ∙ sym (asks_fresh db (db.catalogue n) plan.fetches))
+      ∙ ap (λ (list : List (desk.Ask (language db))). begun choice list) (ap (map (desk.ask_of {L = language db})) (of.fetches n stated plan.fetches planned.statement.of_schemas planned.fetches) ∙ sym (asks_fresh db (db.catalogue n) plan.fetches))
 
   module _ (new : Undecided) (step : Progress) where
     pub states_reads : (first : Ask) (rest : List Ask) → asks ≡ first ∷ rest → ((choice : desk.Choice (language db)) → IsProgress db txn new step (desk.states (txn_name txn) (undecided_of db u) (n, stated) (map (ask_of db) asks) choice)) → IsIn db n (standing.Undecided new) → Does db n txn new step wanted
@@ -330,10 +330,10 @@ module _ (db : Database) (kept : DeskContent) (table : VolatileState) (fits : Fi
   participants_there of = record { sites = known_there.0; distinct = subst AreDistinct (sym (known_there.0 ∙ of.sites table.version)) (of.formed table.version).distinct }
 
 -- ---- a plan that is made
-pub plan_made : (db : Database) → IsOfCatalogue db → (n : ℕ) (catalogue : Catalogue) → db.catalogue n ≡ catalogue → (stated : Statement) (plan : ReducedPlan) (asks : List Ask) → IsStatementOf (schemas_of catalogue) stated → AreFetchesOf catalogue stated plan.fetches → FindsAll catalogue stated plan.fetches (plan_in plan) →
+pub plan_made : (db : Database) → IsOfCatalogue db → (n : ℕ) (catalogue : Catalogue) → db.catalogue n ≡ catalogue → (stated : Statement) (plan : ReducedPlan) (asks : List Ask) → IsStatementOf (schemas_of catalogue) stated → is_refragment stated ≡ false → AreFetchesOf catalogue stated plan.fetches → FindsAll catalogue stated plan.fetches (plan_in plan) →
     asks ≡ map (ask_from catalogue) plan.fetches → IsOfPlan db n stated plan asks
-plan_made db of n catalogue same stated plan those is are finds list = record {
-  statement = subst (λ (ss : List RelationSchema). IsStatementOf ss stated) (sym (of.schemas n ∙ ap schemas_of same)) is;
+plan_made db of n catalogue same stated plan those is ordinary are finds list = record {
+  statement = record { of_schemas = subst (λ (ss : List RelationSchema). IsStatementOf ss stated) (sym (of.schemas n ∙ ap schemas_of same)) is; stays = ordinary };
   fetches = subst (λ cat. AreFetchesOf cat stated plan.fetches) (sym same) are;
   finds = subst (λ cat. FindsAll cat stated plan.fetches (plan_in plan)) (sym same) finds;
   in_order = ap (map asked) (list ∙ ap (λ cat. map (ask_from cat) plan.fetches) (sym same)) ∙ asks_order (db.catalogue n) plan.fetches;

@@ -1,5 +1,5 @@
 -- What a statement answers and writes, by rows that a whole database gives, is its meaning there.
-use Rattle.std.proofs.Common.{rules, ◌≡◌, inl, inr, refl, sym, ap, ◌∙◌, subst, ℕ, Bool, true, false, ◌||◌, List, [], ◌∷◌, map, Option, Some, None, if◌then◌else◌}
+use Rattle.std.proofs.Common.{rules, ◌≡◌, inl, inr, refl, sym, ap, ◌∙◌, subst, suc, ℕ, Bool, true, false, ◌||◌, List, [], ◌∷◌, map, Option, Some, None, if◌then◌else◌}
 use Rattle.std.specs.List.{AllByRecursion, cons_option}
 use Rattle.terms.specs.declared.cond.Cond.{Cond}
 use Rattle.terms.specs.declared.leaf.Leaf.{Leaf}
@@ -8,7 +8,7 @@ use Rattle.terms.specs.declared.write.Write.{Write}
 use Rattle.meaning.specs.declared.answer.Answer.{Answer}
 use Rattle.meaning.specs.declared.statement.Statement.{Statement}
 use Rattle.meaning.specs.Meaning.{meaning}
-use Rattle.meaning.specs.Statement.{IsStatementOf}
+use Rattle.meaning.specs.Statement.{IsStatementOf, is_refragment}
 use Rattle.meaning.specs.Whole.{FitsSchema, Relations}
 use Rattle.catalog.specs.declared.fragment_leaf.FragmentLeaf.{FragmentLeaf}
 use Rattle.catalog.specs.FragmentLeaf.{catalogue_leaves, is_name_of, leaf_named, schemas_of}
@@ -32,7 +32,7 @@ use Rattle.protocol.specs.Serial.{Explained, Gives}
 use Rattle.desk.specs.declared.fetches.Ask.{Ask}
 use Rattle.desk.specs.declared.transaction.Unsent.{Unsent}
 use Rattle.desk.specs.Fetches.{brought, brought_by}
-use Rattle.desk.specs.Database.{Database, language}
+use Rattle.desk.specs.Database.{Database, IsOrdinary, IsStated, language}
 use Rattle.desk.specs.OfCatalogue.{HasContent, IsOfCatalogue}
 use Rattle.desk.specs.Place.{Place, fetch_in, home_in, placed_in, write_in}
 use Rattle.desk.specs.Planned.{IsOfPlan, asked, unsent_from}
@@ -62,6 +62,13 @@ fetched_in (first ∷ fetches) fetch (inr there) = go (same_leaf first.leaf fetc
     go true is = refl
     go false is = is
 
+-- an ordinary statement is one under each catalogue
+pub stated_plainly : (db : Database) (n : ℕ) (stated : Statement) → IsOrdinary db stated → IsStated db n stated
+stated_plainly db n stated ordinary = record {
+  of_schemas = ordinary.of_schemas;
+  next = λ refragment is. absurd (let no : true ≡ false = sym (ap is_refragment is) ∙ ordinary.stays in cc);
+}
+
 module _ (db : Database) (of : IsOfCatalogue db) (n : ℕ) (unique : LeafNamesAreUnique) (stated : Statement) (reduced : ReducedPlan) (asks : List Ask) (planned : IsOfPlan db n stated reduced asks) where
   abbrev in_force : Catalogue
   in_force = db.catalogue n
@@ -74,7 +81,7 @@ module _ (db : Database) (of : IsOfCatalogue db) (n : ℕ) (unique : LeafNamesAr
 
   -- it is a statement of the schema of the catalogue in force
   pub stated_there : IsStatementOf (schemas_of in_force) stated
-  stated_there = subst (λ schemas. IsStatementOf schemas stated) (of.schemas n) planned.statement
+  stated_there = subst (λ schemas. IsStatementOf schemas stated) (of.schemas n) planned.statement.of_schemas
 
   pub known : AreOf all fetches
   known = are_of in_force unique (of.formed n) stated fetches stated_there planned.fetches
@@ -130,13 +137,13 @@ module _ (db : Database) (of : IsOfCatalogue db) (n : ℕ) (unique : LeafNamesAr
       ((whole : Relations) → FitsSchema (schemas_of in_force) whole → AreBrought in_force whole fetches (given (brought asks)) → list ≡ writes_between in_force whole (meaning stated whole).1) →
       Explained {L = language db} (desk.Worked t (n, stated) (map (ask_of db) asks) (answer, map write_of (map (unsent_from in_force) list)))
   explained t answer list answers writes = (
-    planned.statement,
+    stated_plainly db n stated planned.statement,
     λ whole fits tag gives.
         let there = subst (λ schemas. FitsSchema schemas whole.1) (of.schemas n) fits in
         let are = are_brought whole.1 fits (subst (λ (m : ℕ). Gives {L = language db} (m, whole.1) (map (ask_of db) asks)) (sym tag) gives) in
         let after = (meaning stated whole.1).1 in (
           answers whole.1 there are,
-          writes_are in_force list ∙ ap (map (write_in in_force)) (writes whole.1 there are) ∙ sym (of.writes n whole.1 after) ∙ ap (λ (m : ℕ). db.writes m whole.1 after) tag,
+          writes_are in_force list ∙ ap (map (write_in in_force)) (writes whole.1 there are) ∙ sym (of.writes n whole.1 after) ∙ ap (λ (m : ℕ). db.writes m m whole.1 after) tag ∙ ap (λ (b : Bool). db.writes whole.0 (if b then suc whole.0 else whole.0) whole.1 after) (sym planned.statement.stays),
         ),
   )
 

@@ -1,5 +1,5 @@
 -- The database of a catalogue: where its leaves are, what each place has of whole relations, and what statements read and write.
-use Rattle.std.specs.Prelude.{◌≡◌, ℕ, ℤ, nat_eq, ◌==◌, ◌&&◌, Bool, false, List, [], ◌∷◌, Option, Some, None, length, map, if◌then◌else◌}
+use Rattle.std.specs.Prelude.{◌≡◌, ℕ, zero, suc, ℤ, nat_eq, ◌==◌, ◌&&◌, Bool, false, List, [], ◌∷◌, Option, Some, None, flat_map, length, map, if◌then◌else◌}
 use Rattle.std.specs.Cmp.Lexicographic.{pointwise}
 use Rattle.std.specs.FinMap as fin
 use Rattle.std.specs.List.{list_all}
@@ -13,12 +13,14 @@ use Rattle.catalog.specs.Catalogue.{Catalogue}
 use Rattle.catalog.specs.Fragment.{content}
 use Rattle.catalog.specs.FragmentLeaf.{catalogue_leaves, leaf_named, schemas_of, unnamed}
 use Rattle.plan.specs.Picked.{fetches_by}
+use Rattle.answers.specs.declared.moves.Move.{Move}
 use Rattle.answers.specs.Evaluated.{parts_climb}
+use Rattle.answers.specs.Moves.{moves_between}
 use Rattle.answers.specs.Writes.{writes_between}
 use Rattle.store.specs.Content.{Content}
 use Rattle.desk.specs.Database.{Database}
 use Rattle.desk.specs.OfCatalogue.{IsOfCatalogue}
-use Rattle.desk.specs.Place.{Place, fetch_in, site_in, write_in}
+use Rattle.desk.specs.Place.{Place, fetch_in, move_in, site_in, write_in}
 
 -- the leaf of a name
 abbrev pub found : Catalogue → Leaf → Option FragmentLeaf
@@ -65,7 +67,30 @@ database catalogue = record {
   well_formed = λ n place parts. parts_climb (width_of (found catalogue place.1)) None parts;
   content = λ n. content_at catalogue;
   fetches = λ n statement. map (fetch_in catalogue) (fetches_by catalogue statement);
-  writes = λ n before after. map (write_in catalogue) (writes_between catalogue before after);
+  writes = λ n m before after. map (write_in catalogue) (writes_between catalogue before after);
+}
+
+-- the catalogue of a number, counted from 1, in a list; past its end it is the last one
+abbrev pub numbered : Catalogue → List Catalogue → ℕ → Catalogue
+numbered first [] n = first
+numbered first (next ∷ rest) zero = first
+numbered first (next ∷ rest) (suc zero) = first
+numbered first (next ∷ rest) (suc (suc n)) = numbered next rest (suc n)
+
+-- what moves from one catalogue to another, relation by relation
+abbrev pub all_moves : Catalogue → Catalogue → Relations → List Move
+all_moves old new whole = flat_map (λ schema. moves_between old new schema.name (rows_of whole schema.name)) (schemas_of old)
+
+-- the database of a list of catalogues: a statement writes under the one in force, and where another one comes into force parts move
+abbrev pub databases : Catalogue → List Catalogue → Database
+databases first rest = record {
+  catalogue = numbered first rest;
+  schemas = schemas_of first;
+  sites = first.sites;
+  well_formed = λ n place parts. parts_climb (width_of (found (numbered first rest n) place.1)) None parts;
+  content = λ n. content_at (numbered first rest n);
+  fetches = λ n statement. map (fetch_in (numbered first rest n)) (fetches_by (numbered first rest n) statement);
+  writes = λ n m before after. if n == m then map (write_in (numbered first rest n)) (writes_between (numbered first rest n) before after) else map move_in (all_moves (numbered first rest n) (numbered first rest m) before);
 }
 
 -- a database is that of its catalogues, and has nothing elsewhere

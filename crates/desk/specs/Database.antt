@@ -1,15 +1,18 @@
 -- The language of a database: places are leaves at sites, and statements over whole relations are for the catalogue that was in force as they were made.
-use Rattle.std.specs.Prelude.{◌≡◌, ℕ, Bool, false, List, Some}
+use Rattle.std.specs.Prelude.{◌≡◌, ℕ, suc, Bool, false, List, Some}
 use Rattle.std.specs.FinMap as fin
 use Rattle.terms.specs.declared.cond.Cond.{Cond}
 use Rattle.terms.specs.declared.value.Value.{Value}
 use Rattle.meaning.specs.declared.answer.Answer.{Answer}
 use Rattle.meaning.specs.declared.schema.RelationSchema.{RelationSchema}
+use Rattle.meaning.specs.declared.statement.Refragment.{Refragment}
 use Rattle.meaning.specs.declared.statement.Statement.{Statement}
+use Rattle.meaning.specs.declared.statement.Statement.TheVariants as statement
 use Rattle.meaning.specs.Meaning.{meaning}
-use Rattle.meaning.specs.Statement.{IsStatementOf}
+use Rattle.meaning.specs.Statement.{IsStatementOf, is_refragment}
 use Rattle.meaning.specs.Whole.{FitsSchema, Relations}
 use Rattle.catalog.specs.Catalogue.{Catalogue}
+use Rattle.catalog.specs.Chain.{IsNext}
 use Rattle.store.specs.Content.{Content}
 use Rattle.store.specs.declared.letter.Letter as letters
 use Rattle.store.specs.declared.reply.Reply as replies
@@ -29,16 +32,27 @@ pub record Database : Type 0 where
   -- under a catalogue: whether parts fit a leaf's columns and their keys ascend, and what a place has of whole relations
   pub well_formed : ℕ → Place → List (List Value) → Bool
   pub content : ℕ → Place → Relations → Content
-  -- what a statement reads, and the writes that lead from some whole relations to others
+  -- what a statement reads
   pub fetches : ℕ → Statement → List (Place × List Cond)
-  pub writes : ℕ → Relations → Relations → List (Place × AtKey)
+  -- the writes that lead from what places have of some whole relations under one catalogue to what they have of others under another
+  pub writes : ℕ → ℕ → Relations → Relations → List (Place × AtKey)
 
 -- a catalogue has the leaf at the site
 pub record IsPlace (db : Database) (place : Place) : Type 0 where
   pub version : ℕ
   pub there : site_in (db.catalogue version) place.1 ≡ Some place.0
 
--- its statements; none of them brings another catalogue, so writes lead from whole relations to others under one
+-- a statement over its relations, where the catalogue of this number is in force: one that gives a relation another split gives it that of the next catalogue, which splits this relation alone otherwise
+pub record IsStated (db : Database) (n : ℕ) (stated : Statement) : Type 0 where
+  pub of_schemas : IsStatementOf db.schemas stated
+  pub next : (refragment : Refragment) → stated ≡ statement.Refragment refragment → IsNext (db.catalogue n) (db.catalogue (suc n)) refragment.relation.name
+
+-- a statement over its relations that leaves their split as it is
+pub record IsOrdinary (db : Database) (stated : Statement) : Type 0 where
+  pub of_schemas : IsStatementOf db.schemas stated
+  pub stays : is_refragment stated ≡ false
+
+-- its statements; a REFRAGMENT brings the next catalogue
 abbrev pub statements : Database → Catalogues local
 statements db = record {
   Statement = Statement;
@@ -47,13 +61,13 @@ statements db = record {
   sites = db.sites;
   nothing = fin.empty;
   well_formed = db.well_formed;
-  IsStatement = λ n statement. IsStatementOf db.schemas statement;
+  IsStatement = IsStated db;
   IsWhole = FitsSchema db.schemas;
-  raises = λ statement. false;
+  raises = is_refragment;
   meaning = meaning;
   content = db.content;
   fetches = db.fetches;
-  writes = λ n m. db.writes n;
+  writes = db.writes;
 }
 
 -- its language

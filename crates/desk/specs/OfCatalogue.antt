@@ -1,5 +1,5 @@
 -- What a database has to do with its catalogues.
-use Rattle.std.specs.Prelude.{◌≡◌, ◌↔◌, ℕ, true, List, map, Some}
+use Rattle.std.specs.Prelude.{◌≡◌, ◌↔◌, ℕ, suc, true, List, map, Some}
 use Rattle.std.specs.FinMap as keyed
 use Rattle.std.specs.List.{AllByRecursion, slice_get}
 use Rattle.terms.specs.declared.value.Value.{Value}
@@ -8,16 +8,18 @@ use Rattle.meaning.specs.Statement.{IsStatementOf}
 use Rattle.meaning.specs.Whole.{FitsSchema, Relations, rows_of}
 use Rattle.catalog.specs.declared.fragment_leaf.FragmentLeaf.{FragmentLeaf}
 use Rattle.catalog.specs.declared.relation.SplitRelation.{SplitRelation}
+use Rattle.catalog.specs.Chain.{IsNext}
 use Rattle.catalog.specs.Formed.{IsFormed}
 use Rattle.catalog.specs.Fragment.{content}
 use Rattle.catalog.specs.FragmentLeaf.{catalogue_leaves, schemas_of, unnamed}
 use Rattle.catalog.specs.Relation.{catalogue_of}
 use Rattle.plan.specs.declared.fetch.Fetch.{Fetch}
 use Rattle.plan.specs.Stated.{AreFetchesOf}
+use Rattle.answers.specs.Moves.{moves_between}
 use Rattle.answers.specs.Table.{AreParts}
 use Rattle.answers.specs.Writes.{writes_between}
 use Rattle.desk.specs.Database.{Database}
-use Rattle.desk.specs.Place.{fetch_in, write_in}
+use Rattle.desk.specs.Place.{fetch_in, move_in, write_in}
 
 -- rows are well formed where they are parts of the leaf's columns
 abbrev pub FormsParts : Database → ℕ → FragmentLeaf → Type 0
@@ -35,7 +37,9 @@ pub record IsOfCatalogue (db : Database) : Type 0 where
   pub well_formed : (n : ℕ) → AllByRecursion (FormsParts db n) (catalogue_leaves (db.catalogue n))
   pub content : (n : ℕ) (whole : Relations) → FitsSchema db.schemas whole → AllByRecursion (HasContent db n whole) (catalogue_leaves (db.catalogue n))
   pub fetches : (n : ℕ) (statement : Statement) (fetches : List Fetch) → IsStatementOf db.schemas statement → AreFetchesOf (db.catalogue n) statement fetches → db.fetches n statement ≡ map (fetch_in (db.catalogue n)) fetches
-  pub writes : (n : ℕ) (before after : Relations) → db.writes n before after ≡ map (write_in (db.catalogue n)) (writes_between (db.catalogue n) before after)
+  pub writes : (n : ℕ) (before after : Relations) → db.writes n n before after ≡ map (write_in (db.catalogue n)) (writes_between (db.catalogue n) before after)
+  -- from one catalogue to the next, which splits one relation otherwise, the parts of that relation's rows move
+  pub moves : (n : ℕ) (name : List ℕ) (whole : Relations) → IsNext (db.catalogue n) (db.catalogue (suc n)) name → db.writes n (suc n) whole whole ≡ map move_in (moves_between (db.catalogue n) (db.catalogue (suc n)) name (rows_of whole name))
 
 -- the catalogue of this number is the one that was read
 abbrev pub InForce : Database → ℕ → List (List ℕ) × List SplitRelation → Type 0

@@ -7,6 +7,7 @@ use Rattle.terms.specs.declared.write.Write.{Write}
 use Rattle.catalog.specs.Catalogue.{Catalogue}
 use Rattle.catalog.specs.FragmentLeaf.{catalogue_leaves, leaf_named}
 use Rattle.plan.specs.declared.fetch.Fetch.{Fetch}
+use Rattle.answers.specs.declared.moves.Move.{Move}
 use Rattle.protocol.specs.Letters.{at_key, leaf_of}
 use Rattle.protocol.specs.Local.{AtKey}
 
@@ -32,3 +33,7 @@ fetch_in catalogue fetch = (placed_in catalogue fetch.leaf, fetch.conds)
 
 abbrev pub write_in : Catalogue → Write → Place × AtKey
 write_in catalogue write = (placed_in catalogue (leaf_of write), at_key write)
+
+-- a move is to a leaf at the site that it names
+abbrev pub move_in : Move → Place × AtKey
+move_in move = ((move.site, leaf_of move.write), at_key move.write)

@@ -3,7 +3,6 @@ use Rattle.std.specs.Prelude.{◌≡◌, ⊤, ℕ, List, map, None}
 use Rattle.terms.specs.declared.cond.Cond.{Cond}
 use Rattle.terms.specs.declared.write.Write.{Write}
 use Rattle.meaning.specs.declared.statement.Statement.{Statement}
-use Rattle.meaning.specs.Statement.{IsStatementOf}
 use Rattle.catalog.specs.Catalogue.{Catalogue}
 use Rattle.plan.specs.declared.fetch.Fetch.{Fetch}
 use Rattle.plan.specs.Reduced.{FindsAll}
@@ -13,7 +12,7 @@ use Rattle.desk.specs.declared.fetches.Ask.{Ask}
 use Rattle.desk.specs.declared.transaction.Stage.{Stage}
 use Rattle.desk.specs.declared.transaction.Stage.TheVariants as stage
 use Rattle.desk.specs.declared.transaction.Unsent.{Unsent}
-use Rattle.desk.specs.Database.{Database}
+use Rattle.desk.specs.Database.{Database, IsOrdinary}
 use Rattle.desk.specs.Place.{Place, fetch_in, home_in}
 use Rattle.desk.specs.ReducedPlan.{ReducedPlan, plan_in}
 
@@ -29,9 +28,9 @@ unsent_from catalogue write = record { write = write; site = home_in catalogue (
 abbrev pub asked : Ask → Place × List Cond
 asked ask = ((ask.site, ask.leaf), ask.conds)
 
--- a statement of the database, a reduced plan of it under the catalogue of this number, and the plan's fetches, in order, each at its site
+-- an ordinary statement of the database, a reduced plan of it under the catalogue of this number, and the plan's fetches, in order, each at its site
 pub record IsOfPlan (db : Database) (n : ℕ) (stated : Statement) (plan : ReducedPlan) (asks : List Ask) : Type 0 where
-  pub statement : IsStatementOf db.schemas stated
+  pub statement : IsOrdinary db stated
   pub fetches : AreFetchesOf (db.catalogue n) stated plan.fetches
   pub finds : FindsAll (db.catalogue n) stated plan.fetches (plan_in plan)
   pub in_order : map asked asks ≡ map (fetch_in (db.catalogue n)) plan.fetches

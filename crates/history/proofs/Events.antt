@@ -90,7 +90,7 @@ module _ (db : Database) (whole : Relations) (before after : DeskState) (seats :
       let states = did.states in
       let request = State (before.table.version, states.statement) in
       let asked = asked_leads db desk_old after.content after.table txn states.runs.choice request entry.letters entry.replies so.fit states.runs.steps states.runs.placed states.runs.explained (did.accepted states.statement) in
-      steps db whole desk_old entries past entry so desk_new what (called_on db whole desk_old desk_new entries past what out txn states.runs.choice request so asked refl (states.statement, states.runs.choice, (states.spelled, refl))
+      steps db whole desk_old entries past entry so desk_new what (called_on db whole desk_old desk_new entries past what out txn states.runs.choice request so asked (refl, states.runs.ordinary) (states.statement, states.runs.choice, (states.spelled, refl))
       (state_step db desk_old desk_new entry.letters entry.replies txn text states.statement states.runs.choice what asked states.spelled refl refl))
   desk_goes (input.Call (call.Commit txn)) did brought =
       let what = event.Call (call.Commit txn) in

@@ -1,5 +1,5 @@
 -- What the weaving makes of its parts.
-use Rattle.std.proofs.Common.{◌≡◌, refl, sym, ap, ◌∙◌, subst, ℕ, suc, ◌+◌, List, [], ◌∷◌, map, Some, slice_get, arith}
+use Rattle.std.proofs.Common.{◌≡◌, refl, sym, ap, ◌∙◌, subst, ℕ, List, [], ◌∷◌, map}
 use Rattle.std.specs.List.{AllByRecursion}
 use Rattle.meaning.specs.Whole.{FitsSchema, Relations}
 use Rattle.catalog.specs.Catalogue.{Catalogue}
@@ -54,22 +54,18 @@ map_of_map f g (x ∷ xs) = let later = map_of_map f g xs in λ i. g (f x) ∷ l
 -- ---- sites
 module _ (c : Catalogue) (formed : IsFormed c) where
   -- sites of a catalogue have its names
-  sites_named : (place : ℕ) (names : List (List ℕ)) (seats : List Seat) → AreSitesOf c place names seats → map (λ (seat : Seat). seat.name) seats ≡ names
-  sites_named place [] [] are = refl
-  sites_named place [] (seat ∷ seats) are = absurd are
-  sites_named place (name ∷ names) [] are = absurd are
-  sites_named place (name ∷ names) (seat ∷ seats) are = let later = sites_named (suc place) names seats are.1 in λ i. are.0.0 i ∷ later i
+  sites_named : (names : List (List ℕ)) (seats : List Seat) → AreSitesOf c names seats → map (λ (seat : Seat). seat.name) seats ≡ names
+  sites_named [] [] are = refl
+  sites_named [] (seat ∷ seats) are = absurd are
+  sites_named (name ∷ names) [] are = absurd are
+  sites_named (name ∷ names) (seat ∷ seats) are = let later = sites_named names seats are.1 in λ i. are.0.0 i ∷ later i
 
   -- and its leaves
-  sites_have : (n : ℕ) (whole : Relations) → IsPlaced (database c) n c whole → (place : ℕ) (names : List (List ℕ)) (seats : List Seat) → AreSitesOf c place names seats →
-      ((i : ℕ) (name : List ℕ) → slice_get names i ≡ Some name → slice_get c.sites (place + i) ≡ Some name) → AllByRecursion (HasLeaves (database c)) seats
-  sites_have n whole places place [] [] are there = tt
-  sites_have n whole places place [] (seat ∷ seats) are there = absurd are
-  sites_have n whole places place (name ∷ names) [] are there = absurd are
-  sites_have n whole places place (name ∷ names) (seat ∷ seats) are there = (
-    has_its (database c) n c whole formed.distinct places place name seat are.0.0 are.0.1 (subst (λ p. slice_get c.sites p ≡ Some name) (let e : place + 0 ≡ place = omega arith in e) (there 0 name refl)),
-    sites_have n whole places (suc place) names seats are.1 (λ i name got. subst (λ p. slice_get c.sites p ≡ Some name) (let e : place + suc i ≡ suc place + i = omega arith in e) (there (suc i) name got)),
-  )
+  sites_have : (n : ℕ) (whole : Relations) → IsPlaced (database c) n c whole → (names : List (List ℕ)) (seats : List Seat) → AreSitesOf c names seats → AllByRecursion (HasLeaves (database c)) seats
+  sites_have n whole places [] [] are = tt
+  sites_have n whole places [] (seat ∷ seats) are = absurd are
+  sites_have n whole places (name ∷ names) [] are = absurd are
+  sites_have n whole places (name ∷ names) (seat ∷ seats) are = (has_its (database c) n c whole seat formed places are.0.1, sites_have n whole places names seats are.1)
 
 module _ {D S : Type 0} (desk_is_clean desk_is_sound : D → Type 0) (desk_content : D → DeskContent) (site_is_clean site_is_sound : S → Type 0) (site_content : S → SiteContent)
     (machines : Machines D S) (opening : DeskKept) (entries : List Entry) (pasts : List Past)
@@ -83,12 +79,11 @@ module _ {D S : Type 0} (desk_is_clean desk_is_sound : D → Type 0) (desk_conte
       let all = pasts_in site_content machines.sites.items pasts in
       let are = records.sites clean.1 in
       let last : SitePast → Seat = λ past. past.last in
-      let have = sites_have c formed opening.version whole (placed c opening.version whole formed fits) 0 c.sites (map (seat_from site_content) machines.sites.items) are
-      (λ i name got. subst (λ p. slice_get c.sites p ≡ Some name) (let e : i ≡ 0 + i = omega arith in e) got) in
+      let have = sites_have c formed opening.version whole (placed c opening.version whole formed fits) c.sites (map (seat_from site_content) machines.sites.items) are in
       record {
         desk = records.desk clean.0;
         sites = records.recorded clean.1;
-        names = sym (map_of_map last (λ (seat : Seat). seat.name) all) ∙ ap (map (λ (seat : Seat). seat.name)) records.lasts ∙ sites_named c formed 0 c.sites (map (seat_from site_content) machines.sites.items) are;
+        names = sym (map_of_map last (λ (seat : Seat). seat.name) all) ∙ ap (map (λ (seat : Seat). seat.name)) records.lasts ∙ sites_named c formed c.sites (map (seat_from site_content) machines.sites.items) are;
         leaves = all_of_map last (HasLeaves (database c)) all (subst (AllByRecursion (HasLeaves (database c))) (sym records.lasts) have);
         decided = settled.0;
         prepared = all_of_map (λ (past : SitePast). past.opening) (λ (kept : SiteKept). kept.rows.prepared ≡ []) all (subst (AllByRecursion (λ (kept : SiteKept). kept.rows.prepared ≡ [])) (sym records.openings) settled.1);

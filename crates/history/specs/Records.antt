@@ -1,8 +1,8 @@
 -- The records of a database that has come to rest: its machines, and what each has done.
-use Rattle.std.specs.Prelude.{◌≡◌, ⊤, ℕ, suc, List, [], ◌∷◌, map}
+use Rattle.std.specs.Prelude.{◌≡◌, ⊤, ℕ, List, [], ◌∷◌, map}
 use Rattle.std.specs.List.{AllByRecursion}
 use Rattle.catalog.specs.Catalogue.{Catalogue}
-use Rattle.catalog.specs.FragmentLeaf.{catalogue_leaves, names_at}
+use Rattle.catalog.specs.FragmentLeaf.{schemas_of}
 use Rattle.catalog.specs.Relation.{catalogue_of}
 use Rattle.store.specs.declared.commit.DeskKept.{DeskKept}
 use Rattle.store.specs.DeskContent.{DeskContent}
@@ -11,18 +11,19 @@ use Rattle.site.specs.declared.site.Site.{Site}
 use Rattle.site.specs.Seat.{Seat, seat_from}
 use Rattle.desk.specs.CatalogueDatabase.{IsBase, database}
 use Rattle.world.specs.declared.machines.Machines.{Machines}
+use Rattle.world.specs.Leaves.{known_leaves}
 use Rattle.history.specs.declared.entry.Entry.{Entry}
 use Rattle.history.specs.declared.records.Past.{Past}
 use Rattle.history.specs.DeskHistory.{DeskRecorded, desk_from}
 use Rattle.history.specs.SiteHistory.{SiteHistory, SiteHolds, SiteRecorded}
 use Rattle.history.specs.Weaving.{SitePast}
 
--- sites are those of a catalogue in its order, each with its leaves; place: the number of the first one
-abbrev pub AreSitesOf : Catalogue → ℕ → List (List ℕ) → List Seat → Type 0
-AreSitesOf catalogue place [] [] = ⊤
-AreSitesOf catalogue place [] (seat ∷ seats) = ⊥
-AreSitesOf catalogue place (name ∷ names) [] = ⊥
-AreSitesOf catalogue place (name ∷ names) (seat ∷ seats) = ((seat.name ≡ name) × (seat.leaves ≡ names_at place (catalogue_leaves catalogue))) × AreSitesOf catalogue (suc place) names seats
+-- sites have these names, in their order, and each knows the leaves that the relations of a catalogue can have
+abbrev pub AreSitesOf : Catalogue → List (List ℕ) → List Seat → Type 0
+AreSitesOf catalogue [] [] = ⊤
+AreSitesOf catalogue [] (seat ∷ seats) = ⊥
+AreSitesOf catalogue (name ∷ names) [] = ⊥
+AreSitesOf catalogue (name ∷ names) (seat ∷ seats) = ((seat.name ≡ name) × (seat.leaves ≡ known_leaves (schemas_of catalogue))) × AreSitesOf catalogue names seats
 
 -- a site, and what it has done
 abbrev pub past_of : {S : Type 0} → (S → SiteContent) → Site S → Past → SitePast
@@ -44,7 +45,7 @@ pub record AreTaken {S : Type 0} (is_clean is_sound : S → Type 0) (content : S
 -- The machines are those of the catalogue, and their histories replay, from the opening to what they are now, where their stores are clean, which then are sound.
 pub record AreRecords {D S : Type 0} (desk_is_clean desk_is_sound : D → Type 0) (desk_content : D → DeskContent) (site_is_clean site_is_sound : S → Type 0) (site_content : S → SiteContent) (machines : Machines D S) (opening : DeskKept) (entries : List Entry) (pasts : List Past) : Type 0 where
   pub base : IsBase (database (catalogue_of machines.desk.catalog))
-  pub sites : AllByRecursion (λ (site : Site S). site_is_clean site.store) machines.sites.items → AreSitesOf (catalogue_of machines.desk.catalog) 0 machines.desk.catalog.0 (map (seat_from site_content) machines.sites.items)
+  pub sites : AllByRecursion (λ (site : Site S). site_is_clean site.store) machines.sites.items → AreSitesOf (catalogue_of machines.desk.catalog) machines.desk.catalog.0 (map (seat_from site_content) machines.sites.items)
   pub lasts : map (λ (past : SitePast). past.last) (pasts_in site_content machines.sites.items pasts) ≡ map (seat_from site_content) machines.sites.items
   pub openings : map (λ (past : SitePast). past.opening) (pasts_in site_content machines.sites.items pasts) ≡ map (λ (past : Past). past.opening) pasts
   pub histories : map (λ (past : SitePast). past.entries) (pasts_in site_content machines.sites.items pasts) ≡ map (λ (past : Past). past.entries.items) pasts

@@ -35,6 +35,7 @@ use world::fault::Fault;
 use world::laws::{language_is_lawful, runs_are_serial};
 use world::machines::Machines;
 use world::rebuild::rebuilt;
+use world::site_leaves::known_leaves;
 use world::traffic::Traffic;
 
 /// What a site's store kept as its cell was made, and what the site has done since, oldest first.
@@ -58,7 +59,7 @@ pub struct Records<D: DeskStore, S: SiteStore> {
 pub enum RecordsFault {
     /// Memory ran out.
     Memory,
-    /// The sites are not those of the coordinator's catalogue, in its order and with its leaves.
+    /// The sites are not those of the coordinator's catalogue, in its order, each knowing the leaves that its relations can have.
     Strangers,
 }
 
@@ -102,16 +103,15 @@ fn gather<S: SiteStore + Drop>(
     Ok(Gathered { sites, pasts })
 }
 
-/// Whether cells are those of a catalogue's sites, in its order and with their leaves; `place` is the number of the
-/// first name.
+/// Whether cells are those of sites of these names, in their order, each knowing the leaves that the relations of a
+/// catalogue can have.
 fn are_sites_of<S: SiteStore>(
+    alloc: Global,
     catalog: &Catalog,
-    place: usize,
     names: &[Text],
     cells: &[SiteCell<S>],
 ) -> Result<bool, Memory>
-    requires { place + length names.now < 2 ^ 64 }
-    ensures { AllByRecursion (λ site. S.is_clean site.store) (map (λ cell. cell.site) cells.now) → IfOk result (λ yes. Decides yes (AreSitesOf (catalogue_of catalog.now) place names.now (map (seat_from S.kept) (map (λ cell. cell.site) cells.now)))) }
+    ensures { AllByRecursion (λ site. S.is_clean site.store) (map (λ cell. cell.site) cells.now) → IfOk result (λ yes. Decides yes (AreSitesOf (catalogue_of catalog.now) names.now (map (seat_from S.kept) (map (λ cell. cell.site) cells.now)))) }
 {
     let Some((name, names)) = names.split_first() else {
         return Ok(cells.is_empty());
@@ -119,11 +119,11 @@ fn are_sites_of<S: SiteStore>(
     let Some((cell, cells)) = cells.split_first() else {
         return Ok(false);
     };
-    let leaves = catalog.leaves_at(place)?;
+    let leaves = known_leaves(alloc, catalog)?;
     if !cell.name().same(name) || !same_all(cell.leaves(), leaves.as_slice()) {
         return Ok(false);
     }
-    are_sites_of(catalog, place + 1, names, cells)
+    are_sites_of(alloc, catalog, names, cells)
 }
 
 impl<D: DeskStore + Drop, S: SiteStore + Drop> Records<D, S> {
@@ -135,10 +135,10 @@ impl<D: DeskStore + Drop, S: SiteStore + Drop> Records<D, S> {
         sites: Vec<SiteCell<S>>,
     ) -> Result<Records<D, S>, RecordsFault>
         ensures records { IfOk result (λ records. AreRecords D.is_clean D.is_sound D.kept S.is_clean S.is_sound S.kept records.machines records.opening records.entries.items records.pasts.items) }
-        ensures strangers { result ≡ Err RecordsFault.Strangers → AllByRecursion (λ site. S.is_clean site.store) (map (λ cell. cell.site) sites.items) → AreSitesOf (catalogue_of desk.desk.catalog) 0 desk.desk.catalog.0 (map (seat_from S.kept) (map (λ cell. cell.site) sites.items)) → ⊥ }
+        ensures strangers { result ≡ Err RecordsFault.Strangers → AllByRecursion (λ site. S.is_clean site.store) (map (λ cell. cell.site) sites.items) → AreSitesOf (catalogue_of desk.desk.catalog) desk.desk.catalog.0 (map (seat_from S.kept) (map (λ cell. cell.site) sites.items)) → ⊥ }
     {
         let catalog = desk.catalog();
-        if !are_sites_of(catalog, 0, catalog.sites(), sites.as_slice())? {
+        if !are_sites_of(alloc, catalog, catalog.sites(), sites.as_slice())? {
             return Err(RecordsFault::Strangers);
         }
         let DeskParts {

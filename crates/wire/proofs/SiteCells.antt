@@ -3,9 +3,10 @@ use Rattle.std.proofs.Common.{◌≡◌, refl, sym, ap, ◌∙◌, subst, ℕ, s
 use Rattle.std.proofs.lemmas.List.{length-append}
 use Rattle.std.proofs.Math.Seq.{drop-cons, drop-length}
 use Rattle.catalog.specs.Catalogue.{Catalogue}
-use Rattle.catalog.specs.FragmentLeaf.{catalogue_leaves, names_at}
+use Rattle.catalog.specs.FragmentLeaf.{schemas_of}
 use Rattle.store.specs.SiteContent.{SiteContent}
 use Rattle.site.specs.State.{AreHad}
+use Rattle.world.specs.Leaves.{known_leaves}
 use Rattle.history.specs.SiteHistory.{SiteHistory}
 use Rattle.wire.specs.Opening.{AreFresh, HaveLeaves, IsFresh}
 
@@ -18,30 +19,30 @@ module _ {S : Type 0} (is_clean : S → Type 0) (kept : S → SiteContent) (cata
   -- there is a store for each name that is left; and with the cells of these, whatever they are, all are fresh
   pub record GoesOn (names : List (List ℕ)) (rest : List S) (cells : List (SiteHistory S)) : Type 0 where
     pub size : length cells + length rest ≡ length names
-    pub leaves : HaveLeaves is_clean kept catalogue (length cells) rest
-    pub fresh : (more : List (SiteHistory S)) → AreFresh catalogue (length cells) (drop (length cells) names) more → AreFresh catalogue 0 names (cells ++ more)
+    pub leaves : HaveLeaves is_clean kept catalogue rest
+    pub fresh : (more : List (SiteHistory S)) → AreFresh catalogue (drop (length cells) names) more → AreFresh catalogue names (cells ++ more)
 
-  -- the next store has its site's leaves
-  pub next_has : (names : List (List ℕ)) (was rest : List S) (cells : List (SiteHistory S)) (store : S) → GoesOn names was cells → was ≡ store ∷ rest → is_clean store → AreHad (names_at (length cells) (catalogue_leaves catalogue)) (kept store)
-  next_has names was rest cells store goes yields = (subst (HaveLeaves is_clean kept catalogue (length cells)) yields goes.leaves).0
+  -- the next store has the leaves that its site knows
+  pub next_has : (names : List (List ℕ)) (was rest : List S) (cells : List (SiteHistory S)) (store : S) → GoesOn names was cells → was ≡ store ∷ rest → is_clean store → AreHad (known_leaves (schemas_of catalogue)) (kept store)
+  next_has names was rest cells store goes yields = (subst (HaveLeaves is_clean kept catalogue) yields goes.leaves).0
 
   -- one more
   pub next_fresh : (names : List (List ℕ)) (was rest : List S) (cells new : List (SiteHistory S)) (d : List ℕ) (name : List ℕ) (store : S) (cell : SiteHistory S) → length cells < length names → GoesOn names was cells → was ≡ store ∷ rest → name ≡ get_or names (length cells) d →
-      IsFresh catalogue (length cells) name cell → new ≡ cells ++ cell ∷ [] → GoesOn names rest new
+      IsFresh catalogue name cell → new ≡ cells ++ cell ∷ [] → GoesOn names rest new
   next_fresh names was rest cells new d name store cell below goes yields is here more =
       subst (GoesOn names rest) (sym more) (record {
         size = let size = goes.size in let left = ap length yields in let longer : length (cells ++ cell ∷ []) ≡ length cells + 1 = length-append cells (cell ∷ []) in omega (arith, size, left, longer);
-        leaves = subst (λ n. HaveLeaves is_clean kept catalogue n rest) (sym (length-append cells (cell ∷ []) ∙ add-one (length cells))) (subst (HaveLeaves is_clean kept catalogue (length cells)) yields goes.leaves).1;
+        leaves = (subst (HaveLeaves is_clean kept catalogue) yields goes.leaves).1;
         fresh = λ others rest_fresh.
-            subst (AreFresh catalogue 0 names) (sym (append_assoc cells (cell ∷ []) others))
+            subst (AreFresh catalogue names) (sym (append_assoc cells (cell ∷ []) others))
             (goes.fresh (cell ∷ others)
-            (subst (λ (left : List (List ℕ)). AreFresh catalogue (length cells) left (cell ∷ others)) (sym (drop-cons names (length cells) d below ∙ ap (λ n. n ∷ drop (suc (length cells)) names) (sym is)))
-            (here, subst (λ n. AreFresh catalogue n (drop n names) others) (length-append cells (cell ∷ []) ∙ add-one (length cells)) rest_fresh)));
+            (subst (λ (left : List (List ℕ)). AreFresh catalogue left (cell ∷ others)) (sym (drop-cons names (length cells) d below ∙ ap (λ n. n ∷ drop (suc (length cells)) names) (sym is)))
+            (here, subst (λ n. AreFresh catalogue (drop n names) others) (length-append cells (cell ∷ []) ∙ add-one (length cells)) rest_fresh)));
       })
 
   -- no store is left
-  pub all_fresh : (names : List (List ℕ)) (rest : List S) (cells : List (SiteHistory S)) → GoesOn names rest cells → rest ≡ [] → AreFresh catalogue 0 names cells
+  pub all_fresh : (names : List (List ℕ)) (rest : List S) (cells : List (SiteHistory S)) → GoesOn names rest cells → rest ≡ [] → AreFresh catalogue names cells
   all_fresh names rest cells goes none =
       let long : length cells ≡ length names = let size = goes.size in let short : length rest ≡ 0 = ap length none in omega (arith, size, short) in
-      subst (AreFresh catalogue 0 names) (append-nil cells)
-      (goes.fresh [] (subst (λ (left : List (List ℕ)). AreFresh {S = S} catalogue (length cells) left []) (sym (ap (λ n. drop n names) long ∙ drop-length names)) tt))
+      subst (AreFresh catalogue names) (append-nil cells)
+      (goes.fresh [] (subst (λ (left : List (List ℕ)). AreFresh {S = S} catalogue left []) (sym (ap (λ n. drop n names) long ∙ drop-length names)) tt))

@@ -1,9 +1,10 @@
 //! The cells that a database begins with: its machines start over their stores.
 
 ghost use Rattle.std.specs.Prelude.{◌≡◌, [], IfOk, length};
-ghost use Rattle.catalog.specs.FragmentLeaf.{catalogue_leaves, names_at};
+ghost use Rattle.catalog.specs.FragmentLeaf.{schemas_of};
 ghost use Rattle.catalog.specs.Relation.{catalogue_of};
 ghost use Rattle.site.specs.State.{AreHad};
+ghost use Rattle.world.specs.Leaves.{known_leaves};
 ghost use Rattle.wire.specs.Opening.{AreFresh, HaveLeaves, IsFresh};
 
 use catalog::catalogue::Catalog;
@@ -18,6 +19,7 @@ use store::site_store::SiteStore;
 use terms::copy::TryCopy;
 use terms::text::Text;
 use world::fault::Fault;
+use world::site_leaves::known_leaves;
 
 /// The cells of sites that start over these stores, in the catalogue's order.
 #[tactic(auto, using(crate::proofs::SiteCells::next_fresh, crate::proofs::SiteCells::next_has))]
@@ -27,31 +29,30 @@ pub(crate) fn site_cells<S: SiteStore + Drop>(
     stores: Vec<S>,
 ) -> Result<Vec<SiteCell<S>>, SiteFault>
     requires one_each { length stores.items ≡ length catalog.now.0 }
-    requires leaves { HaveLeaves S.is_clean S.kept (catalogue_of catalog.now) 0 stores.items }
-    ensures { IfOk result (λ cells. AreFresh (catalogue_of catalog.now) 0 catalog.now.0 cells.items) }
+    requires leaves { HaveLeaves S.is_clean S.kept (catalogue_of catalog.now) stores.items }
+    ensures { IfOk result (λ cells. AreFresh (catalogue_of catalog.now) catalog.now.0 cells.items) }
 {
     let names = catalog.sites();
     let mut cells = Vec::new(alloc);
     for store in stores {
         let place = cells.len();
-        let cell = site_cell(alloc, catalog, store, &names[place], place)?;
+        let cell = site_cell(alloc, catalog, store, &names[place])?;
         cells.push(cell)?;
     }
     Ok(cells)
 }
 
-/// The cell of the site of this name and number, which starts over its store.
+/// The cell of the site of this name, which starts over its store.
 fn site_cell<S: SiteStore + Drop>(
     alloc: Global,
     catalog: &Catalog,
     store: S,
     name: &Text,
-    place: usize,
 ) -> Result<SiteCell<S>, SiteFault>
-    requires { S.is_clean store → AreHad (names_at place (catalogue_leaves (catalogue_of catalog.now))) (S.kept store) }
-    ensures { IfOk result (IsFresh (catalogue_of catalog.now) place name.now) }
+    requires { S.is_clean store → AreHad (known_leaves (schemas_of (catalogue_of catalog.now))) (S.kept store) }
+    ensures { IfOk result (IsFresh (catalogue_of catalog.now) name.now) }
 {
-    let leaves = catalog.leaves_at(place)?;
+    let leaves = known_leaves(alloc, catalog)?;
     let own = name.copy()?;
     let site = match Site::start(alloc, own, store, leaves.as_slice()) {
         Ok(site) => site,

@@ -70,7 +70,7 @@ where
         gate: G,
     ) -> Result<Database<S, D, G>, Fault>
         requires one_each { length sites.items ≡ length catalog.0 }
-        requires leaves { HaveLeaves S.is_clean S.kept (catalogue_of catalog) 0 sites.items }
+        requires leaves { HaveLeaves S.is_clean S.kept (catalogue_of catalog) sites.items }
     {
         let schema = catalog.schema().copy()?;
         let cells = site_cells(alloc, &catalog, sites)?;

@@ -1,9 +1,9 @@
 -- A database whose machines have come up over the stores of an earlier run.
-use Rattle.std.proofs.Common.{◌≡◌, refl, sym, ap, ◌∙◌, subst, ℕ, suc, ◌+◌, List, [], ◌∷◌, map, Some, slice_get, arith}
+use Rattle.std.proofs.Common.{◌≡◌, refl, sym, ap, ◌∙◌, subst, ℕ, List, [], ◌∷◌, map}
 use Rattle.std.specs.List.{AllByRecursion}
 use Rattle.meaning.specs.Whole.{Relations}
-use Rattle.reader.specs.Printable.{AreDistinct}
 use Rattle.catalog.specs.Catalogue.{Catalogue}
+use Rattle.catalog.specs.Formed.{IsFormed}
 use Rattle.store.specs.DeskContent as desk_content
 use Rattle.store.specs.SiteContent.{BeginsLife, SiteContent}
 use Rattle.site.specs.declared.site.Site.{Site}
@@ -21,40 +21,40 @@ use Rattle.world.proofs.Openings.{all_so, has_its}
 use Rattle.world.proofs.Seating.{HasItsLeaves}
 
 module _ {S : Type 0} (is_clean is_sound : S → Type 0) (kept : S → SiteContent) (refused : S → ℕ) (c : Catalogue) where
-  names_up : (place : ℕ) (names : List (List ℕ)) (stores : List S) (sites : List (Site S)) → AreUp is_clean is_sound kept refused c place names stores sites → map (λ (seat : Seat). seat.name) (seats_in kept sites) ≡ names
-  names_up place [] [] [] up = refl
-  names_up place [] [] (x ∷ sites) up = absurd up
-  names_up place [] (s ∷ stores) sites up = absurd up
-  names_up place (n ∷ names) [] sites up = absurd up
-  names_up place (n ∷ names) (s ∷ stores) [] up = absurd up
-  names_up place (n ∷ names) (s ∷ stores) (x ∷ sites) up = λ i. up.0.called i ∷ names_up (suc place) names stores sites up.1 i
+  names_up : (names : List (List ℕ)) (stores : List S) (sites : List (Site S)) → AreUp is_clean is_sound kept refused c names stores sites → map (λ (seat : Seat). seat.name) (seats_in kept sites) ≡ names
+  names_up [] [] [] up = refl
+  names_up [] [] (x ∷ sites) up = absurd up
+  names_up [] (s ∷ stores) sites up = absurd up
+  names_up (n ∷ names) [] sites up = absurd up
+  names_up (n ∷ names) (s ∷ stores) [] up = absurd up
+  names_up (n ∷ names) (s ∷ stores) (x ∷ sites) up = λ i. up.0.called i ∷ names_up names stores sites up.1 i
 
-  all_begin : (place : ℕ) (names : List (List ℕ)) (stores : List S) (sites : List (Site S)) → AreUp is_clean is_sound kept refused c place names stores sites → AllByRecursion (λ site. is_clean site.store) sites → HaveLeaves c place (map kept stores) →
+  all_begin : (names : List (List ℕ)) (stores : List S) (sites : List (Site S)) → AreUp is_clean is_sound kept refused c names stores sites → AllByRecursion (λ site. is_clean site.store) sites → HaveLeaves c (map kept stores) →
       AllByRecursion (λ (seat : Seat). Begins seat.kept seat.table) (seats_in kept sites)
-  all_begin place [] [] [] up clean have = tt
-  all_begin place [] [] (x ∷ sites) up clean have = absurd up
-  all_begin place [] (s ∷ stores) sites up clean have = absurd up
-  all_begin place (n ∷ names) [] sites up clean have = absurd up
-  all_begin place (n ∷ names) (s ∷ stores) [] up clean have = absurd up
-  all_begin place (n ∷ names) (s ∷ stores) (x ∷ sites) up clean have = (up.0.begins clean.0 have.0, all_begin (suc place) names stores sites up.1 clean.1 have.1)
+  all_begin [] [] [] up clean have = tt
+  all_begin [] [] (x ∷ sites) up clean have = absurd up
+  all_begin [] (s ∷ stores) sites up clean have = absurd up
+  all_begin (n ∷ names) [] sites up clean have = absurd up
+  all_begin (n ∷ names) (s ∷ stores) [] up clean have = absurd up
+  all_begin (n ∷ names) (s ∷ stores) (x ∷ sites) up clean have = (up.0.begins clean.0 have.0, all_begin names stores sites up.1 clean.1 have.1)
 
   -- what is learnt as the sites come up
-  pub all_sound : (place : ℕ) (names : List (List ℕ)) (stores : List S) (sites : List (Site S)) → AreUp is_clean is_sound kept refused c place names stores sites → AllByRecursion (λ site. is_clean site.store) sites → AllByRecursion (λ site. is_sound site.store) sites
-  all_sound place [] [] [] up clean = tt
-  all_sound place [] [] (x ∷ sites) up clean = absurd up
-  all_sound place [] (s ∷ stores) sites up clean = absurd up
-  all_sound place (n ∷ names) [] sites up clean = absurd up
-  all_sound place (n ∷ names) (s ∷ stores) [] up clean = absurd up
-  all_sound place (n ∷ names) (s ∷ stores) (x ∷ sites) up clean = (up.0.leaves_store.sound clean.0 (up.0.learnt clean.0), all_sound (suc place) names stores sites up.1 clean.1)
+  pub all_sound : (names : List (List ℕ)) (stores : List S) (sites : List (Site S)) → AreUp is_clean is_sound kept refused c names stores sites → AllByRecursion (λ site. is_clean site.store) sites → AllByRecursion (λ site. is_sound site.store) sites
+  all_sound [] [] [] up clean = tt
+  all_sound [] [] (x ∷ sites) up clean = absurd up
+  all_sound [] (s ∷ stores) sites up clean = absurd up
+  all_sound (n ∷ names) [] sites up clean = absurd up
+  all_sound (n ∷ names) (s ∷ stores) [] up clean = absurd up
+  all_sound (n ∷ names) (s ∷ stores) (x ∷ sites) up clean = (up.0.leaves_store.sound clean.0 (up.0.learnt clean.0), all_sound names stores sites up.1 clean.1)
 
   -- stores that are clean now were so as they were given
-  pub stores_were_clean : (place : ℕ) (names : List (List ℕ)) (stores : List S) (sites : List (Site S)) → AreUp is_clean is_sound kept refused c place names stores sites → AllByRecursion (λ site. is_clean site.store) sites → AllByRecursion is_clean stores
-  stores_were_clean place [] [] [] up clean = tt
-  stores_were_clean place [] [] (x ∷ sites) up clean = absurd up
-  stores_were_clean place [] (s ∷ stores) sites up clean = absurd up
-  stores_were_clean place (n ∷ names) [] sites up clean = absurd up
-  stores_were_clean place (n ∷ names) (s ∷ stores) [] up clean = absurd up
-  stores_were_clean place (n ∷ names) (s ∷ stores) (x ∷ sites) up clean = (up.0.leaves_store.clean clean.0, stores_were_clean (suc place) names stores sites up.1 clean.1)
+  pub stores_were_clean : (names : List (List ℕ)) (stores : List S) (sites : List (Site S)) → AreUp is_clean is_sound kept refused c names stores sites → AllByRecursion (λ site. is_clean site.store) sites → AllByRecursion is_clean stores
+  stores_were_clean [] [] [] up clean = tt
+  stores_were_clean [] [] (x ∷ sites) up clean = absurd up
+  stores_were_clean [] (s ∷ stores) sites up clean = absurd up
+  stores_were_clean (n ∷ names) [] sites up clean = absurd up
+  stores_were_clean (n ∷ names) (s ∷ stores) [] up clean = absurd up
+  stores_were_clean (n ∷ names) (s ∷ stores) (x ∷ sites) up clean = (up.0.leaves_store.clean clean.0, stores_were_clean names stores sites up.1 clean.1)
 
   first_of : {A : Type 0} (a b : A) (xs ys : List A) → a ∷ xs ≡ b ∷ ys → a ≡ b
   first_of a b xs ys e = cc
@@ -63,45 +63,42 @@ module _ {S : Type 0} (is_clean is_sound : S → Type 0) (kept : S → SiteConte
   rest_of a b xs ys e = cc
 
   -- over what those of an earlier run kept
-  all_wake : (place : ℕ) (names : List (List ℕ)) (stores : List S) (sites : List (Site S)) (olds : List Seat) → AreUp is_clean is_sound kept refused c place names stores sites → AllByRecursion (λ site. is_clean site.store) sites → HaveLeaves c place (map kept stores) →
+  all_wake : (names : List (List ℕ)) (stores : List S) (sites : List (Site S)) (olds : List Seat) → AreUp is_clean is_sound kept refused c names stores sites → AllByRecursion (λ site. is_clean site.store) sites → HaveLeaves c (map kept stores) →
       map (λ (seat : Seat). seat.name) olds ≡ names → map (λ (seat : Seat). seat.kept) olds ≡ map kept stores → AllWake olds (seats_in kept sites)
-  all_wake place [] [] [] [] up clean have named same = tt
-  all_wake place [] [] [] (o ∷ olds) up clean have named same = cc
-  all_wake place [] [] (x ∷ sites) olds up clean have named same = absurd up
-  all_wake place [] (s ∷ stores) sites olds up clean have named same = absurd up
-  all_wake place (n ∷ names) [] sites olds up clean have named same = absurd up
-  all_wake place (n ∷ names) (s ∷ stores) [] olds up clean have named same = absurd up
-  all_wake place (n ∷ names) (s ∷ stores) (x ∷ sites) [] up clean have named same = cc
-  all_wake place (n ∷ names) (s ∷ stores) (x ∷ sites) (o ∷ olds) up clean have named same = (
+  all_wake [] [] [] [] up clean have named same = tt
+  all_wake [] [] [] (o ∷ olds) up clean have named same = cc
+  all_wake [] [] (x ∷ sites) olds up clean have named same = absurd up
+  all_wake [] (s ∷ stores) sites olds up clean have named same = absurd up
+  all_wake (n ∷ names) [] sites olds up clean have named same = absurd up
+  all_wake (n ∷ names) (s ∷ stores) [] olds up clean have named same = absurd up
+  all_wake (n ∷ names) (s ∷ stores) (x ∷ sites) [] up clean have named same = cc
+  all_wake (n ∷ names) (s ∷ stores) (x ∷ sites) (o ∷ olds) up clean have named same = (
     record {
       named = up.0.called ∙ sym (first_of o.name n (map (λ (seat : Seat). seat.name) olds) names named);
       begins = up.0.begins clean.0 have.0;
       life = subst (λ was. BeginsLife was (kept x.store)) (sym (first_of o.kept (kept s) (map (λ (seat : Seat). seat.kept) olds) (map kept stores) same)) (up.0.life clean.0);
     },
-    all_wake (suc place) names stores sites olds up.1 clean.1 have.1 (rest_of o.name n (map (λ (seat : Seat). seat.name) olds) names named) (rest_of o.kept (kept s) (map (λ (seat : Seat). seat.kept) olds) (map kept stores) same),
+    all_wake names stores sites olds up.1 clean.1 have.1 (rest_of o.name n (map (λ (seat : Seat). seat.name) olds) names named) (rest_of o.kept (kept s) (map (λ (seat : Seat). seat.kept) olds) (map kept stores) same),
   )
 
-  module _ (db : Database) (n : ℕ) (whole : Relations) (distinct : AreDistinct db.sites) (places : IsPlaced db n c whole) where
-    all_have : (place : ℕ) (names : List (List ℕ)) (stores : List S) (sites : List (Site S)) → AreUp is_clean is_sound kept refused c place names stores sites → ((i : ℕ) (name : List ℕ) → slice_get names i ≡ Some name → slice_get db.sites (place + i) ≡ Some name) → AllByRecursion (HasItsLeaves db) (seats_in kept sites)
-    all_have place [] [] [] up there = tt
-    all_have place [] [] (x ∷ sites) up there = absurd up
-    all_have place [] (s ∷ stores) sites up there = absurd up
-    all_have place (name ∷ names) [] sites up there = absurd up
-    all_have place (name ∷ names) (s ∷ stores) [] up there = absurd up
-    all_have place (name ∷ names) (s ∷ stores) (x ∷ sites) up there = (
-      has_its db n c whole distinct places place name (seat_from kept x) up.0.called up.0.leaves (subst (λ p. slice_get db.sites p ≡ Some name) (let e : place + 0 ≡ place = omega arith in e) (there 0 name refl)),
-      all_have (suc place) names stores sites up.1 (λ i name got. subst (λ p. slice_get db.sites p ≡ Some name) (let e : place + suc i ≡ suc place + i = omega arith in e) (there (suc i) name got)),
-    )
+  module _ (db : Database) (n : ℕ) (whole : Relations) (formed : IsFormed c) (places : IsPlaced db n c whole) where
+    all_have : (names : List (List ℕ)) (stores : List S) (sites : List (Site S)) → AreUp is_clean is_sound kept refused c names stores sites → AllByRecursion (HasItsLeaves db) (seats_in kept sites)
+    all_have [] [] [] up = tt
+    all_have [] [] (x ∷ sites) up = absurd up
+    all_have [] (s ∷ stores) sites up = absurd up
+    all_have (name ∷ names) [] sites up = absurd up
+    all_have (name ∷ names) (s ∷ stores) [] up = absurd up
+    all_have (name ∷ names) (s ∷ stores) (x ∷ sites) up = (has_its db n c whole (seat_from kept x) formed places up.0.leaves, all_have names stores sites up.1)
 
-    module _ (stores : List S) (sites : List (Site S)) (up : AreUp is_clean is_sound kept refused c 0 c.sites stores sites) (clean : AllByRecursion (λ site. is_clean site.store) sites) (have : HaveLeaves c 0 (map kept stores))
+    module _ (stores : List S) (sites : List (Site S)) (up : AreUp is_clean is_sound kept refused c c.sites stores sites) (clean : AllByRecursion (λ site. is_clean site.store) sites) (have : HaveLeaves c (map kept stores))
         (machines : Machines) (seats : machines.seats ≡ seats_in kept sites) (rises : Rises db machines.desk machines.table) where
       begin_all : AllByRecursion (λ (seat : Seat). Begins seat.kept seat.table) machines.seats
-      begin_all = subst (AllByRecursion (λ (seat : Seat). Begins seat.kept seat.table)) (sym seats) (all_begin 0 c.sites stores sites up clean have)
+      begin_all = subst (AllByRecursion (λ (seat : Seat). Begins seat.kept seat.table)) (sym seats) (all_begin c.sites stores sites up clean have)
 
       pub up_fit : AreFit db machines
       up_fit = record {
-        names = ap (map (λ (seat : Seat). seat.name)) seats ∙ names_up 0 c.sites stores sites up ∙ sym places.sites;
-        leaves = subst (AllByRecursion (HasItsLeaves db)) (sym seats) (all_have 0 c.sites stores sites up (λ i name got. subst (λ p. slice_get db.sites p ≡ Some name) (let e : i ≡ 0 + i = omega arith in e) (subst (λ (names : List (List ℕ)). slice_get names i ≡ Some name) (sym places.sites) got)));
+        names = ap (map (λ (seat : Seat). seat.name)) seats ∙ names_up c.sites stores sites up ∙ sym places.sites;
+        leaves = subst (AllByRecursion (HasItsLeaves db)) (sym seats) (all_have c.sites stores sites up);
         desk = rises.fits;
         within = rises.within;
         sites = all_so machines.seats (λ seat begins. begins.fits) begin_all;
@@ -113,7 +110,7 @@ module _ {S : Type 0} (is_clean is_sound : S → Type 0) (kept : S → SiteConte
       pub came_up : (old : Machines) → AreFit db old → (of_desk : desk_content.DeskContent) → AreKept old of_desk (map kept stores) → desk_content.BeginsLife of_desk machines.desk → IsMemory machines.table → ComeUp db old machines
       came_up old fit of_desk same life memory = record {
         fit = up_fit;
-        sites = subst (AllWake old.seats) (sym seats) (all_wake 0 c.sites stores sites old.seats up clean have (fit.names ∙ places.sites) same.sites);
+        sites = subst (AllWake old.seats) (sym seats) (all_wake c.sites stores sites old.seats up clean have (fit.names ∙ places.sites) same.sites);
         rises = rises;
         life = subst (λ was. desk_content.BeginsLife was machines.desk) (sym same.desk) life;
         memory = memory;

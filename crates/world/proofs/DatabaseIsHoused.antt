@@ -301,7 +301,7 @@ module _ (catalogue : Catalogue) (formed : IsFormed catalogue) (unique : LeafNam
   housed n = record {
     fetched = λ statement is. fetched statement.1;
     written = λ statement whole is fits tag. written whole.1 _;
-    suits = λ statement whole is fits tag version low. suits whole.1 _ (meaning_fits (schemas_of catalogue) statement.1 whole.1 is fits);
+    suits = λ statement whole is fits tag version low. suits whole.1 _ (meaning_fits (schemas_of catalogue) statement.1 whole.1 is.of_schemas fits);
     contents = λ whole is version. contents whole.1 is;
     rows = λ statement tag. parts_fit statement.0;
   }

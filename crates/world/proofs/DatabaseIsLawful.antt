@@ -1,11 +1,11 @@
 -- The database of a catalogue is that of the catalogue, and its language is lawful.
-use Rattle.std.proofs.Common.{◌≡◌, refl, ap, ◌∙◌, ℕ, List, [], ◌∷◌, map, Option, Some, None}
+use Rattle.std.proofs.Common.{◌≡◌, refl, sym, ap, ◌∙◌, ℕ, List, [], ◌∷◌, ◌++◌, map, Option, Some, None}
 use Rattle.std.specs.FinMap as fin
 use Rattle.std.specs.List.{AllByRecursion, slice_get}
 use Rattle.meaning.specs.Whole.{FitsSchema, Relations, rows_of}
 use Rattle.meaning.proofs.Kept.{meaning_fits}
 use Rattle.catalog.specs.declared.fragment_leaf.FragmentLeaf.{FragmentLeaf}
-use Rattle.catalog.specs.Catalogue.{Catalogue, IsValidCatalogue}
+use Rattle.catalog.specs.Catalogue.{Catalogue, IsValidCatalogue, SplitRelation}
 use Rattle.catalog.specs.Formed.{IsFormed}
 use Rattle.catalog.specs.Fragment.{content}
 use Rattle.catalog.specs.FragmentLeaf.{catalogue_leaves, leaf_named, schemas_of, unnamed}
@@ -26,12 +26,21 @@ use Rattle.desk.specs.Place.{fetch_in, home_in}
 use Rattle.world.proofs.DatabaseIsStored.{values_stored}
 use Rattle.world.proofs.DatabaseIsWritten.{writes_right}
 use Rattle.world.proofs.DatabasePlaces.{content_none, content_there, home_there}
+use Rattle.catalog.specs.Chain.{DifferIn}
 
 -- what holds of each leaf that its own name finds holds of all
 each_found : (P Q : FragmentLeaf → Type 0) (leaves all : List FragmentLeaf) → ((leaf : FragmentLeaf) → leaf_named leaf.name leaves ≡ Some leaf → P leaf → Q leaf) →
     AllByRecursion (λ leaf. leaf_named leaf.name leaves ≡ Some leaf) all → AllByRecursion P all → AllByRecursion Q all
 each_found P Q leaves [] makes own each = tt
 each_found P Q leaves (leaf ∷ all) makes own each = (makes leaf own.0 each.0, each_found P Q leaves all makes own.1 each.1)
+
+-- a catalogue splits no relation otherwise than itself
+same_middle : {A : Type 0} (before after : List A) (one other : A) → before ++ one ∷ after ≡ before ++ other ∷ after → one ≡ other
+same_middle [] after one other e = cc
+same_middle (first ∷ before) after one other e = same_middle before after one other (cc)
+
+no_next : (catalogue : Catalogue) (name : List ℕ) → DifferIn catalogue.relations catalogue.relations name → ⊥
+no_next catalogue name differ = differ.split (ap (λ (relation : SplitRelation). relation.tree) (same_middle differ.before differ.after differ.one differ.other (sym differ.are ∙ differ.become)))
 
 module _ (catalogue : Catalogue) (formed : IsFormed catalogue) (unique : LeafNamesAreUnique) (ascend : contents.ContentsAscend) where
   own : AllByRecursion (λ leaf. found catalogue leaf.name ≡ Some leaf) (catalogue_leaves catalogue)
@@ -60,6 +69,7 @@ module _ (catalogue : Catalogue) (formed : IsFormed catalogue) (unique : LeafNam
       content = has_content;
       fetches = λ n statement fetches is are. ap (map (fetch_in catalogue)) (one catalogue statement (fetches_by catalogue statement) fetches (told catalogue statement formed valid is) are);
       writes = λ n before after. refl;
+      moves = λ n name whole next. absurd (no_next catalogue name next.relations);
     };
     nowhere = λ n place whole none. content_none catalogue place.0 place.1 whole none;
   }
@@ -67,6 +77,6 @@ module _ (catalogue : Catalogue) (formed : IsFormed catalogue) (unique : LeafNam
 pub lawful_list : (catalogue : Catalogue) → IsFormed catalogue → contents.ContentsAscend → WritesLead → IsLawfulList local (statements (database catalogue))
 lawful_list catalogue formed ascend lead = record {
   site = local_lawful;
-  keeps_whole = λ n statement whole is fits. meaning_fits (schemas_of catalogue) statement whole is fits;
-  writes_right = λ n statement whole place is fits. writes_right lead ascend catalogue formed whole _ place fits (meaning_fits (schemas_of catalogue) statement whole is fits);
+  keeps_whole = λ n statement whole is fits. meaning_fits (schemas_of catalogue) statement whole is.of_schemas fits;
+  writes_right = λ n statement whole place is fits. writes_right lead ascend catalogue formed whole _ place fits (meaning_fits (schemas_of catalogue) statement whole is.of_schemas fits);
 }

@@ -46,12 +46,12 @@ same_names one other = same_bool _ _
     (λ e. subst (λ (l : Leaf). same_leaf one l ≡ true) (leaf_is one other e) (same_itself one))
     (λ e. subst (λ (l : Leaf). is_eq (leaf_cmp one l) ≡ true) (one_name one other e) (leaf_self one))
 
-and_none : (b : Bool) → (b && false) ≡ false
+pub and_none : (b : Bool) → (b && false) ≡ false
 and_none true = refl
 and_none false = refl
 
 -- one write
-one_step : (leaf to : Leaf) (at key : ℤ) (part : Option (List Value)) (kept : Content) →
+pub one_step : (leaf to : Leaf) (at key : ℤ) (part : Option (List Value)) (kept : Content) →
     fin.get (if is_eq (leaf_cmp to leaf) then set_at key part kept else kept) at ≡ (if same_leaf to leaf && int_eq key at then part else fin.get kept at)
 one_step leaf to at key part kept = go (is_eq (leaf_cmp to leaf)) ∙ ap (λ (b : Bool). cond (b && int_eq key at) part (fin.get kept at)) (same_names to leaf)
   where

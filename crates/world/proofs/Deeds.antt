@@ -36,7 +36,7 @@ module _ (db : Database) (whole : Relations) where
   module _ (law : ReachedLaw (language db)) where
     pub move_served : (move : Move) (before after : Machines) (past : List (Deed (language db))) → IsServed db whole before past → (moves : Moves db move before after) → IsServed db whole after (past ++ deeds_of db move before after moves)
     move_served (Begins txn heard) before after past served does = serves_past db law whole To_begin before after heard past tt served does.serves
-    move_served (States txn text heard) before after past served does = serves_past db law whole (To_do (txn_name txn) (State (before.table.version, does.statement)) does.asks.choice) before after heard past refl served does.asks.serves
+    move_served (States txn text heard) before after past served does = serves_past db law whole (To_do (txn_name txn) (State (before.table.version, does.statement)) does.asks.choice) before after heard past (refl, does.fits.stays) served does.asks.serves
     move_served (Commits txn heard) before after past served does = serves_past db law whole (To_do (txn_name txn) Commit_call does.choice) before after heard past tt served does.serves
     move_served (Rolls_back txn heard) before after past served does = serves_past db law whole (To_do (txn_name txn) Rollback does.choice) before after heard past tt served does.serves
     move_served (Refuses asked told) before after past served refused = nothing_more after past (still_served before after past served refused.1)

@@ -80,7 +80,7 @@ obeys db fits reached smooth law = record {
       let done = begins db fits reached smooth law whole before after past txn heard served quiet does in
       (record { deeds = does.serves.deeds; served = served_on db fits reached smooth law whole To_begin before after past heard tt served does.serves; stands = done.0 }, done.1);
   states = λ whole before after past text txn heard served ready does. ⊎_elim
-      (λ done. inl (record { deeds = does.asks.serves.deeds; served = served_on db fits reached smooth law whole (To_do (txn_name txn) (State (before.table.version, does.statement)) does.asks.choice) before after past heard refl served does.asks.serves; stands = done.0 }, done.1))
+      (λ done. inl (record { deeds = does.asks.serves.deeds; served = served_on db fits reached smooth law whole (To_do (txn_name txn) (State (before.table.version, does.statement)) does.asks.choice) before after past heard (refl, does.fits.stays) served does.asks.serves; stands = done.0 }, done.1))
       (λ refused. inr refused) (law.answers whole before after past (txn_name txn) does.statement does.asks.choice heard served ready does.fits does.asks.within does.asks.serves);
   commits = λ whole before after past txn heard served ready does. ⊎_elim
       (λ done. inl (record { deeds = does.serves.deeds; served = served_on db fits reached smooth law whole (To_do (txn_name txn) Commit_call does.choice) before after past heard tt served does.serves; stands = done.0 }, done.1))

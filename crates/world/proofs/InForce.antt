@@ -16,6 +16,7 @@ use Rattle.desk.specs.OfCatalogue.{InForce}
 use Rattle.desk.specs.State.{txn_at}
 use Rattle.desk.specs.Transaction.{txn_of}
 use Rattle.world.specs.Machines.{IsForNow, Machines, world_of}
+use Rattle.meaning.specs.Statement.{is_refragment}
 
 none_moves : (db : Database) (x : Option states.TxnState) → is_moving (txn_of db x) ≡ false
 none_moves db None = refl
@@ -33,8 +34,8 @@ module _ (db : Database) (machines : Machines) (letters : List (Letter (language
   begins_in_force = may_always_begin here nobody_moves
 
   pub asks_in_force : (t : Name) (request : Request (language db)) → IsForNow db machines.table.version request → may_ask here t request ≡ true
-  asks_in_force t (State s) now = both_true (not (is_moving (here.desk.txn t)) && (s.0 == machines.table.version)) true
-      (both_true (not (is_moving (here.desk.txn t))) (s.0 == machines.table.version) (ap not (nobody_moves t)) (eq-eqb s.0 machines.table.version now)) refl
+  asks_in_force t (State s) now = both_true (not (is_moving (here.desk.txn t)) && (s.0 == machines.table.version)) (not (is_refragment s.1))
+      (both_true (not (is_moving (here.desk.txn t))) (s.0 == machines.table.version) (ap not (nobody_moves t)) (eq-eqb s.0 machines.table.version now.0)) (ap not now.1)
   asks_in_force t Commit_call now = refl
   asks_in_force t Rollback now = refl
   asks_in_force t Give_up now = refl

@@ -17,6 +17,7 @@ use Rattle.world.specs.Machines.{Machines}
 use Rattle.world.specs.Runs.{AreTexts, IsRun, RunsAreSerial, relations_after}
 use Rattle.world.specs.Settled.{AreThoseOf, ShowsSerial, rows_shown}
 use Rattle.world.specs.Replies.{committed_in, texts_of}
+use Rattle.meaning.proofs.Kept.{meaning_fits}
 
 module _ (db : Database) (lawful : IsLawfulList local (statements db)) where
   -- what texts say are statements of the schema
@@ -29,7 +30,7 @@ module _ (db : Database) (lawful : IsLawfulList local (statements db)) where
   -- they lead from whole relations to whole relations, one after another
   after_fits : (given : List Statement) (whole : Relations) → AllByRecursion (IsStatementOf db.schemas) given → FitsSchema db.schemas whole → FitsSchema db.schemas (whole_then local (statements db) given whole)
   after_fits [] whole all fits = fits
-  after_fits (s ∷ rest) whole all fits = after_fits rest _ all.1 (lawful.keeps_whole 0 s whole all.0 fits)
+  after_fits (s ∷ rest) whole all fits = after_fits rest _ all.1 (meaning_fits db.schemas s whole all.0 fits)
 
   serial_fits : (txns : List Txn) (texts : Txn → List (List ℕ)) (given : Txn → List Statement) (whole : Relations) → ((txn : Txn) → AreTexts db (texts txn) (given txn)) → FitsSchema db.schemas whole →
       FitsSchema db.schemas (relations_after db (map given txns) whole)

@@ -1,4 +1,5 @@
 -- What proves the contracts of the crate.
+pub mod ListIsLawful
 pub mod Seating
 pub mod SiteSteps
 pub mod SitesUp
@@ -14,6 +15,7 @@ pub mod Ends
 pub mod Filled
 pub mod Opened
 pub mod FilledLeaves
+pub mod KnownLeaves
 pub mod Openings
 pub mod DatabasePlaces
 pub mod DatabaseIsStored

@@ -1,6 +1,6 @@
 -- New stores are filled with the parts of whole relations, and the sites come up over them.
 use Rattle.std.proofs.Common.{◌≡◌, ◌≢◌, refl, sym, ap, ◌∙◌, subst, ℕ, zero, suc, ◌+◌, ◌<◌, ◌==◌, Bool, true, false, List, [], ◌∷◌, ◌++◌, map, filter, drop, length, append-nil, append_assoc, Option, Some, None, IsSome, cond, if◌then◌else◌, get_or, ◌⊎◌, inl, inr, add-one, arith}
-use Rattle.std.proofs.lemmas.Bool.{eq-eqb, eqb-true}
+use Rattle.std.proofs.lemmas.Bool.{eqb-true}
 use Rattle.std.proofs.lemmas.List.{length-append}
 use Rattle.std.proofs.Math.Seq.{drop-cons}
 use Rattle.std.specs.Cmp.{tied_itself}
@@ -15,7 +15,7 @@ use Rattle.terms.specs.Leaf.{leaf_cmp}
 use Rattle.meaning.specs.Whole.{Relations, rows_of}
 use Rattle.catalog.specs.declared.fragment_leaf.FragmentLeaf.{FragmentLeaf}
 use Rattle.catalog.specs.Catalogue.{Catalogue}
-use Rattle.catalog.specs.FragmentLeaf.{catalogue_leaves, names_at}
+use Rattle.catalog.specs.FragmentLeaf.{catalogue_leaves, schemas_of}
 use Rattle.store.specs.declared.name.Ticket.{Ticket}
 use Rattle.store.specs.declared.prepared.Prepared.{Prepared}
 use Rattle.store.specs.declared.slot.Slot.{Slot}
@@ -25,12 +25,11 @@ use Rattle.store.specs.Orders.{slot_cmp_total, ticket_cmp_total}
 use Rattle.store.specs.SiteContent.{Applies, MayPrepare, Prepares, SiteContent, is_ticket}
 use Rattle.store.specs.Slot.{slot_cmp}
 use Rattle.protocol.specs.Parts.{In}
-use Rattle.protocol.proofs.Basics.{in_filter}
-use Rattle.protocol.proofs.Ranks.{in_map}
 use Rattle.site.specs.declared.site.Site.{Site}
 use Rattle.site.specs.State.{AreHad}
 use Rattle.site.proofs.TicketOrder.{leaf_is}
 use Rattle.world.specs.Filling.{filled, kept_with}
+use Rattle.world.specs.Leaves.{known_leaves}
 use Rattle.world.specs.Recovery.{AreUp, HaveLeaves, IsUp}
 use Rattle.world.specs.Seated.{seat_from, seats_in}
 use Rattle.world.proofs.ComingUp.{stores_were_clean}
@@ -58,15 +57,6 @@ next_filled whole site i leaves leaf name before after target below is step so =
     ∙ ap (filled whole site (drop (suc i) leaves) name) step
     ∙ sym (ap (λ rest. filled whole site rest name before) (drop-cons leaves i leaf below ∙ ap (λ l. l ∷ drop (suc i) leaves) (sym is)))
     ∙ so
-
--- a leaf of a site is among those of the site
-leaf_there : (i : ℕ) (leaves : List FragmentLeaf) (leaf d : FragmentLeaf) → i < length leaves → leaf ≡ get_or leaves i d → In leaf leaves
-leaf_there i [] leaf d below is = absurd (omega arith)
-leaf_there zero (first ∷ leaves) leaf d below is = inl is
-leaf_there (suc i) (first ∷ leaves) leaf d below is = inr (leaf_there i leaves leaf d (omega arith) is)
-
-pub name_at : (site i : ℕ) (leaves : List FragmentLeaf) (leaf : FragmentLeaf) → i < length leaves → leaf ≡ get_or leaves i leaf → leaf.site ≡ site → In leaf.name (names_at site leaves)
-name_at site i leaves leaf below is here = in_map (λ (l : FragmentLeaf). l.name) leaf (filter (λ (l : FragmentLeaf). l.site == site) leaves) (in_filter (λ (l : FragmentLeaf). l.site == site) leaf leaves (leaf_there i leaves leaf leaf below is) (eq-eqb leaf.site site here))
 
 pub not_same : (one other : ℕ) → (one ≡ other → ⊥) → (one == other) ≡ false
 not_same one other apart = go (one == other) refl
@@ -128,7 +118,7 @@ module _ (catalogue : Catalogue) (whole : Relations) (place : ℕ) (parts : Chan
       go false e = e
 
   -- they may be put
-  pub may_fill : (ticket : Ticket) (kept : SiteContent) → parts ≢ fin.empty → ((slot : Slot) → IsSome (fin.get parts slot) → In slot.leaf (names_at place (catalogue_leaves catalogue))) → AreHad (names_at place (catalogue_leaves catalogue)) kept → KeepsNothing kept → MayPrepare ticket parts kept
+  pub may_fill : (ticket : Ticket) (kept : SiteContent) → parts ≢ fin.empty → ((slot : Slot) → IsSome (fin.get parts slot) → In slot.leaf (known_leaves (schemas_of catalogue))) → AreHad (known_leaves (schemas_of catalogue)) kept → KeepsNothing kept → MayPrepare ticket parts kept
   may_fill ticket kept some within had nothing = record { new = nothing.prepared ticket; some = some; within = λ slot there. had slot.leaf (within slot there) }
 
 -- ---- the stores of all sites, one after another
@@ -165,10 +155,10 @@ module _ {S : Type 0} (is_clean is_sound : S → Type 0) (kept : S → SiteConte
   were_clean place (old ∷ olds) (new ∷ news) all clean = (all.0.leaves_store.clean clean.0, were_clean (suc place) olds news all.1 clean.1)
 
   -- ---- and the sites that come up over them
-  pub given_clean : (names : List (List ℕ)) (olds news : List S) (sites : List (Site S)) → All 0 olds news → AreUp is_clean is_sound kept refused catalogue 0 names news sites → AllByRecursion (λ site. is_clean site.store) sites → AllByRecursion is_clean olds
-  given_clean names olds news sites full up clean = were_clean 0 olds news full (stores_were_clean is_clean is_sound kept refused catalogue 0 names news sites up clean)
+  pub given_clean : (names : List (List ℕ)) (olds news : List S) (sites : List (Site S)) → All 0 olds news → AreUp is_clean is_sound kept refused catalogue names news sites → AllByRecursion (λ site. is_clean site.store) sites → AllByRecursion is_clean olds
+  given_clean names olds news sites full up clean = were_clean 0 olds news full (stores_were_clean is_clean is_sound kept refused catalogue names news sites up clean)
 
-  one_started : (place : ℕ) (name : List ℕ) (old new : S) (site : Site S) → Fills is_clean is_sound kept refused catalogue whole place old new → IsUp is_clean is_sound kept refused catalogue place name new site → is_clean site.store → is_sound old → AreHad (names_at place (catalogue_leaves catalogue)) (kept old) → KeepsNothing (kept old) →
+  one_started : (place : ℕ) (name : List ℕ) (old new : S) (site : Site S) → Fills is_clean is_sound kept refused catalogue whole place old new → IsUp is_clean is_sound kept refused catalogue name new site → is_clean site.store → is_sound old → AreHad (known_leaves (schemas_of catalogue)) (kept old) → KeepsNothing (kept old) →
       IsStarted catalogue whole place name (seat_from kept site)
   one_started place name old new site fills up clean sound had nothing =
       let is = fills.filled (up.leaves_store.clean clean) sound had nothing in
@@ -183,8 +173,8 @@ module _ {S : Type 0} (is_clean is_sound : S → Type 0) (kept : S → SiteConte
         };
       }
 
-  pub all_started : (place : ℕ) (names : List (List ℕ)) (olds news : List S) (sites : List (Site S)) → All place olds news → AreUp is_clean is_sound kept refused catalogue place names news sites → AllByRecursion (λ site. is_clean site.store) sites →
-      AllByRecursion is_sound olds → HaveLeaves catalogue place (map kept olds) → AllByRecursion KeepsNothing (map kept olds) → AllStarted catalogue whole place names (seats_in kept sites)
+  pub all_started : (place : ℕ) (names : List (List ℕ)) (olds news : List S) (sites : List (Site S)) → All place olds news → AreUp is_clean is_sound kept refused catalogue names news sites → AllByRecursion (λ site. is_clean site.store) sites →
+      AllByRecursion is_sound olds → HaveLeaves catalogue (map kept olds) → AllByRecursion KeepsNothing (map kept olds) → AllStarted catalogue whole place names (seats_in kept sites)
   all_started place [] [] [] [] full up clean sound have nothing = tt
   all_started place names [] (new ∷ news) sites full up clean sound have nothing = absurd full
   all_started place names (old ∷ olds) [] sites full up clean sound have nothing = absurd full

@@ -2,7 +2,7 @@
 use Rattle.std.proofs.Common.{◌≡◌, ◌≢◌, refl, sym, ap, ◌∙◌, subst, ℕ, zero, suc, ◌+◌, ◌==◌, ◌||◌, nat_eq, Bool, true, false, List, [], ◌∷◌, map, Option, Some, None, is_some, slice_get, if◌then◌else◌, inl, arith}
 use Rattle.std.specs.FinMap as fin
 use Rattle.std.specs.Cmp.Lexicographic.{pointwise}
-use Rattle.std.specs.List.{AllByRecursion, filter, list_any}
+use Rattle.std.specs.List.{AllByRecursion, list_any}
 use Rattle.std.specs.Ordering.{is_eq}
 use Rattle.std.proofs.lemmas.Bool.{eq-eqb, eqb-true}
 use Rattle.terms.specs.declared.leaf.Leaf.{Leaf}
@@ -12,7 +12,7 @@ use Rattle.reader.specs.Printable.{AreDistinct}
 use Rattle.catalog.specs.declared.fragment_leaf.FragmentLeaf.{FragmentLeaf}
 use Rattle.catalog.specs.Catalogue.{Catalogue}
 use Rattle.catalog.specs.Formed.{IsFormed}
-use Rattle.catalog.specs.FragmentLeaf.{catalogue_leaves, is_name_of, leaf_named, names_at}
+use Rattle.catalog.specs.FragmentLeaf.{catalogue_leaves, leaf_named, schemas_of}
 use Rattle.catalog.proofs.LeafNames.{HaveOwnNames, own_names}
 use Rattle.store.specs.declared.name.Ticket.{Ticket}
 use Rattle.store.specs.declared.name.Txn as txns
@@ -41,8 +41,10 @@ use Rattle.world.specs.Placed.{IsPlaced, Opens}
 use Rattle.world.specs.Start.{AllStarted, IsAtRest, IsStarted}
 use Rattle.world.specs.Sites.{Seat, is_called, nobody, seat_of, state_at, states_of}
 use Rattle.world.specs.Filling.{filled}
+use Rattle.world.specs.Leaves.{known_leaves}
 use Rattle.world.proofs.DatabasePlaces.{at_in, home_is, home_there}
-use Rattle.world.proofs.FilledLeaves.{leaf_elsewhere, leaf_filled, none_filled, same_test}
+use Rattle.world.proofs.FilledLeaves.{leaf_elsewhere, leaf_filled, none_filled}
+use Rattle.world.proofs.KnownLeaves.{known_named}
 use Rattle.world.proofs.Seating.{HasItsLeaves, name_is, name_self, seat_named, state_there}
 
 -- what holds of each started site holds of each
@@ -63,10 +65,6 @@ apart_at first [] zero name apart got = cc
 apart_at first [] (suc i) name apart got = cc
 apart_at first (n ∷ names) zero name apart got = subst (λ m. first ≢ m) (some_is got) apart.0
 apart_at first (n ∷ names) (suc i) name apart got = apart_at first names i name apart.1 got
-
-or_true : (b : Bool) → (b || true) ≡ true
-or_true true = refl
-or_true false = refl
 
 -- a started site, by its name
 record Found (c : Catalogue) (whole : Relations) (at : ℕ) (name : List ℕ) (seats : List Seat) : Type 0 where
@@ -98,49 +96,14 @@ found_at c whole place (n ∷ names) (s ∷ seats) (suc i) name all distinct got
     no_match false e = refl
     no_match true e = absurd (apart_at n names i name distinct.0 got (sym all.0.called ∙ sym (name_is name s.name e)))
 
-one_place : (names : List (List ℕ)) (i j : ℕ) (name : List ℕ) → AreDistinct names → slice_get names i ≡ Some name → slice_get names j ≡ Some name → i ≡ j
-one_place [] zero j name distinct one other = cc
-one_place [] (suc i) j name distinct one other = cc
-one_place (n ∷ names) zero zero name distinct one other = refl
-one_place (n ∷ names) zero (suc j) name distinct one other = absurd (apart_at n names j name distinct.0 other (some_is one))
-one_place (n ∷ names) (suc i) zero name distinct one other = absurd (apart_at n names i name distinct.0 one (some_is other))
-one_place (n ∷ names) (suc i) (suc j) name distinct one other = ap suc (one_place names i j name distinct.1 one other)
-
 -- ---- a started site has the leaves that are at home there
-named_at : (at : ℕ) (name : Leaf) (leaf : FragmentLeaf) (leaves : List FragmentLeaf) → leaf_named name leaves ≡ Some leaf → leaf.site ≡ at → list_any (λ other. is_eq (leaf_cmp name other)) (names_at at leaves) ≡ true
-named_at at name leaf [] found here = cc
-named_at at name leaf (first ∷ leaves) found here = go (is_name_of name first) refl found (λ later. named_at at name leaf leaves later here)
+-- knowing all that a catalogue's relations can have, a site has those that the database has there
+pub has_its : (db : Database) (n : ℕ) (c : Catalogue) (whole : Relations) (seat : Seat) → IsFormed c → IsPlaced db n c whole → seat.leaves ≡ known_leaves (schemas_of c) → HasItsLeaves db seat
+has_its db n c whole seat formed places own leaf home = subst (λ (leaves : List Leaf). list_any (λ other. is_eq (leaf_cmp leaf other)) leaves ≡ true) (sym own) (go (leaf_named leaf (catalogue_leaves c)) refl)
   where
-    behind : (b : Bool) → list_any (λ other. is_eq (leaf_cmp name other)) (names_at at leaves) ≡ true → list_any (λ other. is_eq (leaf_cmp name other)) (map (λ (l : FragmentLeaf). l.name) (if b then first ∷ filter (λ (l : FragmentLeaf). l.site == at) leaves else filter (λ (l : FragmentLeaf). l.site == at) leaves)) ≡ true
-    behind true e = ap (λ (b : Bool). is_eq (leaf_cmp name first.name) || b) e ∙ or_true (is_eq (leaf_cmp name first.name))
-    behind false e = e
-
-    go : (b : Bool) → is_name_of name first ≡ b → (if b then Some first else leaf_named name leaves) ≡ Some leaf → (leaf_named name leaves ≡ Some leaf → list_any (λ other. is_eq (leaf_cmp name other)) (names_at at leaves) ≡ true) → list_any (λ other. is_eq (leaf_cmp name other)) (names_at at (first ∷ leaves)) ≡ true
-    go false e is later = behind (first.site == at) (later is)
-    go true e is later =
-        let at_site : (first.site == at) ≡ true = eq-eqb first.site at (ap (λ (l : FragmentLeaf). l.site) (some_is is) ∙ here) in
-        ap (λ (b : Bool). list_any (λ other. is_eq (leaf_cmp name other)) (map (λ (l : FragmentLeaf). l.name) (if b then first ∷ filter (λ (l : FragmentLeaf). l.site == at) leaves else filter (λ (l : FragmentLeaf). l.site == at) leaves))) at_site
-        ∙ ap (λ (b : Bool). b || list_any (λ other. is_eq (leaf_cmp name other)) (names_at at leaves)) (sym (same_test name first) ∙ e)
-
-module _ (db : Database) (n : ℕ) (c : Catalogue) (whole : Relations) (distinct : AreDistinct db.sites) (places : IsPlaced db n c whole) where
-  pub has_its : (at : ℕ) (name : List ℕ) (seat : Seat) → seat.name ≡ name → seat.leaves ≡ names_at at (catalogue_leaves c) → slice_get db.sites at ≡ Some name → HasItsLeaves db seat
-  has_its at name seat called own there = λ leaf home. go leaf (places.places (seat.name, leaf) home) (leaf_named leaf (catalogue_leaves c)) refl
-    where
-      go : (leaf : Leaf) → site_in c leaf ≡ Some seat.name → (found : Option FragmentLeaf) → leaf_named leaf (catalogue_leaves c) ≡ found → list_any (λ other. is_eq (leaf_cmp leaf other)) seat.leaves ≡ true
-      go leaf home None none = absurd (let no : None ≡ Some seat.name = sym (ap (at_in c) none) ∙ home in cc)
-      go leaf home (Some of) found =
-          let of_site : slice_get db.sites of.site ≡ Some name = ap (λ sites. slice_get sites of.site) places.sites ∙ sym (ap (at_in c) found) ∙ home ∙ ap Some called in
-          let here : of.site ≡ at = one_place db.sites of.site at name distinct of_site there in
-          subst (λ (leaves : List Leaf). list_any (λ other. is_eq (leaf_cmp leaf other)) leaves ≡ true) (sym own) (named_at at leaf of (catalogue_leaves c) found here)
-
-  all_have_theirs : (place : ℕ) (names : List (List ℕ)) (seats : List Seat) → AllStarted c whole place names seats → ((i : ℕ) (name : List ℕ) → slice_get names i ≡ Some name → slice_get db.sites (place + i) ≡ Some name) → AllByRecursion (HasItsLeaves db) seats
-  all_have_theirs place [] [] all there = tt
-  all_have_theirs place [] (s ∷ seats) all there = absurd all
-  all_have_theirs place (n ∷ names) [] all there = absurd all
-  all_have_theirs place (n ∷ names) (s ∷ seats) all there = (
-    has_its place n s all.0.called all.0.leaves (subst (λ p. slice_get db.sites p ≡ Some n) (let e : place + 0 ≡ place = omega arith in e) (there 0 n refl)),
-    all_have_theirs (suc place) names seats all.1 (λ i name got. subst (λ p. slice_get db.sites p ≡ Some name) (let e : place + suc i ≡ suc place + i = omega arith in e) (there (suc i) name got)),
-  )
+    go : (found : Option FragmentLeaf) → leaf_named leaf (catalogue_leaves c) ≡ found → list_any (λ other. is_eq (leaf_cmp leaf other)) (known_leaves (schemas_of c)) ≡ true
+    go None none = absurd (let no : None ≡ Some seat.name = sym (ap (at_in c) none) ∙ places.places (seat.name, leaf) home in cc)
+    go (Some of) found = known_named c leaf of formed found
 
 -- ---- a site at rest has nothing in memory
 module _ (S : Catalogues local) (seat : Seat) (rests : IsAtRest seat) where
@@ -278,7 +241,7 @@ module _ (db : Database) (c : Catalogue) (whole : Relations) (machines : Machine
 
   pub opens : Opens db whole machines
   opens = opens_at_rest db whole machines places.fits (started_names c whole 0 db.sites machines.seats started)
-      (all_have_theirs db machines.table.version c whole distinct places 0 db.sites machines.seats started (λ i name got. subst (λ p. slice_get db.sites p ≡ Some name) (let e : i ≡ 0 + i = omega arith in e) got))
+      (started_all (HasItsLeaves db) c whole 0 db.sites machines.seats (λ at name seat is. has_its db machines.table.version c whole seat formed places is.leaves) started)
       (started_all IsAtRest c whole 0 db.sites machines.seats (λ at name seat is. is.rests) started) keeps_its rises none
 
 -- of the sites of the code and their catalogue

@@ -20,7 +20,7 @@ use Rattle.meaning.specs.declared.statement.Statement.TheVariants as statement
 use Rattle.meaning.specs.Listed.{listed}
 use Rattle.meaning.specs.Meaning.{meaning}
 use Rattle.meaning.specs.Schema.{kinds_of, names_of, relation_named}
-use Rattle.meaning.specs.Statement.{IsStatementOf}
+use Rattle.meaning.specs.Statement.{IsStatementOf, is_refragment}
 use Rattle.meaning.specs.Whole.{FitsSchema, Relations, rows_of}
 use Rattle.meaning.proofs.ListedLemmas.{listed_all}
 use Rattle.catalog.specs.declared.fragment_leaf.FragmentLeaf.{FragmentLeaf}
@@ -153,13 +153,13 @@ module _ (db : Database) (n : ℕ) (whole : Relations) where
   all_brought [] = refl
   all_brought (fetch ∷ fetches) = ap (λ rest. brought_of db n whole fetch ∷ rest) (all_brought fetches)
 
-pub are_all_brought : (catalogue : Catalogue) → IsBase (database catalogue) → LeafNamesAreUnique → (n : ℕ) (stated : Statement) (reduced : Reduced) (whole : Relations) → IsStatementOf (schemas_of catalogue) stated → AreFetchesOf catalogue stated reduced.fetches.items → FindsAll catalogue stated reduced.fetches.items (shape reduced.plan) →
+pub are_all_brought : (catalogue : Catalogue) → IsBase (database catalogue) → LeafNamesAreUnique → (n : ℕ) (stated : Statement) (reduced : Reduced) (whole : Relations) → IsStatementOf (schemas_of catalogue) stated → is_refragment stated ≡ false → AreFetchesOf catalogue stated reduced.fetches.items → FindsAll catalogue stated reduced.fetches.items (shape reduced.plan) →
     FitsSchema (schemas_of catalogue) whole → (rows : List FetchRows) → rows ≡ map (brought_of (database catalogue) n whole) reduced.fetches.items → AreBrought catalogue whole reduced.fetches.items (given rows)
-are_all_brought catalogue base unique n stated reduced whole of fetches finds fits rows are =
+are_all_brought catalogue base unique n stated reduced whole of stays fetches finds fits rows are =
     let db = database catalogue in
     let asks = map (ghost_ask db n whole) reduced.fetches.items in
     let plan : ReducedPlan = record { nodes = postfix (shape reduced.plan); fetches = reduced.fetches.items } in
-    let planned : IsOfPlan db n stated plan asks = record { statement = of; fetches = fetches; finds = subst (FindsAll catalogue stated reduced.fetches.items) (sym (plan_is (shape reduced.plan))) finds; in_order = in_order db n whole reduced.fetches.items } in
+    let planned : IsOfPlan db n stated plan asks = record { statement = record { of_schemas = of; stays = stays }; fetches = fetches; finds = subst (FindsAll catalogue stated reduced.fetches.items) (sym (plan_is (shape reduced.plan))) finds; in_order = in_order db n whole reduced.fetches.items } in
     subst (λ rs. AreBrought catalogue whole reduced.fetches.items (given rs)) (all_brought db n whole reduced.fetches.items ∙ sym are)
     (are_brought db base.of_catalogue n unique stated plan asks planned whole fits (all_given db n whole reduced.fetches.items))
 

@@ -38,6 +38,7 @@ use Rattle.world.proofs.Beginning.{all_silent}
 use Rattle.world.proofs.Reaching.{all_explained, all_reached, asked_reached}
 use Rattle.world.proofs.Running.{all_both}
 use Rattle.world.proofs.Sited.{AreSited, IsSited, Sited, called_sited, come_sited, not_passed, steady_sited}
+use Rattle.desk.proofs.Explaining.{stated_plainly}
 
 -- fit machines are within their limits
 pub fit_within : (db : Database) (machines : Machines) (letters : List (Letter (language db))) (past : List (Deed (language db))) → AreFit db machines → Within (world_of db machines letters past)
@@ -171,12 +172,12 @@ serves_smoothly db fits law once housed = record {
       let s : L.Statement = (n, statement) in
       let here = rests db before past in
       let ask = To_do txn (State s) choice in
-      let reached = asked_here db fits law once housed whole before after past heard served ask serves refl in
+      let reached = asked_here db fits law once housed whole before after past heard served ask serves (refl, is.stays) in
       let explained = all_here db fits law once housed whole before after past heard served ask serves in
       let law_of : SmoothLaw L n fits = smooth_law law once n fits (housed n) in
       let within = called_within here txn choice (State s) (fit_within db before [] past served.fit) in
-      let came = all_course db fits law once housed n opened txn s past serves.comings (called here txn choice (State s)) within smooth_ reached explained (law_of.stated opened here txn s choice ready is refl refl room reached) in
-      let done = law_of.answered (rests db after (past ++ serves.deeds)) txn s past (subst (InCourse L n fits txn s past) (serves.is past) came) refl refl in
+      let came = all_course db fits law once housed n opened txn s past serves.comings (called here txn choice (State s)) within smooth_ reached explained (law_of.stated opened here txn s choice ready (stated_plainly db n statement is) refl is.stays room reached) in
+      let done = law_of.answered (rests db after (past ++ serves.deeds)) txn s past (subst (InCourse L n fits txn s past) (serves.is past) came) refl is.stays in
       (ready_at n after.table.version txn (rests db after (past ++ serves.deeds)) done.0, (done.1.1.0, heard_of db fits law once housed whole before after past heard served ask serves _ done.1.2));
   commits = λ whole before after past txn choice heard served ready serves smooth_.
       let done = committed db fits law once housed whole before after past heard served txn choice ready serves smooth_ in

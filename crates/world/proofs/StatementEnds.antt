@@ -1,7 +1,6 @@
 -- A statement of one client, whatever becomes of its letters: its transaction is ready for more, or it has ended and all is quiet.
 use Rattle.std.proofs.Common.{◌≡◌, refl, sym, ap, ◌∙◌, subst, Bool, true, false, List, [], ◌∷◌, ◌++◌, ◌⊎◌, inl, inr, ⊎_elim, ℕ, Option, map}
 use Rattle.meaning.specs.declared.statement.Statement.{Statement}
-use Rattle.meaning.specs.Statement.{IsStatementOf}
 use Rattle.meaning.specs.Whole.{Relations}
 use Rattle.store.specs.Content.{Content}
 use Rattle.protocol.specs.Client.{IsQuiet, IsReached, first, next}
@@ -31,7 +30,7 @@ use Rattle.protocol.proofs.Overflow.{went_on}
 use Rattle.protocol.proofs.ForgottenLetters.{reached_law}
 use Rattle.protocol.proofs.WithoutRefusal.{smooth_law}
 use Rattle.desk.specs.declared.reply.Notice.{Notice}
-use Rattle.desk.specs.Database.{Database, language}
+use Rattle.desk.specs.Database.{Database, IsOrdinary, language}
 use Rattle.desk.specs.Place.{Place}
 use Rattle.desk.specs.State.{desk_of, notice_of}
 use Rattle.protocol.specs.Delivery.{AllFounded, Coming, FindsNoRoom, FirstIsFounded, IsFounded, Passed_over, Taken, Turned_away, all_come, come, first_comes}
@@ -47,6 +46,7 @@ use Rattle.world.proofs.Reaching.{all_explained, all_reached}
 use Rattle.world.proofs.EndsTold.{Told, all_told, end_heard, ends_it, state_told}
 use Rattle.world.proofs.Executed.{tells_by}
 use Rattle.world.proofs.Smoothly.{all_here, asked_here, fit_within, heard_of, ready_at, room_or_full, same_behind}
+use Rattle.desk.proofs.Explaining.{stated_plainly}
 
 module _ {L : Lang} where
   -- a letter that may wait while a statement works
@@ -180,7 +180,7 @@ module _ (db : Database) where
   for_site (Ack k) is = let e : false ≡ true = is in cc
   for_site (Inquire k) is = let e : false ≡ true = is in cc
 
-  module _ (fits : Place → Content → Bool) (law : IsLawful D) (once : Once D.sites) (housed : (n : ℕ) → IsHoused D n fits) (n : ℕ) (whole : D.Whole) (t : Name) (s : D.Statement) (before : List (Deed D)) where
+  module _ (fits : Place → Content → Bool) (law : IsLawful D) (once : Once D.sites) (housed : (n : ℕ) → IsHoused D n fits) (n : ℕ) (whole : D.Whole) (t : Name) (s : D.Statement) (stays : D.raises s ≡ false) (before : List (Deed D)) where
     abbrev smooth : SmoothLaw D n fits
     smooth = smooth_law law once n fits (housed n)
 
@@ -237,13 +237,13 @@ module _ (db : Database) where
             let passes_bare : passes w true c l ≡ true = ap (λ b. passes_to b w true c l) to_site ∙ sym (ap (λ b. passes_to b w true choice l) to_site) ∙ goes_true in
             let idle : is_reading (w.desk.txn t) ≡ false = ⊎_elim (λ reads. clash write (subst NoWrites e (none reads)).0) (λ is. is) (by_test (is_reading (w.desk.txn t))) in
             subst Stand (sym same_bare) (⊎_elim
-            (λ (on : InStatement t s before (next w true c)). in_course (record { course = on; tag = here.tag; fitting = λ case. (fitting_law law fits).came w true c tt (here.fitting (inl refl)) }) (reads_no_write c))
+            (λ (on : InStatement t s before (next w true c)). in_course (record { course = on; tag = here.tag; fitting = λ case. (fitting_law law fits).came w true c tt (here.fitting (inl stays)) }) (reads_no_write c))
             (λ failing. of_failing (next w true c) (idle_on true c own idle) failing.1)
             (went_on law once (Unit {0}) t s before w within true c l q e (record {
               is_kept = refl;
               within = passes_bare;
               room = room_anyhow (w.sites l.site) l.body;
-              fit = λ reading. (fitting_law law fits).rows s w l ((housed n).rows s here.tag) (here.fitting (inl refl));
+              fit = λ reading. (fitting_law law fits).rows s w l ((housed n).rows s here.tag) (here.fitting (inl stays));
               homes = λ g there. absurd there;
             }) (inl here.course)))
 
@@ -291,13 +291,13 @@ module _ (db : Database) where
 
     -- no letter waits
     stand_ends : (w : World D) → Stand w → w.letters ≡ [] → (Ready D n fits t w × ((asks : List (Ask D)) × (choice : Choice D) × (w.past ≡ before ++ Stated t s ∷ Worked t s asks choice ∷ Answered t choice.0 ∷ []))) ⊎ IsQuiet w
-    stand_ends w (in_course here none) silent = inl (smooth.answered w t s before here silent refl)
+    stand_ends w (in_course here none) silent = inl (smooth.answered w t s before here silent stays)
     stand_ends w (is_doomed d idle) silent = inr (failing_ends law once t before w (doomed d) silent).0
     stand_ends w (has_left deeds ending) silent = inr (ending_quiet law deeds w ending silent)
 
   -- a statement, and all its letters
   pub quiet_or_ready : (fits : Place → Content → Bool) (law : IsLawful D) (once : Once D.sites) (housed : (n : ℕ) → IsHoused D n fits) (whole : Relations) (before after : Machines) (past : List (Deed D)) (txn : Name) (statement : Statement) (choice : Choice D) (heard : List Notice) → (served : IsServed db whole before past) →
-      IsReady db fits txn before past → IsStatementOf db.schemas statement →
+      IsReady db fits txn before past → IsOrdinary db statement →
       is_desk_within (desk_after (desk_of db before.table) txn (on_request txn choice (State (before.table.version, statement)) ((desk_of db before.table).txn txn)).txn) ≡ true → (serves : Serves db (To_do txn (State (before.table.version, statement)) choice) before after heard) →
       (IsReady db fits txn after (past ++ serves.deeds) × ((answer : AnswerNow) × (map notice_of heard ≡ (txn, Answer answer) ∷ []))) ⊎ (IsQuiet (rests db after (past ++ serves.deeds)) × (tells is_end heard ≡ true))
   quiet_or_ready fits law once housed whole before after past txn statement choice heard served ready is room serves =
@@ -307,16 +307,16 @@ module _ (db : Database) where
       let here = rests db before past in
       let ask = To_do txn (State s) choice in
       let start = called here txn choice (State s) in
-      let reached = asked_here db fits law once housed whole before after past heard served ask serves refl in
+      let reached = asked_here db fits law once housed whole before after past heard served ask serves (refl, is.stays) in
       let explained = all_here db fits law once housed whole before after past heard served ask serves in
       let within = called_within here txn choice (State s) (fit_within db before [] past served.fit) in
-      let begins : Stand fits law once housed n opened txn s past start = in_course ((smooth_law law once n fits (housed n)).stated opened here txn s choice ready is refl refl room reached) (state_reads here txn choice s refl) in
+      let begins : Stand fits law once housed n opened txn s is.stays past start = in_course ((smooth_law law once n fits (housed n)).stated opened here txn s choice ready (stated_plainly db n statement is) refl is.stays room reached) (state_reads here txn choice s refl) in
       let ends : Told txn past (rests db after (past ++ serves.deeds)) = subst (Told txn past) (serves.is past) (all_told txn past serves.comings start (state_told here txn choice s ready.steady.u ready.steady.known)) in
       let tells_end : IsQuiet (rests db after (past ++ serves.deeds)) → tells is_end heard ≡ true = λ quiet. ⊎_elim (λ undecided. clash undecided (quiet.decided txn))
       (λ ended. tells_by is_end heard ∙ ap (list_any (λ (x : Name × Reply). is_end x.1)) serves.replies ∙ end_heard db serves.deeds (subst (λ (deeds : List (Deed D)). list_any ends_it deeds ≡ true) (sym (same_behind past serves.deeds ends.more ends.is)) ended)) ends.says in
       let sited = called_sited here txn choice (State s) (steady_sited txn here ready.steady) in
-      let stand = all_stand fits law once housed n opened txn s past serves.comings start within sited (serves.founded past) reached explained begins in
+      let stand = all_stand fits law once housed n opened txn s is.stays past serves.comings start within sited (serves.founded past) reached explained begins in
       ⊎_elim
       (λ answered. inl (ready_at n after.table.version txn (rests db after (past ++ serves.deeds)) answered.0, (answered.1.1.0, heard_of db fits law once housed whole before after past heard served ask serves _ answered.1.2)))
       (λ quiet. inr (quiet, tells_end quiet))
-      (stand_ends fits law once housed n opened txn s past (rests db after (past ++ serves.deeds)) (subst (Stand fits law once housed n opened txn s past) (serves.is past) stand) refl)
+      (stand_ends fits law once housed n opened txn s is.stays past (rests db after (past ++ serves.deeds)) (subst (Stand fits law once housed n opened txn s is.stays past) (serves.is past) stand) refl)

@@ -10,7 +10,7 @@ use Rattle.meaning.specs.Whole.{FitsSchema, Relations, rows_of}
 use Rattle.catalog.specs.declared.fragment_leaf.FragmentLeaf.{FragmentLeaf}
 use Rattle.catalog.specs.Catalogue.{Catalogue}
 use Rattle.catalog.specs.Formed.{IsFormed}
-use Rattle.catalog.specs.FragmentLeaf.{catalogue_leaves, names_at, schemas_of}
+use Rattle.catalog.specs.FragmentLeaf.{catalogue_leaves, schemas_of}
 use Rattle.store.specs.declared.name.Ticket.{Ticket}
 use Rattle.store.specs.declared.name.Txn as txns
 use Rattle.store.specs.declared.prepared.Prepared.{Prepared}
@@ -35,6 +35,7 @@ use Rattle.desk.specs.Recovery.{Rises}
 use Rattle.desk.specs.State.{Fits, VolatileState, volatile_from}
 use Rattle.desk.proofs.Settled.{is_within}
 use Rattle.world.specs.Filling.{filled, kept_with}
+use Rattle.world.specs.Leaves.{known_leaves}
 use Rattle.world.specs.Machines.{Machines, world_of}
 use Rattle.world.specs.Recovery.{HaveLeaves}
 use Rattle.world.specs.Sites.{Seat}
@@ -122,18 +123,18 @@ none_to_fill whole empty site (leaf ∷ leaves) name kept = ap (filled whole sit
 
 -- ---- the machines
 module _ (c : Catalogue) (whole : Relations) (empty : HasNoRows whole) where
-  abbrev unborn_seats : ℕ → List (List ℕ) → List SiteContent → List Seat
-  unborn_seats place [] contents = []
-  unborn_seats place (name ∷ names) [] = []
-  unborn_seats place (name ∷ names) (kept ∷ contents) = unborn name (names_at place (catalogue_leaves c)) kept ∷ unborn_seats (suc place) names contents
+  abbrev unborn_seats : List (List ℕ) → List SiteContent → List Seat
+  unborn_seats [] contents = []
+  unborn_seats (name ∷ names) [] = []
+  unborn_seats (name ∷ names) (kept ∷ contents) = unborn name (known_leaves (schemas_of c)) kept ∷ unborn_seats names contents
 
-  unborn_kept : (place : ℕ) (names : List (List ℕ)) (contents : List SiteContent) → length contents ≡ length names → map (λ (seat : Seat). seat.kept) (unborn_seats place names contents) ≡ contents
-  unborn_kept place [] [] size = refl
-  unborn_kept place [] (kept ∷ contents) size = absurd (omega (arith, size))
-  unborn_kept place (name ∷ names) [] size = absurd (omega (arith, size))
-  unborn_kept place (name ∷ names) (kept ∷ contents) size = ap (λ rest. kept ∷ rest) (unborn_kept (suc place) names contents (omega (arith, size)))
+  unborn_kept : (names : List (List ℕ)) (contents : List SiteContent) → length contents ≡ length names → map (λ (seat : Seat). seat.kept) (unborn_seats names contents) ≡ contents
+  unborn_kept [] [] size = refl
+  unborn_kept [] (kept ∷ contents) size = absurd (omega (arith, size))
+  unborn_kept (name ∷ names) [] size = absurd (omega (arith, size))
+  unborn_kept (name ∷ names) (kept ∷ contents) size = ap (λ rest. kept ∷ rest) (unborn_kept names contents (omega (arith, size)))
 
-  unborn_started : (place : ℕ) (names : List (List ℕ)) (contents : List SiteContent) → length contents ≡ length names → HaveLeaves c place contents → AllByRecursion KeepsNothing contents → AllStarted c whole place names (unborn_seats place names contents)
+  unborn_started : (place : ℕ) (names : List (List ℕ)) (contents : List SiteContent) → length contents ≡ length names → HaveLeaves c contents → AllByRecursion KeepsNothing contents → AllStarted c whole place names (unborn_seats names contents)
   unborn_started place [] [] size have nothing = tt
   unborn_started place [] (kept ∷ contents) size have nothing = absurd (omega (arith, size))
   unborn_started place (name ∷ names) [] size have nothing = absurd (omega (arith, size))
@@ -142,19 +143,19 @@ module _ (c : Catalogue) (whole : Relations) (empty : HasNoRows whole) where
       called = refl;
       leaves = refl;
       content = λ leaf. nothing.0.content leaf ∙ sym (none_to_fill whole empty place (catalogue_leaves c) leaf fin.empty);
-      rests = unborn_rests name (names_at place (catalogue_leaves c)) kept have.0 nothing.0;
+      rests = unborn_rests name (known_leaves (schemas_of c)) kept have.0 nothing.0;
     },
     unborn_started (suc place) names contents (omega (arith, size)) have.1 nothing.1,
   )
 
   pub were_served : IsFormed c → (of_desk : DeskContent) (of_sites : List SiteContent) → FitsSchema (schemas_of c) whole → length of_sites ≡ length c.sites → KeepNothing c of_desk of_sites → WereServed c of_desk of_sites whole
   were_served formed of_desk of_sites fits size nothing =
-      let seats = unborn_seats 0 c.sites of_sites in
+      let seats = unborn_seats c.sites of_sites in
       let machines : Machines = record { desk = of_desk; table = unborn_table (database c) of_desk nothing.commits nothing.life; seats = seats; refused = [] } in
       let opens = opens_of (database c) c whole machines formed (placed c machines.table.version whole formed fits) (unborn_started 0 c.sites of_sites size nothing.leaves nothing.sites) (unborn_rises (database c) of_desk nothing.commits nothing.life) nothing.commits in
       record {
         machines = machines;
-        kept = record { desk = refl; sites = unborn_kept 0 c.sites of_sites size };
+        kept = record { desk = refl; sites = unborn_kept c.sites of_sites size };
         memory = record { entries = []; is = refl; ascend = none_sorted txn_cmp };
         served = record { version = machines.table.version; reached = record { opening = world_of (database c) machines [] []; opens = opens.opening; events = []; gone = []; is = refl; explained = tt }; fit = opens.fit };
       }

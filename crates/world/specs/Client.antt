@@ -1,7 +1,6 @@
 -- One client's database: what it has been through, and what its calls do.
 use Rattle.std.specs.Prelude.{◌≡◌, ℕ, true, List, [], ◌++◌, filter, Option, None, if◌then◌else◌}
 use Rattle.meaning.specs.declared.statement.Statement.{Statement}
-use Rattle.meaning.specs.Statement.{IsStatementOf}
 use Rattle.meaning.specs.Whole.{Relations}
 use Rattle.reader.specs.declared.command.Command.TheVariants.{Run}
 use Rattle.reader.specs.Command.{IsTextOf}
@@ -14,7 +13,7 @@ use Rattle.protocol.specs.Local.{local}
 use Rattle.desk.specs.declared.reply.Notice.{Notice}
 pub use Rattle.desk.specs.Reply.{is_answer, is_commit, is_end, tells}
 use Rattle.desk.specs.Request.{txn_in}
-use Rattle.desk.specs.Database.{Database, language, statements}
+use Rattle.desk.specs.Database.{Database, IsOrdinary, language, statements}
 use Rattle.desk.specs.State.{desk_of}
 use Rattle.world.specs.Mailbox.{Serves, To_begin, To_do}
 use Rattle.world.specs.Machines.{AreFit, Machines, world_of}
@@ -59,5 +58,5 @@ autocommit_reply heard = if tells is_commit heard then filter (λ notice. is_ans
 pub record DoesState (db : Database) (text : List ℕ) (txn : Txn) (before after : Machines) (heard : List Notice) : Type 0 where
   pub statement : Statement
   pub spelled : IsTextOf db.schemas text (Run statement)
-  pub fits : IsStatementOf db.schemas statement
+  pub fits : IsOrdinary db statement
   pub asks : DoesAsk db (protocol.State (before.table.version, statement)) txn before after heard

@@ -7,6 +7,7 @@ pub mod Machines
 pub mod Contents
 pub mod Frame
 pub mod Filling
+pub mod Leaves
 pub mod Recovery
 pub mod Start
 pub mod Placed

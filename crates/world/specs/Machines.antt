@@ -6,7 +6,7 @@ use Rattle.std.specs.Ordering.{is_eq}
 use Rattle.terms.specs.declared.leaf.Leaf.{Leaf}
 use Rattle.terms.specs.Leaf.{leaf_cmp}
 use Rattle.meaning.specs.declared.statement.Statement.{Statement}
-use Rattle.meaning.specs.Statement.{IsStatementOf}
+use Rattle.meaning.specs.Statement.{is_refragment}
 use Rattle.reader.specs.declared.command.Command.TheVariants as command
 use Rattle.reader.specs.Command.{IsTextOf}
 use Rattle.store.specs.declared.letter.Body as bodies
@@ -23,7 +23,7 @@ use Rattle.protocol.specs.Letters.{name_of, txn_name}
 use Rattle.protocol.specs.World.{World, called, comes, gives_up, inquires, restarts}
 use Rattle.desk.specs.declared.reply.Notice.{Notice}
 use Rattle.desk.specs.Request.{txn_in}
-use Rattle.desk.specs.Database.{Database, IsPlace, language, sent, statements}
+use Rattle.desk.specs.Database.{Database, IsOrdinary, IsPlace, language, sent, statements}
 use Rattle.desk.specs.State.{Fits, VolatileState, desk_of, notice_of}
 use Rattle.desk.specs.Transition.{told}
 use Rattle.world.specs.declared.sites.SiteAction as doing
@@ -91,9 +91,9 @@ pub record Leads (db : Database) (step : World (language db) → World (language
   pub explained : AllExplained deeds
   pub replies : map notice_of notices ≡ filter_map (told db) deeds
 
--- a statement is for the catalogue of this number
+-- a statement is for the catalogue of this number, and brings no other
 abbrev pub IsForNow : (db : Database) → ℕ → Request (language db) → Type 0
-IsForNow db n (State s) = s.0 ≡ n
+IsForNow db n (State s) = (s.0 ≡ n) × (is_refragment s.1 ≡ false)
 IsForNow db n Commit_call = ⊤
 IsForNow db n Rollback = ⊤
 IsForNow db n Give_up = ⊤
@@ -110,7 +110,7 @@ pub record Stated (db : Database) (txn : Txn) (text : List ℕ) (before after : 
   pub statement : Statement
   pub choice : Choice (language db)
   pub spelled : IsTextOf db.schemas text (command.Run statement)
-  pub fits : IsStatementOf db.schemas statement
+  pub fits : IsOrdinary db statement
   pub asked : Asked db txn choice (State (before.table.version, statement)) before after out notices
 
 -- a letter comes to the machine that it is for, and its step is within the limits; kept: whether the store call that it makes is kept

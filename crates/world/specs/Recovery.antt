@@ -1,9 +1,9 @@
 -- A database comes up over stores that are given: what they kept of a run, from which it goes on.
-use Rattle.std.specs.Prelude.{◌≡◌, ⊤, ℕ, suc, List, [], ◌∷◌, ◌++◌, map}
+use Rattle.std.specs.Prelude.{◌≡◌, ⊤, ℕ, List, [], ◌∷◌, ◌++◌, map}
 use Rattle.std.specs.List.{AllByRecursion, flat_map}
 use Rattle.meaning.specs.Whole.{FitsSchema, Relations}
 use Rattle.catalog.specs.Catalogue.{Catalogue}
-use Rattle.catalog.specs.FragmentLeaf.{catalogue_leaves, names_at}
+use Rattle.catalog.specs.FragmentLeaf.{schemas_of}
 use Rattle.catalog.specs.Relation.{catalogue_of}
 use Rattle.store.specs.declared.letter.Letter as letters
 use Rattle.store.specs.DeskContent as desk_content
@@ -33,6 +33,7 @@ use Rattle.world.specs.declared.fault.Fault as faults
 use Rattle.world.specs.declared.fault.Fault.TheVariants.{Desk, Site as OfSite}
 use Rattle.world.specs.declared.machines.Machines as code
 use Rattle.world.specs.Client.{IsServed}
+use Rattle.world.specs.Leaves.{known_leaves}
 use Rattle.world.specs.Machines.{AreFit, Machines, world_of}
 use Rattle.world.specs.Seated.{seats_in}
 use Rattle.world.specs.Settled.{after_committed}
@@ -43,30 +44,29 @@ pub record AreKept (machines : Machines) (of_desk : DeskContent) (of_sites : Lis
   pub desk : machines.desk ≡ of_desk
   pub sites : map (λ seat. seat.kept) machines.seats ≡ of_sites
 
--- each store has the leaves of its site, numbered on from a first one
-abbrev pub HaveLeaves : Catalogue → ℕ → List SiteContent → Type 0
-HaveLeaves catalogue place [] = ⊤
-HaveLeaves catalogue place (kept ∷ rest) = AreHad (names_at place (catalogue_leaves catalogue)) kept × HaveLeaves catalogue (suc place) rest
+-- each store has the leaves that the relations of a catalogue can have
+abbrev pub HaveLeaves : Catalogue → List SiteContent → Type 0
+HaveLeaves catalogue contents = AllByRecursion (λ kept. AreHad (known_leaves (schemas_of catalogue)) kept) contents
 
 module _ {S : Type 0} (is_clean is_sound : S → Type 0) (kept : S → SiteContent) (refused : S → ℕ) (catalogue : Catalogue) where
-  -- the site of this number and name has come up over a store: the next incarnation begins, in which its prepared rows stand
-  pub record IsUp (place : ℕ) (name : List ℕ) (store : S) (site : Site S) : Type 0 where
+  -- the site of this name has come up over a store: the next incarnation begins, in which its prepared rows stand
+  pub record IsUp (name : List ℕ) (store : S) (site : Site S) : Type 0 where
     pub leaves_store : LeavesStore is_clean is_sound refused store site.store
     pub learnt : is_clean site.store → is_sound store
     pub called : site.volatile.name ≡ name
-    pub leaves : leaves_in site.volatile.locks.items ≡ names_at place (catalogue_leaves catalogue)
-    pub begins : is_clean site.store → AreHad (names_at place (catalogue_leaves catalogue)) (kept store) → Begins (kept site.store) (site_state.volatile_of site.volatile)
+    pub leaves : leaves_in site.volatile.locks.items ≡ known_leaves (schemas_of catalogue)
+    pub begins : is_clean site.store → AreHad (known_leaves (schemas_of catalogue)) (kept store) → Begins (kept site.store) (site_state.volatile_of site.volatile)
     pub life : is_clean site.store → BeginsLife (kept store) (kept site.store)
 
-  -- so have the sites of these names, numbered on from a first one
-  abbrev pub AreUp : ℕ → List (List ℕ) → List S → List (Site S) → Type 0
-  AreUp place [] [] [] = ⊤
-  AreUp place (name ∷ names) (store ∷ stores) (site ∷ sites) = IsUp place name store site × AreUp (suc place) names stores sites
-  AreUp place names stores sites = ⊥
+  -- so have the sites of these names
+  abbrev pub AreUp : List (List ℕ) → List S → List (Site S) → Type 0
+  AreUp [] [] [] = ⊤
+  AreUp (name ∷ names) (store ∷ stores) (site ∷ sites) = IsUp name store site × AreUp names stores sites
+  AreUp names stores sites = ⊥
 
 -- the machines of a catalogue's database have come up over stores: each site over its own, and the coordinator
 pub record MachinesUp {D S : Type 0} (desk_is_clean desk_is_sound : D → Type 0) (of_desk : D → DeskContent) (desk_refused : D → ℕ) (site_is_clean site_is_sound : S → Type 0) (of_site : S → SiteContent) (site_refused : S → ℕ) (catalogue : Catalogue) (store : D) (stores : List S) (machines : code.Machines D S) : Type 0 where
-  pub sites : AreUp site_is_clean site_is_sound of_site site_refused catalogue 0 catalogue.sites stores machines.sites.items
+  pub sites : AreUp site_is_clean site_is_sound of_site site_refused catalogue catalogue.sites stores machines.sites.items
   pub desk_store : LeavesStore desk_is_clean desk_is_sound desk_refused store machines.desk.store
   pub learnt : desk_is_clean machines.desk.store → desk_is_sound store
   pub rises : (db : Database) → IsOver db catalogue.sites → desk_is_clean machines.desk.store → Rises db (of_desk machines.desk.store) (volatile_of machines.desk.volatile)
@@ -154,9 +154,9 @@ Recovers db before after = ReachedLaw (language db) → RecoveryLaw (language db
 
 -- What a database over given stores goes on from: whatever machines were served over them in an earlier run, or none yet over new ones. of_desk, of_sites: what the stores keep
 abbrev pub GoesOnOver : (catalogue : Catalogue) → DeskContent → List SiteContent → Machines → Type 0
-GoesOnOver catalogue of_desk of_sites machines = (whole : Relations) (old : Machines) (past : List (Deed (language (database catalogue)))) → HaveLeaves catalogue 0 of_sites → IsServed (database catalogue) whole old past → IsMemory old.table → AreKept old of_desk of_sites → GoesOnFrom (database catalogue) whole past machines
+GoesOnOver catalogue of_desk of_sites machines = (whole : Relations) (old : Machines) (past : List (Deed (language (database catalogue)))) → HaveLeaves catalogue of_sites → IsServed (database catalogue) whole old past → IsMemory old.table → AreKept old of_desk of_sites → GoesOnFrom (database catalogue) whole past machines
 
 -- So it begins anew over the whole relations that the committed transactions of that run have made
 abbrev pub BeginsAnewOver : (catalogue : Catalogue) → DeskContent → List SiteContent → Machines → Type 0
-BeginsAnewOver catalogue of_desk of_sites machines = (whole : Relations) (old : Machines) (past : List (Deed (language (database catalogue)))) → HaveLeaves catalogue 0 of_sites → IsServed (database catalogue) whole old past → IsMemory old.table → AreKept old of_desk of_sites
+BeginsAnewOver catalogue of_desk of_sites machines = (whole : Relations) (old : Machines) (past : List (Deed (language (database catalogue)))) → HaveLeaves catalogue of_sites → IsServed (database catalogue) whole old past → IsMemory old.table → AreKept old of_desk of_sites
     → IsBeginning (database catalogue) (after_committed (database catalogue) past whole) machines

@@ -2,7 +2,6 @@
 use Rattle.std.specs.Prelude.{◌≡◌, ◌⊎◌, Bool, true, List, [], ◌∷◌, ◌++◌, map}
 use Rattle.meaning.specs.declared.answer.Answer.{Answer as AnswerNow}
 use Rattle.meaning.specs.declared.statement.Statement.{Statement}
-use Rattle.meaning.specs.Statement.{IsStatementOf}
 use Rattle.meaning.specs.Whole.{Relations}
 use Rattle.store.specs.Content.{Content}
 use Rattle.protocol.specs.Client.{IsQuiet}
@@ -10,7 +9,7 @@ use Rattle.protocol.specs.Desk.{Choice, Commit_call, Deed, Rollback, State, desk
 use Rattle.protocol.specs.Language.{Name}
 use Rattle.desk.specs.declared.reply.Notice.{Notice}
 use Rattle.desk.specs.declared.reply.Reply.TheVariants.{Answer}
-use Rattle.desk.specs.Database.{Database, language}
+use Rattle.desk.specs.Database.{Database, IsOrdinary, language}
 use Rattle.desk.specs.Place.{Place}
 use Rattle.desk.specs.State.{desk_of, notice_of}
 use Rattle.world.specs.Mailbox.{Serves, To_do}
@@ -22,7 +21,7 @@ use Rattle.world.specs.Smoothly.{IsReady, rests}
 -- or the transaction has ended, its client hears so, and all is quiet; and after a commit or a rollback all is quiet
 pub record GrowsQuiet (db : Database) (fits : Place → Content → Bool) : Type 0 where
   pub states : (whole : Relations) (before after : Machines) (past : List (Deed (language db))) (txn : Name) (statement : Statement) (choice : Choice (language db)) (heard : List Notice) → IsServed db whole before past →
-      IsReady db fits txn before past → IsStatementOf db.schemas statement →
+      IsReady db fits txn before past → IsOrdinary db statement →
       is_desk_within (desk_after (desk_of db before.table) txn (on_request txn choice (State (before.table.version, statement)) ((desk_of db before.table).txn txn)).txn) ≡ true →
       (serves : Serves db (To_do txn (State (before.table.version, statement)) choice) before after heard) →
       (IsReady db fits txn after (past ++ serves.deeds) × ((answer : AnswerNow) × (map notice_of heard ≡ (txn, Answer answer) ∷ []))) ⊎ (IsQuiet (rests db after (past ++ serves.deeds)) × (tells is_end heard ≡ true))

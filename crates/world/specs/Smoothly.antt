@@ -2,7 +2,6 @@
 use Rattle.std.specs.Prelude.{◌≡◌, ◌⊎◌, Bool, true, List, [], ◌∷◌, ◌++◌, map}
 use Rattle.meaning.specs.declared.answer.Answer.{Answer as AnswerNow}
 use Rattle.meaning.specs.declared.statement.Statement.{Statement}
-use Rattle.meaning.specs.Statement.{IsStatementOf}
 use Rattle.meaning.specs.Whole.{Relations}
 use Rattle.store.specs.Content.{Content}
 use Rattle.protocol.specs.Client.{IsQuiet}
@@ -12,7 +11,7 @@ use Rattle.protocol.specs.WithoutRefusal.{Ready}
 use Rattle.protocol.specs.World.{World}
 use Rattle.desk.specs.declared.reply.Notice.{Notice}
 use Rattle.desk.specs.declared.reply.Reply.TheVariants.{Answer, Begun, Committed, RolledBack}
-use Rattle.desk.specs.Database.{Database, language}
+use Rattle.desk.specs.Database.{Database, IsOrdinary, language}
 use Rattle.desk.specs.Place.{Place}
 use Rattle.desk.specs.State.{desk_of, notice_of}
 use Rattle.protocol.specs.Delivery.{AllSmooth}
@@ -39,7 +38,7 @@ pub record ServesSmoothly (db : Database) (fits : Place → Content → Bool) : 
       is_desk_within (desk_began (desk_of db before.table)) ≡ true → (serves : Serves db To_begin before after heard) →
       IsReady db fits (next_txn (desk_of db before.table)) after (past ++ serves.deeds) × (map notice_of heard ≡ (next_txn (desk_of db before.table), Begun) ∷ [])
   pub answers : (whole : Relations) (before after : Machines) (past : List (Deed (language db))) (txn : Name) (statement : Statement) (choice : Choice (language db)) (heard : List Notice) → IsServed db whole before past →
-      IsReady db fits txn before past → IsStatementOf db.schemas statement →
+      IsReady db fits txn before past → IsOrdinary db statement →
       is_desk_within (desk_after (desk_of db before.table) txn (on_request txn choice (State (before.table.version, statement)) ((desk_of db before.table).txn txn)).txn) ≡ true →
       (serves : Serves db (To_do txn (State (before.table.version, statement)) choice) before after heard) → AreSmooth db (To_do txn (State (before.table.version, statement)) choice) before past serves.comings →
       IsReady db fits txn after (past ++ serves.deeds) × ((answer : AnswerNow) × (map notice_of heard ≡ (txn, Answer answer) ∷ []))
@@ -53,7 +52,7 @@ pub record ServesSmoothly (db : Database) (fits : Place → Content → Bool) : 
 -- so whatever comes: a statement is answered, and a commit told, unless something was refused on the way
 pub record ServesUnlessRefused (db : Database) (fits : Place → Content → Bool) : Type 0 where
   pub answers : (whole : Relations) (before after : Machines) (past : List (Deed (language db))) (txn : Name) (statement : Statement) (choice : Choice (language db)) (heard : List Notice) → IsServed db whole before past →
-      IsReady db fits txn before past → IsStatementOf db.schemas statement →
+      IsReady db fits txn before past → IsOrdinary db statement →
       is_desk_within (desk_after (desk_of db before.table) txn (on_request txn choice (State (before.table.version, statement)) ((desk_of db before.table).txn txn)).txn) ≡ true →
       (serves : Serves db (To_do txn (State (before.table.version, statement)) choice) before after heard) →
       (IsReady db fits txn after (past ++ serves.deeds) × ((answer : AnswerNow) × (map notice_of heard ≡ (txn, Answer answer) ∷ []))) ⊎ WasHindered past serves

@@ -5,7 +5,7 @@ use Rattle.std.specs.List.{AllByRecursion}
 use Rattle.terms.specs.declared.leaf.Leaf.{Leaf}
 use Rattle.meaning.specs.Whole.{FitsSchema, Relations, rows_of}
 use Rattle.catalog.specs.Catalogue.{Catalogue}
-use Rattle.catalog.specs.FragmentLeaf.{catalogue_leaves, names_at, schemas_of}
+use Rattle.catalog.specs.FragmentLeaf.{catalogue_leaves, schemas_of}
 use Rattle.store.specs.declared.name.Ticket.{Ticket}
 use Rattle.store.specs.declared.name.Txn.{Txn}
 use Rattle.store.specs.DeskContent.{DeskContent}
@@ -18,6 +18,7 @@ use Rattle.desk.specs.State.{IsMemory}
 use Rattle.world.specs.Client.{IsServed}
 use Rattle.world.specs.Contents.{OfGiven}
 use Rattle.world.specs.Filling.{filled}
+use Rattle.world.specs.Leaves.{known_leaves}
 use Rattle.world.specs.Machines.{Machines}
 use Rattle.world.specs.Recovery.{AreKept, HaveLeaves, IsBeginning}
 use Rattle.world.specs.Sites.{Seat}
@@ -28,9 +29,9 @@ pub record KeepsNothing (kept : SiteContent) : Type 0 where
   pub prepared : (ticket : Ticket) → kept.prepared ticket ≡ None
   pub life : kept.life + 1 < 2 ^ 63
 
--- so does each store of a catalogue's database: each site's, which has its leaves, and the coordinator's, which keeps no commit row
+-- so does each store of a catalogue's database: each site's, which has the leaves that its relations can have, and the coordinator's, which keeps no commit row
 pub record KeepNothing (catalogue : Catalogue) (of_desk : DeskContent) (of_sites : List SiteContent) : Type 0 where
-  pub leaves : HaveLeaves catalogue 0 of_sites
+  pub leaves : HaveLeaves catalogue of_sites
   pub sites : AllByRecursion KeepsNothing of_sites
   pub commits : (txn : Txn) → of_desk.commits txn ≡ None
   pub life : of_desk.life + 1 < 2 ^ 63
@@ -50,7 +51,7 @@ module _ {S : Type 0} (is_clean is_sound : S → Type 0) (kept : S → SiteConte
   -- what it leaves of a store that these parts are put into it
   pub record Fills (place : ℕ) (old new : S) : Type 0 where
     pub leaves_store : LeavesStore is_clean is_sound refused old new
-    pub filled : is_clean new → is_sound old → AreHad (names_at place (catalogue_leaves catalogue)) (kept old) → KeepsNothing (kept old) → IsFilled catalogue whole place (kept old) (kept new)
+    pub filled : is_clean new → is_sound old → AreHad (known_leaves (schemas_of catalogue)) (kept old) → KeepsNothing (kept old) → IsFilled catalogue whole place (kept old) (kept new)
 
   -- so of the stores of sites, numbered on from a first one
   abbrev pub AllFilled : ℕ → List S → List S → Type 0
@@ -64,10 +65,10 @@ pub record IsAtRest (seat : Seat) : Type 0 where
   pub begins : Begins seat.kept seat.table
   pub prepared : (ticket : Ticket) → seat.kept.prepared ticket ≡ None
 
--- a site of this number and name has started: it keeps the parts that whole relations have there, and no prepared row
+-- a site of this number and name has started: it knows the leaves that relations can have, keeps the parts that whole relations have there, and no prepared row
 pub record IsStarted (catalogue : Catalogue) (whole : Relations) (place : ℕ) (name : List ℕ) (seat : Seat) : Type 0 where
   pub called : seat.name ≡ name
-  pub leaves : seat.leaves ≡ names_at place (catalogue_leaves catalogue)
+  pub leaves : seat.leaves ≡ known_leaves (schemas_of catalogue)
   pub content : (leaf : Leaf) → seat.kept.content leaf ≡ filled whole place (catalogue_leaves catalogue) leaf fin.empty
   pub rests : IsAtRest seat
 

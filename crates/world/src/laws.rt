@@ -1,7 +1,11 @@
 //! The laws of the protocol, of the language of each catalogue's database: each as the contract of a function
 //! that changes nothing.
 
+ghost use Rattle.std.specs.Prelude.{◌≡◌, ◌∷◌, List, map};
+ghost use Rattle.std.specs.List.{AllByRecursion};
 ghost use Rattle.catalog.specs.Catalogue.{Catalogue};
+ghost use Rattle.catalog.specs.Chain.{Follow};
+ghost use Rattle.catalog.specs.Formed.{IsFormed};
 ghost use Rattle.catalog.specs.Relation.{catalogue_of};
 ghost use Rattle.protocol.specs.Applied.{AppliedWholeAndOnce};
 ghost use Rattle.protocol.specs.Catalogues.{IsLawfulList, ListLaw};
@@ -16,7 +20,7 @@ ghost use Rattle.protocol.specs.Recovery.{RecoveryLaw};
 ghost use Rattle.protocol.specs.Rounds.{RoundByLetter};
 ghost use Rattle.protocol.specs.Serial.{SerialLaw};
 ghost use Rattle.desk.specs.Database.{language, statements};
-ghost use Rattle.desk.specs.CatalogueDatabase.{IsBase, database, fits};
+ghost use Rattle.desk.specs.CatalogueDatabase.{IsBase, database, databases, fits};
 ghost use Rattle.world.specs.Commands.{CommandsFollow, MovesFollow};
 ghost use Rattle.world.specs.Executed.{ObeysUnlessRefused};
 ghost use Rattle.world.specs.Recovery.{BeginsAnewLaw, ComingUpLaw};
@@ -28,7 +32,7 @@ ghost use Rattle.world.specs.Smoothly.{ServesSmoothly, ServesUnlessRefused};
 ghost use Rattle.world.specs.Stopping.{StopsForMemory};
 ghost use Rattle.world.specs.declared.machines.Machines.{Machines as MachinesNow};
 
-use answers::laws::writes_lead;
+use answers::laws::{moves_lead, writes_lead};
 use catalog::catalogue::Catalog;
 use catalog::laws::leaf_names_are_unique;
 use plan::laws::{contents_ascend, fetches_are_told};
@@ -55,6 +59,35 @@ pub fn language_is_lawful(catalog: &Catalog)
     catalog.relations();
     contents_ascend();
     writes_lead();
+}
+
+/// These catalogues are formed as each one is.
+fn are_formed(catalogs: &[Catalog])
+    ensures { AllByRecursion (λ catalog. IsFormed (catalogue_of catalog)) catalogs.now }
+{
+    if let Some((first, rest)) = catalogs.split_first() {
+        let _relations = first.relations();
+        are_formed(rest);
+    }
+}
+
+/// So of catalogues each of which splits one relation otherwise than the one before it: their list is lawful, where a REFRAGMENT brings the
+/// next one into force and moves the parts of its relation.
+pub fn chains_are_lawful(catalogs: &[Catalog])
+    ensures { (first : Catalogue) (rest : List Catalogue) → map catalogue_of catalogs.now ≡ first ∷ rest → Follow first rest → IsLawfulList local (statements (databases first rest)) }
+{
+    are_formed(catalogs);
+    contents_ascend();
+    writes_lead();
+    moves_lead();
+}
+
+/// And the serial law holds of their list: the committed transactions, ordinary ones and REFRAGMENTs, give the answers that were given and,
+/// under the catalogue in force, what the settled fragments rebuild.
+pub fn serial_law_of_chains(catalogs: &[Catalog])
+    ensures { (first : Catalogue) (rest : List Catalogue) → map catalogue_of catalogs.now ≡ first ∷ rest → Follow first rest → ListLaw local (statements (databases first rest)) }
+{
+    chains_are_lawful(catalogs);
 }
 
 /// The serial law: of each catalogue and after each list of events the committed transactions, run one after

@@ -1,6 +1,6 @@
 //! Relations, rebuilt from the settled fragments as a SELECT of all their columns.
 
-ghost use Rattle.std.specs.Prelude.{◌≡◌, ◌≢◌, ◌≤◌, ◌∷◌, [], Err, Some, IfErr, IfOk, map, ℕ, List, IfSome, unwrap_or};
+ghost use Rattle.std.specs.Prelude.{◌≡◌, ◌≢◌, ◌≤◌, ◌∷◌, [], Err, Some, IfErr, IfOk, map, ℕ, List, IfSome, false, unwrap_or};
 ghost use Rattle.std.specs.FinMap as fin;
 ghost use Rattle.std.specs.List.{AllByRecursion, Contains, filter};
 ghost use Rattle.std.specs.Option.{option_and_then, option_copied, option_map};
@@ -25,7 +25,7 @@ ghost use Rattle.meaning.specs.declared.answer.Answer.TheVariants as answers;
 ghost use Rattle.meaning.specs.declared.statement.Statement.TheVariants as statements;
 ghost use Rattle.meaning.specs.Meaning.{meaning};
 ghost use Rattle.meaning.specs.Schema.{relation_named};
-ghost use Rattle.meaning.specs.Statement.{IsStatementOf};
+ghost use Rattle.meaning.specs.Statement.{IsStatementOf, is_refragment};
 ghost use Rattle.meaning.specs.Whole.{FitsSchema, Relations};
 ghost use Rattle.catalog.specs.FragmentLeaf.{schemas_of};
 ghost use Rattle.plan.specs.Given.{AreBrought};
@@ -329,7 +329,8 @@ fn answer_settled<D: DeskStore, S: SiteStore>(
     machines: &mut Machines<D, S>,
     statement: &Statement,
 ) -> Result<Answer, Fault>
-    requires { IsStatementOf (schemas_of (catalogue_of machines.old.desk.catalog)) statement.now }
+    requires fits { IsStatementOf (schemas_of (catalogue_of machines.old.desk.catalog)) statement.now }
+    requires ordinary { is_refragment statement.now ≡ false }
     ensures sent { result ≢ Err faults.Unsent }
     ensures leaves { LeavesMachines D.is_clean S.is_clean D.is_sound S.is_sound D.refused S.refused machines.old machines.new }
     ensures same { StaysAsItIs (OfStores D.is_clean S.is_clean) (OfStores D.is_sound S.is_sound) (held D.kept S.kept) machines.old machines.new }
@@ -358,6 +359,7 @@ fn answer_settled<D: DeskStore, S: SiteStore>(
 fn everything_of(alloc: Global, catalog: &Catalog, name: &Text) -> Result<Option<Statement>, Memory>
     ensures statement { IfOk result (λ found. found ≡ option_map (λ relation. statements.Select (everything relation)) (relation_named name.now (schemas_of (catalogue_of catalog.now)))) }
     ensures fits { IfOk result (λ found. IfSome found (IsStatementOf (schemas_of (catalogue_of catalog.now)))) }
+    ensures ordinary { IfOk result (λ found. IfSome found (λ statement. is_refragment statement ≡ false)) }
 {
     let _relations = catalog.relations();
     match catalog.schema().relation(name.as_str().as_bytes()) {

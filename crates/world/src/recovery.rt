@@ -18,6 +18,7 @@ use crate::fault::Fault;
 use crate::machines::Machines;
 use crate::mailbox::deliver_all;
 use crate::rebuild::decided;
+use crate::site_leaves::known_leaves;
 use crate::traffic::Traffic;
 use catalog::catalogue::Catalog;
 use desk::desk::Desk;
@@ -35,18 +36,17 @@ use terms::memory::Memory;
 use terms::seq::Seq;
 use terms::text::Text;
 
-/// The site of this name and number comes up over its store.
+/// The site of this name comes up over its store.
 fn site_up<S: SiteStore + Drop>(
     alloc: Global,
     catalog: &Catalog,
     store: S,
     name: &Text,
-    place: usize,
 ) -> Result<Site<S>, SiteFault>
-    ensures up { IfOk result (λ site. IsUp S.is_clean S.is_sound S.kept S.refused (catalogue_of catalog.now) place name.now store site) }
+    ensures up { IfOk result (λ site. IsUp S.is_clean S.is_sound S.kept S.refused (catalogue_of catalog.now) name.now store site) }
     ensures own { IfErr result StopsStart }
 {
-    let leaves = catalog.leaves_at(place)?;
+    let leaves = known_leaves(alloc, catalog)?;
     let own = name.copy()?;
     match Site::start(alloc, own, store, leaves.as_slice()) {
         Ok(site) => Ok(site),
@@ -61,14 +61,14 @@ pub(crate) fn sites_up<S: SiteStore + Drop>(
     stores: Vec<S>,
 ) -> Result<Vec<Site<S>>, SiteFault>
     requires { length stores.items ≡ length catalog.now.0 }
-    ensures up { IfOk result (λ sites. AreUp S.is_clean S.is_sound S.kept S.refused (catalogue_of catalog.now) 0 catalog.now.0 stores.items sites.items) }
+    ensures up { IfOk result (λ sites. AreUp S.is_clean S.is_sound S.kept S.refused (catalogue_of catalog.now) catalog.now.0 stores.items sites.items) }
     ensures own { IfErr result StopsStart }
 {
     let names = catalog.sites();
     let mut sites = Vec::new(alloc);
     for store in stores {
         let place = sites.len();
-        let site = site_up(alloc, catalog, store, &names[place], place)?;
+        let site = site_up(alloc, catalog, store, &names[place])?;
         sites.push(site)?;
     }
     Ok(sites)

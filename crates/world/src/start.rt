@@ -21,13 +21,15 @@ ghost use Rattle.store.specs.declared.slot.Slot.{Slot as Place};
 ghost use Rattle.world.specs.Seated.{seat_from, seats_in};
 ghost use Rattle.std.specs.FinMap as fin;
 ghost use Rattle.terms.specs.declared.leaf.Leaf.{Leaf as LeafName};
-ghost use Rattle.catalog.specs.FragmentLeaf.{catalogue_leaves, names_at};
+ghost use Rattle.catalog.specs.FragmentLeaf.{catalogue_leaves, schemas_of};
 ghost use Rattle.store.specs.Content.{made_by};
 ghost use Rattle.world.specs.Filling.{filled, kept_with};
+ghost use Rattle.world.specs.Leaves.{known_leaves};
 
 use crate::fault::Fault;
 use crate::machines::Machines;
 use crate::recovery::machines_up;
+use crate::site_leaves::known_leaves;
 use crate::traffic::Traffic;
 use catalog::catalogue::Catalog;
 use catalog::fragment::place;
@@ -64,7 +66,7 @@ fn start_site(
     ensures err { IfErr result (λ fault. fault ≡ site_faults.Memory) }
 {
     let parts = parts_at(alloc, catalog, whole, place)?;
-    let leaves = catalog.leaves_at(place)?;
+    let leaves = known_leaves(alloc, catalog)?;
     let store = PlainSite::with_parts(alloc, parts)?;
     match Site::start(alloc, name.copy()?, store, leaves.as_slice()) {
         Ok(site) => Ok(site),
@@ -250,9 +252,10 @@ pub(crate) fn parts_at(
     site: usize,
 ) -> Result<Changes, Memory>
     ensures kept { (name : LeafName) → IfOk result (λ parts. made_by parts name ≡ filled whole.now site (catalogue_leaves (catalogue_of catalog.now)) name fin.empty) }
-    ensures within { IfOk result (λ parts. (slot : Place) → IsSome (fin.get parts slot) → In slot.leaf (names_at site (catalogue_leaves (catalogue_of catalog.now)))) }
+    ensures within { IfOk result (λ parts. (slot : Place) → IsSome (fin.get parts slot) → In slot.leaf (known_leaves (schemas_of (catalogue_of catalog.now)))) }
 {
     nothing_changes();
+    let _relations = catalog.relations();
     let mut parts = Changes::new(alloc);
     for leaf in catalog.leaves() {
         if leaf.site == site {

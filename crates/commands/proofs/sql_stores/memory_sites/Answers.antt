@@ -1,16 +1,13 @@
-use Rattle.std.proofs.Common.{◌≡◌, ◌++◌, ◌∷◌, [], ◌+◌, ℕ, arith, length, length-append, rules, subst}
+use Rattle.std.proofs.Common.{◌≡◌, ◌++◌, ◌∷◌, [], ◌+◌, arith, length, length-append, rules}
 use Rattle.catalog.specs.Relation.{catalogue_of}
+use Rattle.world.proofs.Opened.{all_more}
 use Rattle.commands.specs.SqlStores.{IsNewSite}
-use Rattle.commands.proofs.SqlStoresLemmas.{and_one}
 use Rattle.commands.proofs.sql_stores.memory_sites.Goals as goal
 
 pub loop-place-preserved : goal.loop-place-preserved
 loop-place-preserved c =
-    let catalogue = catalogue_of c.args.catalog.now in
     let sites = c.loop-place.sites.items in
     let site = c.in_ok-site.site in
     let put : c.push.new.self.items ≡ sites ++ site ∷ [] = search rules in
-    let place : c.loop-place.place ≡ 0 + length sites = omega (arith, c.loop-place.invariant.1) in
-    let new = subst (λ (n : ℕ). IsNewSite catalogue n site) place c.in_ok-site.ensures.new in
-    let count : length (sites ++ site ∷ []) ≡ c.loop-place.place + 1 = simp length-append (omega (arith, c.loop-place.invariant.1)) in
-    rw put (and_one catalogue 0 sites site c.loop-place.invariant.0 new, count)
+    let count : length (sites ++ site ∷ []) ≡ c.loop-place._place + 1 = simp length-append (omega (arith, c.loop-place.invariant.1)) in
+    rw put (all_more (IsNewSite (catalogue_of c.args.catalog.now)) sites site c.loop-place.invariant.0 c.in_ok-site.ensures.new, count)

@@ -42,7 +42,7 @@ returns-in-Ok g c = one_call g.D.DeskStore.is_clean g.S.SiteStore.is_clean g.D.D
     let leads = leads_counted db (asked ask) before mid old new c.in-Ok.out.letters c.in-Ok.out.replies made.asked.leads in
     let is_mid = in_force_on db _ _ _ _ leads.version c.statement.ensures.leaves.catalog is in
     let sound_mid = c.statement.ensures.leaves.sound (c.deliver_all.ensures.leaves.clean clean) sound in
-    call_served db law whole ask (with_counts before old) (with_counts mid new) after c.in-Ok.out past c.deliver_all.result (λ heard. heard.items) refl served leads (none_fewer old new (uncounted g.D.DeskStore.refused g.S.SiteStore.refused c.statement.ensures.uncalled))
+    call_served db law whole ask (with_counts before old) (with_counts mid new) after c.in-Ok.out past c.deliver_all.result (λ heard. heard.items) (refl, made.fits.stays) served leads (none_fewer old new (uncounted g.D.DeskStore.refused g.S.SiteStore.refused c.statement.ensures.uncalled))
     (c.deliver_all.ensures.ok db of is_mid clean sound_mid leads.fit) (c.deliver_all.ensures.err db of is_mid clean sound_mid leads.fit))
     (λ db of is clean sound fit.
     let before = held g.D.DeskStore.kept g.S.SiteStore.kept c.args.machines.now in

@@ -74,7 +74,7 @@ returns-in-State-clause-ok g c = λ db whole entries past of is so.
     subst (λ (asked : calls.Call). IfOk c.statement.result (λ out. StepsOn db whole before after entries (entries ++ entry_of (event.Call asked) out ∷ []) past)) (sym c.in-State.is)
     (if_ok c.statement.result (λ out stated.
     let spelled = subst (λ of. IsTextOf db.schemas of (Run stated.statement)) c.as_str.ensures stated.spelled in
-    called_on db whole before after entries past what out txn stated.choice (State (before.table.version, stated.statement)) so stated.asked refl (stated.statement, stated.choice, (spelled, refl))
+    called_on db whole before after entries past what out txn stated.choice (State (before.table.version, stated.statement)) so stated.asked (refl, stated.fits.stays) (stated.statement, stated.choice, (spelled, refl))
     (state_step db before after out.letters out.replies txn text stated.statement stated.choice what stated.asked spelled refl refl)) (c.statement.ensures.ok db of is so.fit))
 
 pub returns-in-Begin-clause-refused : goal.returns-in-Begin-clause-refused

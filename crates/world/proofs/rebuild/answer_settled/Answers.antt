@@ -42,11 +42,11 @@ returns-clause-answer g c = λ whole clean sound fit those fits.
     let came = c.as_slice-2.ensures.value ∙ came_so start.desk.catalog mid.desk.catalog (of start) (of mid) whole decided c.in_ok-brought.brought.items fetches c.in_ok-decided.ensures.leaves.catalog (c.in_ok-decided.ensures.same clean_mid sound) (c.in_ok-brought.ensures.brought whole clean sound_mid) fit those are ∙ ap (map (brought_of (database catalogue) start.desk.volatile.version whole)) c.fetches.ensures in
     let stated_fetches = subst (λ x. AreFetchesOf (catalogue_of x) stated reduced.fetches.items) c.catalog-2.ensures c.in_ok-reduced.ensures.fetches in
     let finds = subst (λ x. FindsAll (catalogue_of x) stated reduced.fetches.items (shape reduced.plan)) c.catalog-2.ensures c.in_ok-reduced.ensures.finds in
-    let brought = are_all_brought catalogue base c.leaf_names_are_unique.ensures start.desk.volatile.version stated reduced whole c.requires stated_fetches finds fits rows came in
+    let brought = are_all_brought catalogue base c.leaf_names_are_unique.ensures start.desk.volatile.version stated reduced whole c.requires.fits c.requires.ordinary stated_fetches finds fits rows came in
     let Answers : List (List ℕ) × List SplitRelation → Type 0 = λ x. IsStatementOf (schemas_of (catalogue_of x)) stated → AreFetchesOf (catalogue_of x) stated reduced.fetches.items → FindsAll (catalogue_of x) stated reduced.fetches.items (shape reduced.plan) →
     IfOk c.answer.result (λ answer. (whole : Relations) → FitsSchema (schemas_of (catalogue_of x)) whole → AreBrought (catalogue_of x) whole reduced.fetches.items (given rows) → answer ≡ (meaning stated whole).0) in
     let answers = subst Answers (c.catalog-3.ensures ∙ c.in_ok-brought.ensures.leaves.catalog ∙ c.in_ok-decided.ensures.leaves.catalog) c.answer.ensures.answer in
-    if_ok c.answer.result (λ answer is. is whole fits brought) (answers c.requires stated_fetches finds)
+    if_ok c.answer.result (λ answer is. is whole fits brought) (answers c.requires.fits stated_fetches finds)
 
 pub returns-in_err-reduced-clause-leaves : goal.returns-in_err-reduced-clause-leaves
 returns-in_err-reduced-clause-leaves g c = record {
@@ -107,7 +107,7 @@ returns-clause-fails g c = λ whole clean sound fit those fits.
     let came = c.as_slice-2.ensures.value ∙ came_so start.desk.catalog mid.desk.catalog (of start) (of mid) whole decided c.in_ok-brought.brought.items fetches c.in_ok-decided.ensures.leaves.catalog (c.in_ok-decided.ensures.same clean_mid sound) (c.in_ok-brought.ensures.brought whole clean sound_mid) fit those are ∙ ap (map (brought_of (database catalogue) start.desk.volatile.version whole)) c.fetches.ensures in
     let stated_fetches = subst (λ x. AreFetchesOf (catalogue_of x) stated reduced.fetches.items) c.catalog-2.ensures c.in_ok-reduced.ensures.fetches in
     let finds = subst (λ x. FindsAll (catalogue_of x) stated reduced.fetches.items (shape reduced.plan)) c.catalog-2.ensures c.in_ok-reduced.ensures.finds in
-    let brought = are_all_brought catalogue base c.leaf_names_are_unique.ensures start.desk.volatile.version stated reduced whole c.requires stated_fetches finds fits rows came in
+    let brought = are_all_brought catalogue base c.leaf_names_are_unique.ensures start.desk.volatile.version stated reduced whole c.requires.fits c.requires.ordinary stated_fetches finds fits rows came in
     let before = counts D.refused S.refused start in
     let after = counts D.refused S.refused c.bring.new.machines in
-    if_err c.answer.result (memory_fails before after) (c.answer.ensures.fails (parts_come catalogue base c.leaf_names_are_unique.ensures c.contents_ascend.ensures whole fits stated (given rows) reduced.fetches.items c.requires stated_fetches brought))
+    if_err c.answer.result (memory_fails before after) (c.answer.ensures.fails (parts_come catalogue base c.leaf_names_are_unique.ensures c.contents_ascend.ensures whole fits stated (given rows) reduced.fetches.items c.requires.fits stated_fetches brought))

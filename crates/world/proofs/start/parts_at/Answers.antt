@@ -5,13 +5,15 @@ use Rattle.std.specs.FinMap as fin
 use Rattle.terms.specs.declared.leaf.Leaf.{Leaf}
 use Rattle.meaning.specs.Whole.{rows_of}
 use Rattle.catalog.specs.declared.fragment_leaf.FragmentLeaf.{FragmentLeaf}
-use Rattle.catalog.specs.FragmentLeaf.{catalogue_leaves, names_at}
+use Rattle.catalog.specs.FragmentLeaf.{catalogue_leaves, schemas_of}
 use Rattle.catalog.specs.Relation.{catalogue_of}
 use Rattle.store.specs.Content.{Changes, made_by}
 use Rattle.store.specs.Slot.{slot_cmp}
 use Rattle.protocol.specs.Parts.{In}
 use Rattle.world.specs.Filling.{filled, kept_with}
-use Rattle.world.proofs.NewStores.{name_at, next_filled, not_same}
+use Rattle.world.specs.Leaves.{known_leaves}
+use Rattle.world.proofs.KnownLeaves.{known_at}
+use Rattle.world.proofs.NewStores.{next_filled, not_same}
 use Rattle.world.proofs.start.parts_at.Goals.{then-leaf-site+in_ok-put_parts, else-leaf-site}
 use Rattle.world.proofs.start.parts_at.Goals as goal
 
@@ -40,8 +42,8 @@ loop-leaf-preserved c =
             (ap (λ (parts : Changes). made_by parts name) w.parts-is ∙ w.in_ok-put_parts.ensures.kept name ∙ ap (λ rows. kept_with leaf rows name (made_by was name)) w.rows.ensures.rows
             ∙ sym (ap (λ (b : Bool). if b then kept_with leaf (rows_of whole leaf.name.relation) name (made_by was name) else made_by was name) (eq-eqb leaf.site site w.if-leaf-site.true)));
         within = λ slot some. ⊎_elim
-            (λ e. subst (λ (name : Leaf). In name (names_at site (catalogue_leaves (catalogue_of c.args.catalog.now)))) (sym e)
-            (subst (λ (leaves : List FragmentLeaf). In leaf.name (names_at site leaves)) c.leaves-leaf-items.ensures.leaves (name_at site c.loop-leaf.leaf-index items leaf c.loop-leaf-test.true c.leaf-item.is w.if-leaf-site.true)))
+            (λ e. subst (λ (name : Leaf). In name (known_leaves (schemas_of (catalogue_of c.args.catalog.now)))) (sym e)
+            (known_at (catalogue_of c.args.catalog.now) items c.loop-leaf.leaf-index leaf c.relations-relations.ensures.formed c.leaves-leaf-items.ensures.leaves c.loop-leaf-test.true c.leaf-item.is))
             (λ old. c.loop-leaf.invariant.within slot old)
             (w.in_ok-put_parts.ensures.within slot (subst (λ (parts : Changes). IsSome (fin.get parts slot)) w.parts-is some));
       }

@@ -37,7 +37,7 @@ returns-clause-sound g c =
     let S = g.S.SiteStore in
     let catalogue = catalogue_of c.args.catalog.now in
     if_ok c.machines_up.result (λ machines up clean.
-    (up.desk_store.sound clean.0 (up.learnt clean.0), all_sound S.is_clean S.is_sound S.kept S.refused catalogue 0 catalogue.sites c.in_ok-filled.filled.items machines.sites.items up.sites clean.1)) c.machines_up.ensures.up
+    (up.desk_store.sound clean.0 (up.learnt clean.0), all_sound S.is_clean S.is_sound S.kept S.refused catalogue catalogue.sites c.in_ok-filled.filled.items machines.sites.items up.sites clean.1)) c.machines_up.ensures.up
 
 pub returns-clause-catalog : goal.returns-clause-catalog
 returns-clause-catalog g c = if_ok c.machines_up.result (λ machines up. up.catalog) c.machines_up.ensures.up

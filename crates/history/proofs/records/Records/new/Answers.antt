@@ -27,7 +27,7 @@ returns-clause-records g c =
     let cells = c.args.sites.items in
     let opened = c.into_parts-opening.ensures in
     let yes : c.in_ok-are_sites_of.field-0 ≡ true = let no = c.if-not-branch.false in cc in
-    let Are : List (List ℕ) × List SplitRelation → List (List ℕ) → List (SiteHistory g.row.S.Denot) → Type 0 = λ catalog names all. AreSitesOf (catalogue_of catalog) 0 names (map (seat_from kept) (map (λ (cell : SiteHistory g.row.S.Denot). cell.site) all)) in
+    let Are : List (List ℕ) × List SplitRelation → List (List ℕ) → List (SiteHistory g.row.S.Denot) → Type 0 = λ catalog names all. AreSitesOf (catalogue_of catalog) names (map (seat_from kept) (map (λ (cell : SiteHistory g.row.S.Denot). cell.site) all)) in
     record {
       base = opened.replays.base;
       sites = λ clean.
@@ -36,8 +36,8 @@ returns-clause-records g c =
           let in_slice : Are c.catalog-catalog.result.now c.sites.result.now cells = subst (Are c.catalog-catalog.result.now c.sites.result.now) c.as_slice.ensures.value are in
           let in_order : Are c.catalog-catalog.result.now c.catalog-catalog.result.now.0 cells = subst (λ names. Are c.catalog-catalog.result.now names cells) c.sites.ensures in_slice in
           let here : Are c.args.desk.desk.catalog c.args.desk.desk.catalog.0 cells = subst (λ catalog. Are catalog catalog.0 cells) c.catalog-catalog.ensures in_order in
-          subst (λ desk. AreSitesOf (catalogue_of desk.catalog) 0 desk.catalog.0 (map (seat_from kept) sites)) (sym opened.desk)
-          (subst (λ all. AreSitesOf (catalogue_of c.args.desk.desk.catalog) 0 c.args.desk.desk.catalog.0 (map (seat_from kept) all)) (sym taken.machines) here);
+          subst (λ desk. AreSitesOf (catalogue_of desk.catalog) desk.catalog.0 (map (seat_from kept) sites)) (sym opened.desk)
+          (subst (λ all. AreSitesOf (catalogue_of c.args.desk.desk.catalog) c.args.desk.desk.catalog.0 (map (seat_from kept) all)) (sym taken.machines) here);
       lasts = taken_lasts is_clean is_sound kept cells sites pasts taken;
       openings = taken_openings is_clean is_sound kept cells sites pasts taken;
       histories = taken_histories is_clean is_sound kept cells sites pasts taken;

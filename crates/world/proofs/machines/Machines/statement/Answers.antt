@@ -25,7 +25,7 @@ returns-clause-ok g c = λ db of is fit.
       statement = states.statement;
       choice = states.runs.choice;
       spelled = states.spelled;
-      fits = states.fits;
+      fits = record { of_schemas = states.fits; stays = states.runs.ordinary };
       asked = asked_leads db before (g.D.DeskStore.kept new.store) (volatile_of new.volatile) c.args.txn states.runs.choice (State (before.table.version, states.statement)) out.letters out.replies fit states.runs.steps states.runs.placed states.runs.explained (accepted states.statement);
     }) (λ s. c.statement.ensures.states.accepted db s) (c.statement.ensures.ok db of is fit.desk)
 

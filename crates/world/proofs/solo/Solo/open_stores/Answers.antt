@@ -30,10 +30,10 @@ returns-clause-goes_on g c = λ clean whole old past have served memory same.
     let now = c.recover.ensures.leaves.clean clean_mid in
     let places = placed catalogue 0 whole (of.formed 0) served.reached.opens.is_whole in
     let rises = up.rises db (record { sites = refl; distinct = (of.formed 0).distinct }) now.0 in
-    let sound : OfStores D.is_sound S.is_sound machines = (up.desk_store.sound now.0 (up.learnt now.0), all_sound S.is_clean S.is_sound S.kept S.refused catalogue 0 catalogue.sites c.args.sites.items machines.sites.items up.sites now.1) in
-    let fit = up_fit S.is_clean S.is_sound S.kept S.refused catalogue db 0 whole (of.formed 0).distinct places c.args.sites.items machines.sites.items up.sites now.1 have first refl rises in
-    let again = up_again S.is_clean S.is_sound S.kept S.refused catalogue db 0 whole (of.formed 0).distinct places c.args.sites.items machines.sites.items up.sites now.1 have first refl rises in
-    let came = came_up S.is_clean S.is_sound S.kept S.refused catalogue db 0 whole (of.formed 0).distinct places c.args.sites.items machines.sites.items up.sites now.1 have first refl rises old served.fit (D.kept c.args.desk) same (up.life now.0) up.memory in
+    let sound : OfStores D.is_sound S.is_sound machines = (up.desk_store.sound now.0 (up.learnt now.0), all_sound S.is_clean S.is_sound S.kept S.refused catalogue catalogue.sites c.args.sites.items machines.sites.items up.sites now.1) in
+    let fit = up_fit S.is_clean S.is_sound S.kept S.refused catalogue db 0 whole (of.formed 0) places c.args.sites.items machines.sites.items up.sites now.1 have first refl rises in
+    let again = up_again S.is_clean S.is_sound S.kept S.refused catalogue db 0 whole (of.formed 0) places c.args.sites.items machines.sites.items up.sites now.1 have first refl rises in
+    let came = came_up S.is_clean S.is_sound S.kept S.refused catalogue db 0 whole (of.formed 0) places c.args.sites.items machines.sites.items up.sites now.1 have first refl rises old served.fit (D.kept c.args.desk) same (up.life now.0) up.memory in
     let goes = goes_further db whole past old middle
     (c.in_ok-recover.ensures.ok db of (sym up.catalog) clean_mid sound fit c.one_client_is_a_run.ensures c.restarts_recover.ensures whole (past ++ lost_by db old) again (c.machines_come_up.ensures.served whole old first past served memory came)) in
     going_on db whole past (held D.kept S.kept c.recover.new.machines) (held D.kept S.kept c.ensure_no_commit_row.new.machines) (counts D.refused S.refused c.recover.new.machines) (counts D.refused S.refused c.ensure_no_commit_row.new.machines)
@@ -50,7 +50,7 @@ returns-clause-anew g c = λ clean whole old past have served memory same.
     let last = c.ensure_no_commit_row.new.machines in
     let clean_mid = c.ensure_no_commit_row.ensures.leaves.clean clean in
     let now = c.recover.ensures.leaves.clean clean_mid in
-    let sound : OfStores D.is_sound S.is_sound machines = (up.desk_store.sound now.0 (up.learnt now.0), all_sound S.is_clean S.is_sound S.kept S.refused catalogue 0 catalogue.sites c.args.sites.items machines.sites.items up.sites now.1) in
+    let sound : OfStores D.is_sound S.is_sound machines = (up.desk_store.sound now.0 (up.learnt now.0), all_sound S.is_clean S.is_sound S.kept S.refused catalogue catalogue.sites c.args.sites.items machines.sites.items up.sites now.1) in
     let sound_mid = c.recover.ensures.leaves.sound clean_mid sound in
     let goes = returns-clause-goes_on g c clean whole old past have served memory same in
     let still = c.ensure_no_commit_row.ensures.same clean sound_mid in
@@ -71,7 +71,7 @@ returns-clause-clean g c = λ clean.
     let catalogue = catalogue_of c.args.catalog.now in
     let up = c.in_ok-machines.ensures.up in
     let now = c.recover.ensures.leaves.clean (c.ensure_no_commit_row.ensures.leaves.clean clean) in
-    (up.desk_store.clean now.0, stores_were_clean S.is_clean S.is_sound S.kept S.refused catalogue 0 catalogue.sites c.args.sites.items c.in_ok-machines.machines.sites.items up.sites now.1)
+    (up.desk_store.clean now.0, stores_were_clean S.is_clean S.is_sound S.kept S.refused catalogue catalogue.sites c.args.sites.items c.in_ok-machines.machines.sites.items up.sites now.1)
 
 pub returns-clause-sound : goal.returns-clause-sound
 returns-clause-sound g c = λ clean.
@@ -79,4 +79,4 @@ returns-clause-sound g c = λ clean.
     let up = c.in_ok-machines.ensures.up in
     let clean_mid = c.ensure_no_commit_row.ensures.leaves.clean clean in
     let now = c.recover.ensures.leaves.clean clean_mid in
-    c.ensure_no_commit_row.ensures.leaves.sound clean (c.recover.ensures.leaves.sound clean_mid (up.desk_store.sound now.0 (up.learnt now.0), all_sound g.S.SiteStore.is_clean g.S.SiteStore.is_sound g.S.SiteStore.kept g.S.SiteStore.refused catalogue 0 catalogue.sites c.args.sites.items c.in_ok-machines.machines.sites.items up.sites now.1))
+    c.ensure_no_commit_row.ensures.leaves.sound clean (c.recover.ensures.leaves.sound clean_mid (up.desk_store.sound now.0 (up.learnt now.0), all_sound g.S.SiteStore.is_clean g.S.SiteStore.is_sound g.S.SiteStore.kept g.S.SiteStore.refused catalogue catalogue.sites c.args.sites.items c.in_ok-machines.machines.sites.items up.sites now.1))
