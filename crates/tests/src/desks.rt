@@ -2,8 +2,9 @@
 
 use crate::catalogues::EMP_AND_DEPT;
 use crate::letters::{letter_of_site, part_of, text_of, txn};
+use crate::told::{Again, TRIES, Told, joined};
 use catalog::catalogue::Catalog;
-use desk::desk::{Desk, Unstarted};
+use desk::desk::Desk;
 use desk::refusal::Refusal;
 use desk::reply::{Notice, Out, Reply, Why};
 use reader::print_answer::print_answer;
@@ -11,6 +12,7 @@ use std::alloc::Global;
 use std::fmt::Write;
 use std::test::*;
 use store::commit::CommitRow;
+use store::desk_store::DeskStore;
 use store::letter::Letter;
 use store::name::Txn;
 use store::plain_desk::PlainDesk;
@@ -29,7 +31,7 @@ enum Call<'a> {
     Restart,
 }
 
-fn make(desk: &mut Desk<PlainDesk>, call: &Call) -> Result<Out, Refusal> {
+fn make<S: DeskStore>(desk: &mut Desk<S>, call: &Call) -> Result<Out, Refusal> {
     match call {
         Call::Begin => desk.begin(),
         Call::State(txn, text) => desk.statement(*txn, text),
@@ -42,22 +44,38 @@ fn make(desk: &mut Desk<PlainDesk>, call: &Call) -> Result<Out, Refusal> {
 }
 
 /// Makes a call, once more where memory ran out.
-fn make_call(desk: &mut Desk<PlainDesk>, call: &Call) -> Result<Out, Refusal> {
+fn make_call<S: DeskStore>(desk: &mut Desk<S>, call: &Call) -> Result<Out, Refusal> {
     match make(desk, call) {
         Err(Refusal::Memory) => make(desk, call),
         other => other,
     }
 }
 
-/// Starts a coordinator that keeps nothing yet.
-fn start(alloc: Global) -> Result<Desk<PlainDesk>, Memory> {
-    let catalog = Catalog::read(alloc, EMP_AND_DEPT).map_err(|_| Memory)?;
-    match Desk::start(alloc, catalog, PlainDesk::new(alloc)) {
-        Ok(desk) => Ok(desk),
-        Err(Unstarted { catalog, store, .. }) => {
-            Desk::start(alloc, catalog, store).map_err(|_| Memory)
+/// Tells a refusal, but not that memory ran out. Says whether the call is to be made once more.
+fn put_refusal(told: &mut Told, refusal: Refusal) -> Result<bool, Memory> {
+    if refusal == Refusal::Memory {
+        return told.lacked_memory();
+    }
+    writeln!(told.text, "refused {} {refusal}", refusal.number())?;
+    Ok(told.again.store && matches!(refusal, Refusal::Store(_)))
+}
+
+/// Starts a coordinator.
+fn start<S: DeskStore + Drop>(alloc: Global, told: &mut Told, store: S) -> Result<Desk<S>, Memory> {
+    told.line("start")?;
+    let mut catalog = Catalog::read(alloc, EMP_AND_DEPT).map_err(|_| Memory)?;
+    let mut store = store;
+    for _ in 0..TRIES {
+        match Desk::start(alloc, catalog, store) {
+            Ok(desk) => return Ok(desk),
+            Err(unstarted) => {
+                put_refusal(told, unstarted.refusal)?;
+                catalog = unstarted.catalog;
+                store = unstarted.store;
+            }
         }
     }
+    Err(Memory)
 }
 
 fn name(why: Why) -> &'static str {
@@ -87,15 +105,19 @@ pub(crate) fn put_notice(alloc: Global, told: &mut String, notice: &Notice) -> R
     Ok(())
 }
 
-/// Tells what a call puts out: its replies, and then its letters.
-fn put_out(alloc: Global, told: &mut String, out: &Out) -> Result<(), Memory> {
+/// Tells what a call puts out: whether the store refused, the replies, and then the letters. Says whether the call is
+/// to be made once more.
+fn put_out(alloc: Global, told: &mut Told, out: &Out) -> Result<bool, Memory> {
+    if !out.kept {
+        told.line("not kept")?;
+    }
     for notice in out.replies.as_slice() {
-        put_notice(alloc, told, notice)?;
+        put_notice(alloc, &mut told.text, notice)?;
     }
     for letter in out.letters.as_slice() {
-        writeln!(told, "{}", text_of(alloc, letter)?)?;
+        told.line(text_of(alloc, letter)?.as_str())?;
     }
-    Ok(())
+    Ok(told.again.store && !out.kept)
 }
 
 /// Tells a commit row: its transaction, and who voted YES.
@@ -109,10 +131,21 @@ fn put_row(told: &mut String, row: &CommitRow) -> Result<(), Memory> {
 }
 
 /// Tells the commit rows.
-fn show(told: &mut String, desk: &mut Desk<PlainDesk>) -> Result<(), Memory> {
-    let kept = desk.kept().or_else(|_| desk.kept()).map_err(|_| Memory)?;
-    for row in kept.commits.as_slice() {
-        put_row(told, row)?;
+fn show<S: DeskStore>(told: &mut Told, desk: &mut Desk<S>) -> Result<(), Memory> {
+    for _ in 0..TRIES {
+        match desk.kept() {
+            Ok(kept) => {
+                for row in kept.commits.as_slice() {
+                    put_row(&mut told.text, row)?;
+                }
+                return Ok(());
+            }
+            Err(refusal) => {
+                if !put_refusal(told, refusal)? {
+                    return Ok(());
+                }
+            }
+        }
     }
     Ok(())
 }
@@ -141,60 +174,72 @@ fn call_of<'a>(
 }
 
 /// Makes the call that a line asks for, and tells what comes of it.
-fn answer(
+fn answer<S: DeskStore>(
     alloc: Global,
-    told: &mut String,
-    desk: &mut Desk<PlainDesk>,
+    told: &mut Told,
+    desk: &mut Desk<S>,
     asked: &Call,
 ) -> Result<(), Memory> {
-    match make_call(desk, asked) {
-        Ok(out) => put_out(alloc, told, &out),
-        Err(Refusal::Memory) => Err(Memory),
-        Err(refusal) => {
-            writeln!(told, "refused {} {refusal}", refusal.number())?;
-            Ok(())
+    for _ in 0..TRIES {
+        let is_again = match make(desk, asked) {
+            Ok(out) => put_out(alloc, told, &out)?,
+            Err(refusal) => put_refusal(told, refusal)?,
+        };
+        if !is_again {
+            return Ok(());
         }
     }
+    Ok(())
 }
 
 /// Does what a line of a script asks for; other lines are what the coordinator is to put out.
-fn play_line(
+fn play_line<S: DeskStore>(
     alloc: Global,
-    told: &mut String,
-    desk: &mut Desk<PlainDesk>,
+    told: &mut Told,
+    desk: &mut Desk<S>,
     rows: &mut Vec<Part>,
     line: &str,
 ) -> Result<(), Memory> {
     if let Some(part) = line.strip_prefix("part ") {
-        writeln!(told, "{line}")?;
+        told.line(line)?;
         rows.push(part_of(alloc, part)?)?;
     } else if line == "rows" {
-        writeln!(told, "{line}")?;
+        told.line(line)?;
         show(told, desk)?;
     } else if let Some(asked) = call_of(alloc, line, rows)? {
-        writeln!(told, "{line}")?;
+        told.line(line)?;
         answer(alloc, told, desk, &asked)?;
     }
     Ok(())
 }
 
-/// Whether a coordinator puts out what a script, given in pieces, says.
-fn plays(alloc: Global, pieces: &[&str]) -> Result<bool, Memory> {
-    let mut script = String::new(alloc);
-    for piece in pieces {
-        script.push_str(piece)?;
-    }
-    let mut desk = start(alloc)?;
-    let mut told = String::new(alloc);
+/// What a coordinator over a store does by a script: each of its lines that asks for something, and what is put out.
+/// The store comes back.
+pub(crate) fn played<S: DeskStore + Drop>(
+    alloc: Global,
+    store: S,
+    script: &str,
+    again: Again,
+) -> Result<(String, S), Memory> {
+    let mut told = Told::new(alloc, again);
+    let mut desk = start(alloc, &mut told, store)?;
     let mut rows = Vec::new(alloc);
-    for line in script.as_str().lines() {
+    for line in script.lines() {
         play_line(alloc, &mut told, &mut desk, &mut rows, line)?;
     }
+    Ok((told.text, desk.into_store()))
+}
+
+/// Whether a coordinator puts out what a script, given in pieces, says.
+fn plays(alloc: Global, pieces: &[&str]) -> Result<bool, Memory> {
+    let script = joined(alloc, pieces)?;
+    let (told, _store) = played(alloc, PlainDesk::new(alloc), script.as_str(), Again::ALL)?;
     Ok(told.as_str() == script.as_str())
 }
 
 /// A row is moved from one site to the other, and the first site votes.
-const MOVED: &str = "begin T1
+pub(crate) const MOVED: &str = "start
+begin T1
 T1: begun
 do T1 UPDATE emp SET dept = dept + 5 WHERE id = 1
 desk>north Open T1
@@ -219,7 +264,7 @@ north>desk Vote T1 1.1 YES
 ";
 
 /// The other can't commit: nothing is kept, and a visit that begins later hears Abort.
-const VOTED_NO: &str = "south>desk Vote T1 1.1 NO
+pub(crate) const VOTED_NO: &str = "south>desk Vote T1 1.1 NO
 T1: aborted 1 Vote
 desk>north Abort T1 1.1
 rows
@@ -230,7 +275,7 @@ refused 1 NoTransaction
 ";
 
 /// The other can: the row is kept, and the Commits go out.
-const VOTED_YES: &str = "south>desk Vote T1 1.1 YES
+pub(crate) const VOTED_YES: &str = "south>desk Vote T1 1.1 YES
 T1: committed
 desk>north Commit T1 1.1
 desk>south Commit T1 1.1
@@ -239,7 +284,7 @@ T1 north 1.1 south 1.1
 ";
 
 /// Letters come again, and don't stand for the missing Ack.
-const ACKED: &str = "north>desk Ack T1 1.1
+pub(crate) const ACKED: &str = "north>desk Ack T1 1.1
 north>desk Ticket T1 1.2
 north>desk Refused T1 1.1 Gone
 north>desk Refused T1 1.1 Gone
@@ -252,18 +297,18 @@ rows
 ";
 
 /// While nothing is decided, who inquires hears nothing.
-const UNDECIDED: &str = "north>desk Inquire T1 1.1
+pub(crate) const UNDECIDED: &str = "north>desk Inquire T1 1.1
 rollback T1
 refused 3 Ended
 ";
 
 /// Once it is committed, who inquires hears so.
-const DECIDED: &str = "north>desk Inquire T1 1.1
+pub(crate) const DECIDED: &str = "north>desk Inquire T1 1.1
 desk>north Commit T1 1.1
 ";
 
 /// A restart before the decision aborts: a vote comes too late, and who inquires hears Abort.
-const RESTARTED: &str = "restart
+pub(crate) const RESTARTED: &str = "restart
 T1: aborted 4 Restart
 south>desk Vote T1 1.1 YES
 north>desk Inquire T1 1.1
@@ -274,7 +319,7 @@ rows
 ";
 
 /// A restart after it sends the Commits again, until both Acks have come.
-const SENT_AGAIN: &str = "restart
+pub(crate) const SENT_AGAIN: &str = "restart
 desk>north Commit T1 1.1
 desk>south Commit T1 1.1
 north>desk Ack T1 1.1
@@ -285,7 +330,8 @@ rows
 ";
 
 /// Who only reads commits without a row, and hears of it once.
-const READ: &str = "begin T1
+pub(crate) const READ: &str = "start
+begin T1
 T1: begun
 do T1 SELECT name FROM emp
 desk>north Open T1
@@ -309,8 +355,41 @@ commit T2
 T2: committed
 ";
 
+/// One site only reads, and lets go with its vote: the other alone is in the row.
+pub(crate) const READ_AND_WRITTEN: &str = "start
+begin T1
+T1: begun
+do T1 UPDATE emp SET dept = dept + 5 WHERE id = 1
+desk>north Open T1
+desk>south Open T1
+north>desk Ticket T1 1.1
+desk>north Fetch T1 1.1 1 emp.1 where id = 1
+desk>north Fetch T1 1.1 2 emp.2 where id = 1
+south>desk Ticket T1 1.1
+desk>south Fetch T1 1.1 1 emp.3 where id = 1
+part 1, 'Ada'
+north>desk Rows T1 1.1 1 1
+north>desk Rows T1 1.1 2 0
+part 1, 12, 100
+south>desk Rows T1 1.1 1 1
+T1: changed 1
+desk>south Put T1 1.1 2 emp.3 1, 17, 100
+commit T1
+desk>north Prepare T1 1.1 2
+desk>south Prepare T1 1.1 2
+north>desk Vote T1 1.1 READ
+south>desk Vote T1 1.1 YES
+T1: committed
+desk>south Commit T1 1.1
+rows
+T1 south 1.1
+south>desk Ack T1 1.1
+rows
+";
+
 /// A statement that waits; then a site refuses an operation.
-const REFUSED: &str = "begin T1
+const REFUSED: &str = "start
+begin T1
 T1: begun
 do T1 SELECT nam FROM emp
 refused 5 Read
@@ -340,6 +419,7 @@ fn letters_of_a_desk(rt: HostRuntime) {
         ("restarted", &[MOVED, RESTARTED][..]),
         ("sent again", &[MOVED, VOTED_YES, SENT_AGAIN][..]),
         ("read", &[READ][..]),
+        ("read and written", &[READ_AND_WRITTEN][..]),
         ("refused", &[REFUSED][..]),
     ];
     for (name, pieces) in cases {
@@ -353,7 +433,8 @@ const UNDECIDED_MOST: u64 = 256;
 
 /// Whether so many transactions begin as may be undecided, and one more only where one of them is given up.
 fn begins(alloc: Global) -> Result<bool, Memory> {
-    let mut desk = start(alloc)?;
+    let mut told = Told::new(alloc, Again::ALL);
+    let mut desk = start(alloc, &mut told, PlainDesk::new(alloc))?;
     for _ in 0..UNDECIDED_MOST {
         if make_call(&mut desk, &Call::Begin).is_err() {
             return Ok(false);

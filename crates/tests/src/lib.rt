@@ -14,7 +14,15 @@ mod letters;
 #[cfg(test)]
 mod outcomes;
 #[cfg(test)]
+mod refused;
+#[cfg(test)]
+mod refused_calls;
+#[cfg(test)]
+mod refused_decisions;
+#[cfg(test)]
 mod refusing;
+#[cfg(test)]
+mod refusing_desk;
 #[cfg(test)]
 mod schedules;
 #[cfg(test)]
@@ -27,6 +35,8 @@ mod sqldesks;
 mod sqlstores;
 #[cfg(test)]
 mod statements;
+#[cfg(test)]
+mod told;
 #[cfg(test)]
 mod transactions;
 #[cfg(test)]

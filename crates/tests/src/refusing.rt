@@ -1,4 +1,4 @@
-//! A store whose medium refuses one call.
+//! A site's store whose medium refuses one call, and what counts the calls.
 
 ghost use Rattle.std.specs.Prelude.{◌≡◌, ◌≤◌, true, false};
 ghost use Rattle.store.specs.Fault.{HasRefused};
@@ -13,29 +13,29 @@ use terms::cond::Conds;
 use terms::leaf::Leaf;
 use terms::part::Part;
 
-/// A store in memory that refuses its call of one number, counted from 1.
+/// Counts the calls of a store, and refuses the one of a number, counted from 1.
 #[derive(Drop)]
-pub(crate) struct Refusing {
-    store: PlainSite,
+pub(crate) struct Refuser {
     wanted: u64,
     calls: u64,
     refusals: u64,
+    /// The call that was refused, or `none`.
+    met: &'static str,
 }
 
-impl Refusing {
-    /// A store that refuses its call of this number; with 0, none.
-    pub(crate) fn new(store: PlainSite, wanted: u64) -> Refusing {
-        Refusing {
-            store,
+impl Refuser {
+    /// One that refuses the call of this number; with 0, none.
+    pub(crate) fn new(wanted: u64) -> Refuser {
+        Refuser {
             wanted,
             calls: 0,
             refusals: 0,
+            met: "none",
         }
     }
 
-    /// Counts a call, and says whether it is refused.
-    fn refuses(&mut self) -> bool
-        ensures store { self.new.store ≡ self.old.store }
+    /// Counts this call, and says whether it is refused.
+    pub(crate) fn refuses(&mut self, call: &'static str) -> bool
         ensures refused { result ≡ true → HasRefused self.old.refusals self.new.refusals }
         ensures counts { self.old.refusals ≤ self.new.refusals }
         ensures same { result ≡ false → self.new.refusals ≡ self.old.refusals }
@@ -46,8 +46,28 @@ impl Refusing {
             return false;
         }
         self.refusals = self.refusals.saturating_add(1);
+        self.met = call;
         true
     }
+
+    /// How many calls were refused.
+    pub(crate) fn refusals(&self) -> u64
+        ensures { result ≡ self.now.refusals }
+    {
+        self.refusals
+    }
+
+    /// The call that was refused, or `none`.
+    pub(crate) fn met(&self) -> &'static str {
+        self.met
+    }
+}
+
+/// A store in memory that refuses one of its calls.
+#[derive(Drop)]
+pub(crate) struct Refusing {
+    pub(crate) store: PlainSite,
+    pub(crate) refuser: Refuser,
 }
 
 impl SiteStore for Refusing {
@@ -61,26 +81,26 @@ impl SiteStore for Refusing {
 
     ghost kept = { λ s. kept_of s.store };
 
-    ghost refused = { λ s. s.refusals };
+    ghost refused = { λ s. s.refuser.refusals };
 
     ghost keyed = { λ s clean sound leaf. IsKeyed-made_by s.store.parts sound leaf };
 
     fn scan(&mut self, leaf: &Leaf, conds: &Conds) -> Result<Vec<Part>, StoreFault> {
-        if self.refuses() {
+        if self.refuser.refuses("scan") {
             return Err(StoreFault::Refused);
         }
         self.store.scan(leaf, conds)
     }
 
     fn find(&mut self, leaf: &Leaf, key: i64) -> Result<Option<Part>, StoreFault> {
-        if self.refuses() {
+        if self.refuser.refuses("find") {
             return Err(StoreFault::Refused);
         }
         self.store.find(leaf, key)
     }
 
     fn keep_prepared(&mut self, txn: Txn, ticket: Ticket, changes: Changes) -> Result<(), Unkept> {
-        if self.refuses() {
+        if self.refuser.refuses("keep_prepared") {
             return Err(Unkept {
                 fault: StoreFault::Refused,
                 changes,
@@ -90,41 +110,41 @@ impl SiteStore for Refusing {
     }
 
     fn apply(&mut self, ticket: Ticket) -> Result<(), StoreFault> {
-        if self.refuses() {
+        if self.refuser.refuses("apply") {
             return Err(StoreFault::Refused);
         }
         self.store.apply(ticket)
     }
 
     fn discard(&mut self, ticket: Ticket) -> Result<(), StoreFault> {
-        if self.refuses() {
+        if self.refuser.refuses("discard") {
             return Err(StoreFault::Refused);
         }
         self.store.discard(ticket)
     }
 
     fn next_incarnation(&mut self) -> Result<u64, StoreFault> {
-        if self.refuses() {
+        if self.refuser.refuses("next_incarnation") {
             return Err(StoreFault::Refused);
         }
         self.store.next_incarnation()
     }
 
     fn rows(&mut self) -> Result<SiteRows, StoreFault> {
-        if self.refuses() {
+        if self.refuser.refuses("rows") {
             return Err(StoreFault::Refused);
         }
         self.store.rows()
     }
 
     fn load(&mut self) -> Result<SiteKept, StoreFault> {
-        if self.refuses() {
+        if self.refuser.refuses("load") {
             return Err(StoreFault::Refused);
         }
         self.store.load()
     }
 
     fn refusals(&self) -> u64 {
-        self.refusals
+        self.refuser.refusals()
     }
 }

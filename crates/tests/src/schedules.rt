@@ -1,12 +1,12 @@
 //! Schedules by chance, over lists and over SQLite: what was committed has to be what whole relations come to, one
-//! transaction after another.
+//! transaction after another. Over lists transactions end in each way in which they can.
 
 use crate::catalogues::EMP_AND_DEPT;
 use crate::sqldatabases::site_stores;
 use crate::statements::{catalog, line};
 use crate::worlds::{loaded, opened};
 use desk::refusal::Refusal;
-use desk::reply::Notice;
+use desk::reply::{Notice, Reply, Why};
 use meaning::schema::Schema;
 use meaning::whole::Whole;
 use reader::print_answer::print_answer;
@@ -15,10 +15,11 @@ use sqlstore::desk::SqlDesk;
 use std::alloc::Global;
 use std::test::*;
 use store::desk_store::DeskStore;
-use store::letter::Letter;
+use store::letter::{Body, Letter};
 use store::name::{Ticket, Txn};
 use store::plain_desk::PlainDesk;
 use store::plain_site::PlainSite;
+use store::reply::{Reason, Reply as SiteReply};
 use store::site_store::SiteStore;
 use terms::copy::TryCopy;
 use terms::memory::Memory;
@@ -84,6 +85,81 @@ impl Chance {
     }
 }
 
+/// The ways in which transactions end.
+const WAYS: [&str; 8] = [
+    "committed",
+    "rolled back",
+    "refused a lock",
+    "refused as gone",
+    "voted down",
+    "given up",
+    "lost in a restart",
+    "not kept",
+];
+
+/// The place of the way in which a transaction ended, if a client hears that it did.
+fn way(reply: &Reply, is_locked: bool) -> Option<usize> {
+    match reply {
+        Reply::Begun | Reply::Answer(_) => None,
+        Reply::Committed => Some(0),
+        Reply::RolledBack => Some(1),
+        Reply::Aborted(Why::Refused) if is_locked => Some(2),
+        Reply::Aborted(Why::Refused) => Some(3),
+        Reply::Aborted(Why::Vote) => Some(4),
+        Reply::Aborted(Why::GivenUp) => Some(5),
+        Reply::Aborted(Why::Restart) => Some(6),
+        Reply::Aborted(Why::Store) => Some(7),
+    }
+}
+
+/// How many transactions ended in each way.
+#[derive(Drop)]
+struct Ends {
+    counts: [u64; 8],
+}
+
+impl Ends {
+    fn new() -> Ends {
+        Ends { counts: [0; 8] }
+    }
+
+    /// So many more ended in the way at this place.
+    fn add(&mut self, place: usize, more: u64) {
+        if let Some(count) = self.counts.get_mut(place) {
+            *count = count.saturating_add(more);
+        }
+    }
+
+    /// Clients hear this. The letter that led to it may be one that refuses a lock.
+    fn hear(&mut self, notices: &[Notice], is_locked: bool) {
+        for notice in notices {
+            if let Some(place) = way(&notice.reply, is_locked) {
+                self.add(place, 1);
+            }
+        }
+    }
+
+    /// Those of another schedule are added.
+    fn add_all(&mut self, others: &Ends) {
+        for (place, count) in others.counts.iter().enumerate() {
+            self.add(place, *count);
+        }
+    }
+
+    /// Whether some ended in the way at this place.
+    fn is_met(&self, place: usize) -> bool {
+        self.counts.get(place).is_some_and(|count| *count > 0)
+    }
+}
+
+/// Whether a site refuses a lock by this letter.
+fn refuses_lock(letter: &Letter) -> bool {
+    match &letter.body {
+        Body::Reply(SiteReply::Refused(refusal)) => refusal.reason == Reason::Lock,
+        _ => false,
+    }
+}
+
 /// A client with one transaction.
 #[derive(Drop)]
 struct Client {
@@ -140,6 +216,7 @@ struct Schedule {
     /// Whether each letter came, by its number.
     came: Vec<bool>,
     events: Vec<Event>,
+    ends: Ends,
 }
 
 impl Schedule {
@@ -162,6 +239,7 @@ impl Schedule {
             clients,
             came: Vec::new(alloc),
             events: Vec::new(alloc),
+            ends: Ends::new(),
         })
     }
 
@@ -193,7 +271,7 @@ impl Schedule {
         } else {
             any
         };
-        let is_refused = self.chance.is_met(self.trouble);
+        let is_refused = self.chance.is_met(self.trouble.saturating_mul(3));
         if let Some(came) = self.came.get_mut(number) {
             *came = true;
         }
@@ -253,15 +331,25 @@ impl Schedule {
         self.happens(event, CLIENTS)
     }
 
+    /// Whether an event is that a letter comes by which a site refuses a lock.
+    fn is_locked(&self, event: &Event) -> bool {
+        match event {
+            Event::Deliver(number, _) => self.world.letter(*number).is_some_and(refuses_lock),
+            _ => false,
+        }
+    }
+
     /// An event happens or is refused, which the client at this place asked for, if one is there.
     fn happens(&mut self, event: Event, place: usize) -> Result<(), Memory> {
         self.events.push(event.copy()?)?;
+        let is_locked = self.is_locked(&event);
         let client = self.clients.get_mut(place);
         match self.world.step(event) {
             Ok(entry) => {
                 for _ in entry.out.letters.as_slice() {
                     self.came.push(false)?;
                 }
+                self.ends.hear(entry.out.replies.as_slice(), is_locked);
                 if let Some(client) = client {
                     client.goes_on(entry.out.replies.as_slice());
                 }
@@ -346,32 +434,45 @@ fn is_serial_over_sql(alloc: Global, events: &[Event]) -> Result<bool, Memory> {
     is_serial(alloc, &mut world)
 }
 
-/// Whether the schedule of a seed comes to that, over lists and, where asked for, over SQLite.
-fn plays(alloc: Global, seed: u64, in_sql: bool) -> Result<bool, Memory> {
+/// Whether the schedule of a seed comes to that over lists and, where asked for, over SQLite. How its transactions ended
+/// is added to these.
+fn plays(alloc: Global, seed: u64, in_sql: bool, ends: &mut Ends) -> Result<bool, Memory> {
     let mut schedule = Schedule::new(alloc, seed)?;
     for _ in 0..EVENTS {
         schedule.grow(alloc)?;
     }
-    Ok(
-        is_serial(alloc, &mut schedule.world)?
-            && (!in_sql || is_serial_over_sql(alloc, schedule.events.as_slice())?),
-    )
+    let is_right = is_serial(alloc, &mut schedule.world)?
+        && (!in_sql || is_serial_over_sql(alloc, schedule.events.as_slice())?);
+    ends.add_all(&schedule.ends);
+    Ok(is_right)
+}
+
+/// Once more where memory ran out.
+fn is_played(alloc: Global, seed: u64, in_sql: bool, ends: &mut Ends) -> bool {
+    match plays(alloc, seed, in_sql, ends) {
+        Ok(is_right) => is_right,
+        Err(_) => plays(alloc, seed, in_sql, ends) == Ok(true),
+    }
 }
 
 #[test]
 fn schedules_over_lists(rt: HostRuntime) {
-    let alloc = rt.alloc();
+    let mut ends = Ends::new();
     for seed in 1..201 {
-        let same = plays(alloc, seed, false).or_else(|_| plays(alloc, seed, false));
-        assert!(rt; same == Ok(true), "seed {seed}");
+        assert!(rt;
+            is_played(rt.alloc(), seed, false, &mut ends),
+            "seed {seed}"
+        );
+    }
+    for (place, way) in WAYS.iter().enumerate() {
+        assert!(rt; ends.is_met(place), "{way}");
     }
 }
 
 #[test]
 fn schedules_over_sql(rt: HostRuntime) {
-    let alloc = rt.alloc();
+    let mut ends = Ends::new();
     for seed in 1..21 {
-        let same = plays(alloc, seed, true).or_else(|_| plays(alloc, seed, true));
-        assert!(rt; same == Ok(true), "seed {seed}");
+        assert!(rt; is_played(rt.alloc(), seed, true, &mut ends), "seed {seed}");
     }
 }

@@ -1,7 +1,7 @@
 //! What a site answers to the letters of a script, line by line.
 
 use crate::letters::{leaf, letter, part_of, text_of};
-use crate::refusing::Refusing;
+use crate::told::{Again, TRIES, Told};
 use reader::print_statement::print_part;
 use site::fault::SiteFault;
 use site::site::{Site, Unstarted};
@@ -17,9 +17,6 @@ use terms::leaf::Leaf;
 use terms::memory::Memory;
 use terms::text::Text;
 
-/// How often a call is made: once more after memory ran out, and once more after the store refused.
-const TRIES: usize = 3;
-
 /// The leaves that a line's words from the third on name.
 fn leaves(alloc: Global, line: &str) -> Result<Vec<Leaf>, Memory> {
     let mut leaves = Vec::new(alloc);
@@ -30,7 +27,7 @@ fn leaves(alloc: Global, line: &str) -> Result<Vec<Leaf>, Memory> {
 }
 
 /// A store of the parts that lines such as `emp.2 1, 7, 100` tell.
-fn opening(alloc: Global, lines: &[&str]) -> Result<PlainSite, Memory> {
+pub(crate) fn opening(alloc: Global, lines: &[&str]) -> Result<PlainSite, Memory> {
     let mut parts = Changes::new(alloc);
     for line in lines {
         let (word, values) = line.split_once(' ').unwrap_or((line, ""));
@@ -39,29 +36,13 @@ fn opening(alloc: Global, lines: &[&str]) -> Result<PlainSite, Memory> {
     PlainSite::with_parts(alloc, parts)
 }
 
-/// What is told of a site.
-#[derive(Drop)]
-struct Told {
-    text: String,
-    /// Whether a call that found no memory is made once more; else the whole script is played anew.
-    again: bool,
-}
-
-impl Told {
-    fn line(&mut self, line: &str) -> Result<(), Memory> {
-        self.text.push_str(line)?;
-        self.text.push('\n')?;
-        Ok(())
+/// Tells a fault, but not that memory ran out. Says whether the call is to be made once more.
+fn put_fault(told: &mut Told, fault: SiteFault) -> Result<bool, Memory> {
+    if fault == SiteFault::Memory {
+        return told.lacked_memory();
     }
-
-    /// Tells a fault, but not that memory ran out. Says whether the call is to be made once more.
-    fn fault(&mut self, fault: SiteFault) -> Result<bool, Memory> {
-        if fault == SiteFault::Memory {
-            return if self.again { Ok(true) } else { Err(Memory) };
-        }
-        writeln!(self.text, "{} {fault}", fault.number())?;
-        Ok(matches!(fault, SiteFault::Store(_)))
-    }
+    writeln!(told.text, "{} {fault}", fault.number())?;
+    Ok(told.again.store && matches!(fault, SiteFault::Store(_)))
 }
 
 fn put_letter(alloc: Global, told: &mut Told, letter: &Letter) -> Result<(), Memory> {
@@ -90,7 +71,7 @@ fn start<S: SiteStore + Drop>(
         match Site::start(alloc, name, store, leaves.as_slice()) {
             Ok(site) => return Ok(site),
             Err(Unstarted { fault, store: back }) => {
-                told.fault(fault)?;
+                put_fault(told, fault)?;
                 store = back;
             }
         }
@@ -109,7 +90,7 @@ fn give<S: SiteStore + Drop>(
         match site.take(letter.copy()?) {
             Ok(letters) => return put_letters(alloc, told, letters.as_slice()),
             Err(fault) => {
-                if !told.fault(fault)? {
+                if !put_fault(told, fault)? {
                     return Ok(());
                 }
             }
@@ -123,7 +104,9 @@ fn restart<S: SiteStore + Drop>(told: &mut Told, site: &mut Site<S>) -> Result<(
         match site.restart() {
             Ok(()) => return Ok(()),
             Err(fault) => {
-                told.fault(fault)?;
+                if !put_fault(told, fault)? {
+                    return Ok(());
+                }
             }
         }
     }
@@ -146,7 +129,9 @@ fn show<S: SiteStore + Drop>(
                 return Ok(());
             }
             Err(fault) => {
-                told.fault(fault)?;
+                if !put_fault(told, fault)? {
+                    return Ok(());
+                }
             }
         }
     }
@@ -181,25 +166,25 @@ fn play_line<S: SiteStore + Drop>(
     Ok(())
 }
 
-/// What a site over a store does by a script: each of its lines that asks for something, and what is answered.
-fn played<S: SiteStore + Drop>(
+/// What a site over a store does by a script: each of its lines that asks for something, and what is answered. The
+/// store comes back.
+pub(crate) fn played<S: SiteStore + Drop>(
     alloc: Global,
     store: S,
     script: &str,
-    again: bool,
-) -> Result<String, Memory> {
-    let text = String::new(alloc);
-    let mut told = Told { text, again };
+    again: Again,
+) -> Result<(String, S), Memory> {
+    let mut told = Told::new(alloc, again);
     let first = script.lines().next().unwrap_or("");
     let mut site = start(alloc, &mut told, store, first)?;
     for line in script.split('\n') {
         play_line(alloc, &mut told, &mut site, line)?;
     }
-    Ok(told.text)
+    Ok((told.text, site.into_store()))
 }
 
 /// Visits that are lost, a prepared row that a restart keeps, and letters that go elsewhere.
-const WORKED: &str = "start north emp.1 emp.2
+pub(crate) const WORKED: &str = "start north emp.1 emp.2
 desk>north Open T1
 north>desk Ticket T1 1.1
 desk>north Open T1
@@ -237,7 +222,7 @@ desk>north Fetch T4 2.2 1 emp.3
 ";
 
 /// A site's half of a moved row, whose old part is deleted; then its letters come again.
-const MOVED: &str = "start north emp.1 emp.2
+pub(crate) const MOVED: &str = "start north emp.1 emp.2
 desk>north Open T1
 north>desk Ticket T1 1.1
 desk>north Fetch T1 1.1 1 emp.1 where id = 1
@@ -266,7 +251,7 @@ leaf emp.2
 ";
 
 /// The other site's half, which gets the new part. Its leaf is as it was until the Commit comes.
-const MOVED_IN: &str = "start south emp.3
+pub(crate) const MOVED_IN: &str = "start south emp.3
 desk>south Open T1
 south>desk Ticket T1 1.1
 desk>south Fetch T1 1.1 1 emp.3 where id = 1
@@ -282,7 +267,7 @@ leaf emp.3
 ";
 
 /// The same where the Put is lost, and comes after the vote.
-const LOST: &str = "start south emp.3
+pub(crate) const LOST: &str = "start south emp.3
 desk>south Open T1
 south>desk Ticket T1 1.1
 desk>south Fetch T1 1.1 1 emp.3 where id = 1
@@ -294,7 +279,7 @@ leaf emp.3
 ";
 
 /// The first site's half then: the old part stays.
-const STAYS: &str = "start north emp.1 emp.2
+pub(crate) const STAYS: &str = "start north emp.1 emp.2
 desk>north Open T1
 north>desk Ticket T1 1.1
 desk>north Fetch T1 1.1 1 emp.1 where id = 1
@@ -305,22 +290,6 @@ desk>north Del T1 1.1 3 emp.2 1
 desk>north Prepare T1 1.1 3
 north>desk Vote T1 1.1 YES
 desk>north Abort T1 1.1
-leaf emp.2
-1, 7, 100
-";
-
-/// The moved row's first half where the store doesn't keep the prepared row.
-const UNKEPT: &str = "start north emp.1 emp.2
-desk>north Open T1
-north>desk Ticket T1 1.1
-desk>north Fetch T1 1.1 1 emp.1 where id = 1
-north>desk Rows T1 1.1 1 1
-desk>north Fetch T1 1.1 2 emp.2 where id = 1
-north>desk Rows T1 1.1 2 1
-desk>north Del T1 1.1 3 emp.2 1
-desk>north Prepare T1 1.1 3
-north>desk Vote T1 1.1 NO
-desk>north Abort T1 1.1
 desk>north Prepare T1 1.1 3
 north>desk Vote T1 1.1 NO
 leaf emp.2
@@ -328,7 +297,7 @@ leaf emp.2
 ";
 
 /// A prepared row that a restart finds again, and an abort throws away. A visit reads what it intends itself.
-const ABORTED: &str = "start north emp.1 emp.2
+pub(crate) const ABORTED: &str = "start north emp.1 emp.2
 desk>north Open T1
 north>desk Ticket T1 1.1
 desk>north Fetch T1 1.1 1 emp.2
@@ -351,15 +320,48 @@ leaf emp.2
 1, 7, 100
 ";
 
+/// Two prepared rows keep their leaves to themselves until they are committed and aborted. A visit that reads ends with
+/// the restart.
+pub(crate) const HELD: &str = "start north emp.1 emp.2
+desk>north Open T1
+north>desk Ticket T1 1.1
+desk>north Open T2
+north>desk Ticket T2 1.2
+desk>north Put T1 1.1 1 emp.1 1, 'Ada'
+desk>north Put T2 1.2 1 emp.2 1, 7, 100
+desk>north Prepare T1 1.1 1
+north>desk Vote T1 1.1 YES
+desk>north Prepare T2 1.2 1
+north>desk Vote T2 1.2 YES
+desk>north Commit T1 1.1
+north>desk Ack T1 1.1
+desk>north Abort T2 1.2
+inquire
+desk>north Open T3
+north>desk Ticket T3 1.3
+desk>north Fetch T3 1.3 1 emp.1
+north>desk Rows T3 1.3 1 1
+desk>north Open T4
+north>desk Ticket T4 1.4
+desk>north Fetch T4 1.4 1 emp.2
+north>desk Rows T4 1.4 1 0
+restart
+desk>north Fetch T4 1.4 2 emp.1
+north>desk Refused T4 1.4 Gone
+leaf emp.1
+1, 'Ada'
+leaf emp.2
+";
+
 /// What north has at first.
-const PARTS: [&str; 2] = ["emp.1 1, 'Ada'", "emp.2 1, 7, 100"];
+pub(crate) const PARTS: [&str; 2] = ["emp.1 1, 'Ada'", "emp.2 1, 7, 100"];
 
 /// What the other site has.
-const NOTHING: [&str; 0] = [];
+pub(crate) const NOTHING: [&str; 0] = [];
 
 /// Whether a site over lists answers to the lines of a script what the script says.
 fn plays(alloc: Global, parts: &[&str], script: &str) -> Result<bool, Memory> {
-    let told = played(alloc, opening(alloc, parts)?, script, true)?;
+    let (told, _store) = played(alloc, opening(alloc, parts)?, script, Again::ALL)?;
     Ok(told.as_str() == script)
 }
 
@@ -372,78 +374,10 @@ fn letters_of_a_site(rt: HostRuntime) {
         ("lost", &NOTHING[..], LOST),
         ("stays", &PARTS[..], STAYS),
         ("aborted", &PARTS[..], ABORTED),
+        ("held", &NOTHING[..], HELD),
     ];
     for (name, parts, script) in cases {
         let same = plays(rt.alloc(), parts, script).or_else(|_| plays(rt.alloc(), parts, script));
         assert!(rt; same == Ok(true), "{name}");
-    }
-}
-
-/// A script with a store's refusal told behind the first line of this text.
-fn with_refusal(alloc: Global, script: &str, line: &str) -> Result<String, Memory> {
-    let mut told = String::new(alloc);
-    let mut waits = true;
-    for next in script.lines() {
-        writeln!(told, "{next}")?;
-        if waits && next == line {
-            waits = false;
-            told.push_str("2 Store\n")?;
-        }
-    }
-    Ok(told)
-}
-
-/// Whether a site whose store refuses its call of this number answers what the script says, with the
-/// refusal behind this line: the letter that met it does, given again, what it does without.
-fn refuses(
-    alloc: Global,
-    parts: &[&str],
-    script: &str,
-    call: u64,
-    line: &str,
-) -> Result<bool, Memory> {
-    let store = Refusing::new(opening(alloc, parts)?, call);
-    let told = played(alloc, store, script, false)?;
-    Ok(told.as_str() == with_refusal(alloc, script, line)?.as_str())
-}
-
-#[test]
-fn refused_calls(rt: HostRuntime) {
-    let alloc = rt.alloc();
-    let cases = [
-        (&PARTS[..], MOVED, 1, "start north emp.1 emp.2"),
-        (&PARTS[..], MOVED, 2, "start north emp.1 emp.2"),
-        (
-            &PARTS[..],
-            MOVED,
-            3,
-            "desk>north Fetch T1 1.1 1 emp.1 where id = 1",
-        ),
-        (
-            &PARTS[..],
-            MOVED,
-            4,
-            "desk>north Fetch T1 1.1 2 emp.2 where id = 1",
-        ),
-        (&PARTS[..], UNKEPT, 5, "no refusal is told"),
-        (&PARTS[..], MOVED, 6, "desk>north Commit T1 1.1"),
-        (&PARTS[..], MOVED, 7, "leaf emp.1"),
-        (
-            &NOTHING[..],
-            MOVED_IN,
-            3,
-            "desk>south Fetch T1 1.1 1 emp.3 where id = 1",
-        ),
-        (&NOTHING[..], MOVED_IN, 6, "desk>south Commit T1 1.1"),
-        (&PARTS[..], ABORTED, 3, "desk>north Fetch T1 1.1 1 emp.2"),
-        (&PARTS[..], ABORTED, 7, "restart"),
-        (&PARTS[..], ABORTED, 8, "restart"),
-        (&PARTS[..], ABORTED, 9, "desk>north Abort T1 1.1"),
-    ];
-    for (parts, script, call, line) in cases {
-        let same = refuses(alloc, parts, script, call, line).or_else(|_| refuses(
-            alloc, parts, script, call, line,
-        ));
-        assert!(rt; same == Ok(true), "call {call}: {line}");
     }
 }

@@ -10,6 +10,7 @@ use sqlstore::site::SqlSite;
 use std::alloc::Global;
 use std::test::*;
 use terms::memory::Memory;
+use world::site_leaves::known_leaves;
 use world::solo::Solo;
 
 /// A transaction that is open as the database is closed.
@@ -38,8 +39,8 @@ pub(crate) fn site_stores(
     catalog: &Catalog,
 ) -> Result<Vec<SqlSite<MemStore>>, Memory> {
     let mut stores = Vec::new(alloc);
-    for place in 0..catalog.sites().len() {
-        match SqlSite::memory(catalog.leaves_at(place)?) {
+    for _site in catalog.sites() {
+        match SqlSite::memory(known_leaves(alloc, catalog)?) {
             Ok(store) => stores.push(store)?,
             Err(_) => return Err(Memory),
         }
