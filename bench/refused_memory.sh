@@ -75,6 +75,22 @@ INSERT INTO emp VALUES (3, 'Cy', 7, 5)
 SCRIPT
 }
 
+# A row that moves between groups of columns at two sites, and a transaction that is rolled back.
+accounts() {
+    cat << 'SCRIPT'
+INSERT INTO acct VALUES (1, 'kent', 50, 'a')
+UPDATE acct SET region = 'york', bal = bal - 60 WHERE id = 1
+.leaf acct.2
+.leaf acct.3
+BEGIN
+DELETE FROM acct
+SELECT * FROM acct
+ROLLBACK
+.show acct
+COMMIT
+SCRIPT
+}
+
 # Fewer of them, for stores that allocate much more.
 few_transactions() {
     cat << 'SCRIPT'
@@ -308,6 +324,8 @@ all)
     refuse_each solo "$top/crates/fragdb/stdin"
     transactions > "$folder/transactions"
     refuse_each solo --catalog "$employees" "$folder/transactions"
+    accounts > "$folder/accounts"
+    refuse_each solo --catalog "$top/crates/fragdb/data/acct.toml" "$folder/accounts"
     few_transactions > "$folder/few_transactions"
     refuse_each solo --catalog "$employees" --sqlite "$folder/few_transactions"
     typed > "$folder/typed"
