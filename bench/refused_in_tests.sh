@@ -3,14 +3,16 @@
 # want of memory. It wants the crate's tests as `rt test` builds them, and a C compiler (cc), for a library that
 # stands before the system's allocator.
 #
-# usage: bench/refused_in_tests.sh CRATE [TESTS]      (default: crates/CRATE/out/CRATE_tests)
+# usage: bench/refused_in_tests.sh CRATE [TESTS [PATTERN]]      (default: crates/CRATE/out/CRATE_tests)
 #
-# STRIDE=N refuses each N-th allocation of a test alone, from the first one on: those over SQLite make ten thousands.
+# With a PATTERN, as `grep -E` takes it, only those tests whose names have it. STRIDE=N refuses each N-th allocation of a
+# test alone, from the first one on: those over SQLite make ten thousands, and schedules by chance a million.
 set -eu
 top=$(cd "$(dirname "$0")/.." && pwd)
 crate=$1
 stride=${STRIDE:-1}
 tests=${2:-$top/crates/$crate/out/${crate}_tests}
+pattern=${3:-.}
 folder=$(mktemp -d)
 trap 'rm -rf "$folder"' EXIT
 cc -shared -fPIC -O1 -o "$folder/refuse.so" "$top/bench/refuse.c" -ldl
@@ -23,7 +25,7 @@ run() {
 }
 
 all_wrong=0
-for name in $("$tests" --list | sed -n 's/: test$//p'); do
+for name in $("$tests" --list | sed -n 's/: test$//p' | grep -E "$pattern"); do
     run "$name" 0
     [ "$status" = 0 ] || { echo "$name: status $status with ample memory"; exit 1; }
     last=$calls number=1 passed=0 ended=0 wrong=0 tries=0

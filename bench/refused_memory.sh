@@ -4,7 +4,8 @@
 # SQLite; of `run`, whose sites and sessions are threads; of `check` on catalogues, and of `plan` on a join and an update.
 # Each must end with status 4, `fragdb: out of memory` alone and the beginning of the whole output, or go on as if nothing had
 # happened. A folder has to open afterwards, with what was answered. In `run` a letter may get lost, so a statement may be
-# told to have aborted; what was not has to be there. No session may wait for ever: one that takes too long is ended, and
+# told to have aborted, and inside BEGIN its transaction with it: the session goes on behind that, and its next BEGIN works.
+# What was committed has to be there, and nothing else. No session may wait for ever: one that takes too long is ended, and
 # is wrong.
 # It wants a C compiler (cc), for a library that stands before the system's allocator.
 #
@@ -12,7 +13,7 @@
 # (default: crates/fragdb/out/fragdb, and all of the above; COMMAND may be `folder` or `threads`, for those alone)
 #
 # STRIDE=N refuses each N-th allocation alone, from the first one on: over a folder there are ten thousand and more. With
-# LATER=1 all allocations after it are refused too.
+# FOR=N so many are refused in a row, and with LATER=1 all allocations after it too.
 set -eu
 top=$(cd "$(dirname "$0")/.." && pwd)
 program=$(realpath "${1:-$top/crates/fragdb/out/fragdb}")
@@ -247,38 +248,86 @@ b SELECT title FROM dept WHERE no = 50
 SCRIPT
 }
 
-# Whether the run went on rightly: what was answered is there, and what was told to have aborted isn't.
+# Two sessions with transactions of several statements, which are never in each other's way either.
+transactions_at_once() {
+    cat << 'SCRIPT'
+a BEGIN
+b BEGIN
+a INSERT INTO dept VALUES (1, 'x')
+b INSERT INTO dept VALUES (50, 'y')
+a INSERT INTO dept VALUES (2, 'v')
+b ROLLBACK
+a COMMIT
+b BEGIN
+a BEGIN
+b INSERT INTO dept VALUES (51, 'z')
+a INSERT INTO dept VALUES (3, 'w')
+b COMMIT
+a COMMIT
+b SELECT title FROM dept WHERE no = 51
+SCRIPT
+}
+
+# Whether the run of the script in $1 went on rightly: what was committed is there, and what was told to have aborted isn't.
+# Writes to `behind` where a session had a transaction committed that it began behind one that had aborted inside BEGIN.
 is_right() {
-    [ "$status" = 0 ] && [ ! -s "$folder/errors" ] && grep -q '^weave yes$' "$folder/output" && python3 - "$folder/output" << 'PYTHON'
+    [ "$status" = 0 ] && [ ! -s "$folder/errors" ] && grep -q '^weave yes$' "$folder/output" && python3 - "$1" "$folder/output" "$folder/behind" << 'PYTHON'
+import re
 import sys
 
-lines = open(sys.argv[1], encoding="utf-8").read().split("\n")[:-1]
+script, output, behind = sys.argv[1:]
+with open(output, encoding="utf-8") as file:
+    lines = file.read().split("\n")[:-1]
 end = lines.index("weave yes")
-heard = {name: [line[3:] for line in lines[:end] if line.startswith(f"{name}: ")] for name in "ab"}
-
-
-def is_done(answer):
-    return answer == "changed 1"
-
-
-def is_known(answer):
-    return is_done(answer) or answer.startswith("aborted ")
-
-
-one, two = heard["a"]
-three, select = heard["b"][0], heard["b"][1:]
-wanted = [row for row, answer in (("1\tx", one), ("2\tv", two), ("50\ty", three)) if is_done(answer)]
-found = ["title", "y", "1 row"] if is_done(three) else ["title", "0 rows"]
-count = f"{len(wanted)} row" + ("" if len(wanted) == 1 else "s")
-is_read = select == found or len(select) == 1 and select[0].startswith("aborted ")
-is_shown = lines[end + 1 :] == ["dept", "no\ttitle", *wanted, count, "emp", "id\tname\tdept\tpay", "0 rows"]
-sys.exit(not (all(map(is_known, (one, two, three))) and is_read and is_shown))
+rows, goes_on = {}, False
+with open(script, encoding="utf-8") as file:
+    said = [line.rstrip("\n").split(" ", 1) for line in file]
+for name in sorted({name for name, _ in said}):
+    heard = [line[3:] for line in lines[:end] if line.startswith(f"{name}: ")]
+    # The rows of an open transaction; whether one aborted inside BEGIN.
+    pending, had_aborted = None, False
+    for text in (text for it, text in said if it == name):
+        answer = heard.pop(0) if heard else ""
+        if answer.startswith("aborted ") and (pending is not None or text not in ("BEGIN", "COMMIT", "ROLLBACK")):
+            had_aborted = had_aborted or pending is not None
+            pending = None
+        elif text == "BEGIN" and pending is None and answer == "begun":
+            pending = {}
+        elif text in ("COMMIT", "ROLLBACK") and pending is None and answer == "refused 1 NoTransaction":
+            pass
+        elif (text, answer) in (("COMMIT", "committed"), ("ROLLBACK", "rolled back")) and pending is not None:
+            if text == "COMMIT":
+                rows |= pending
+                goes_on = goes_on or had_aborted
+            pending = None
+        elif insert := re.fullmatch(r"INSERT INTO dept VALUES \((\d+), '(\w+)'\)", text):
+            if answer != "changed 1":
+                sys.exit(1)
+            (rows if pending is None else pending)[int(insert[1])] = insert[2]
+        elif select := re.fullmatch(r"SELECT title FROM dept WHERE no = (\d+)", text):
+            found = {**rows, **(pending or {})}.get(int(select[1]))
+            wanted = ["title", found, "1 row"] if found else ["title", "0 rows"]
+            if [answer, *heard[: len(wanted) - 1]] != wanted:
+                sys.exit(1)
+            del heard[: len(wanted) - 1]
+        else:
+            sys.exit(1)
+    if heard or pending is not None:
+        sys.exit(1)
+shown = [f"{no}\t{title}" for no, title in sorted(rows.items())]
+count = f"{len(shown)} row" + ("" if len(shown) == 1 else "s")
+if goes_on:
+    open(behind, "w").close()
+sys.exit(lines[end + 1 :] != ["dept", "no\ttitle", *shown, count, "emp", "id\tname\tdept\tpay", "0 rows"])
 PYTHON
 }
 
-# Refuses the allocations of `run`, whose number differs from run to run, so that some are refused twice and some never.
+# Refuses the allocations of `run` on the script that $1 writes, whose number differs from run to run, so that some are refused
+# twice and some never.
 refuse_in_threads() {
-    sessions > "$folder/sessions"
+    local script=$1 behind=0
+    shift
+    "$script" > "$folder/sessions"
     run 0 run --catalog "$employees" "$@" "$folder/sessions"
     mv "$folder/output" "$folder/whole"
     mv "$folder/errors" "$folder/whole_errors"
@@ -288,21 +337,23 @@ refuse_in_threads() {
     while [ "$number" -le "$last" ]; do
         run "$number" run --catalog "$employees" "$@" "$folder/sessions"
         tries=$((tries + 1))
+        rm -f "$folder/behind"
         if is_ended; then
             ended=$((ended + 1))
         elif is_same; then
             same=$((same + 1))
-        elif is_right; then
+        elif is_right "$folder/sessions"; then
             right=$((right + 1))
+            [ ! -e "$folder/behind" ] || behind=$((behind + 1))
         else
             wrong=$((wrong + 1))
             [ "$status" != 124 ] || echo "a session waits"
-            echo "run $*: allocation $number: status $status: $(cat "$folder/errors" "$folder/output")"
+            echo "run $* on $script: allocation $number: status $status: $(cat "$folder/errors" "$folder/output")"
         fi
         number=$((number + stride))
     done
     seconds=60
-    echo "run $*: $last allocations, $tries refused in turn: $ended ended for want of memory, $same went on the same, $right with a transaction aborted, $wrong wrong"
+    echo "run $* on $script: $last allocations, $tries refused in turn: $ended ended for want of memory, $same went on the same, $right with a transaction aborted, $behind of them with another one committed behind an abort inside BEGIN, $wrong wrong"
     all_wrong=$((all_wrong + wrong))
 }
 
@@ -312,8 +363,9 @@ over_folders() {
 }
 
 in_threads() {
-    refuse_in_threads
-    refuse_in_threads --sqlite
+    refuse_in_threads sessions
+    refuse_in_threads transactions_at_once
+    refuse_in_threads sessions --sqlite
 }
 
 shift $(($# > 0))
