@@ -1,8 +1,9 @@
 #!/usr/bin/env bash
 # Stops the stores of a database in process, by the kit's fuse over files in memory: those of two sites and of the
 # coordinator, each in SQLite, whose files outlive their connections (bench/fuses/*.rt.in). Two employees and two departments
-# are loaded, and then one employee moves to a department whose fragment is at another site. Each of the six files in turn
-# answers an error from its call k on, be that a read, a write, a cut or a sync, for each k until a run ends without one.
+# are loaded, one employee moves to a department whose fragment is at another site, and the other one is paid more. Each of the
+# six files in turn answers an error from its call k on, be that a read, a write, a cut or a sync, for each k until a run ends
+# without one.
 #
 # After each the files are opened again and settled, twice: as the process left them, and without what was not durable. What a
 # client reads then, and what each site keeps of each leaf, has to be that of the statements that were answered, or of one

@@ -10,7 +10,8 @@
 # It wants a C compiler (cc), for a library that stands before the system's allocator.
 #
 # usage: bench/refused_memory.sh [PROGRAM [COMMAND ARGUMENT ..]]
-# (default: crates/fragdb/out/fragdb, and all of the above; COMMAND may be `folder` or `threads`, for those alone)
+# (default: crates/fragdb/out/fragdb, and all of the above; COMMAND may be `folder` or `threads`, for those alone, and
+# `threads SCRIPT [--sqlite]`, where SCRIPT is `sessions` or `transactions_at_once`)
 #
 # STRIDE=N refuses each N-th allocation alone, from the first one on: over a folder there are ten thousand and more. With
 # FOR=N so many are refused in a row, and with LATER=1 all allocations after it too.
@@ -371,7 +372,10 @@ in_threads() {
 shift $(($# > 0))
 case ${1:-all} in
 folder) over_folders ;;
-threads) in_threads ;;
+threads)
+    shift
+    if [ $# -gt 0 ]; then refuse_in_threads "$@"; else in_threads; fi
+    ;;
 all)
     refuse_each solo "$top/crates/fragdb/stdin"
     transactions > "$folder/transactions"

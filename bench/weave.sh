@@ -3,23 +3,28 @@
 # coordinator and two sites, and weaves what they recorded. Where memory runs out for `weave`, it is asked for once more with
 # the same records: that has to give the events that come without a refusal, and the records have to show what they showed.
 # Anywhere else the program ends for want of memory.
+# It proves and builds the program in a copy of the crates below it with the work that earlier checks kept, so check these first.
 #
-# usage: bench/weave.sh [PROGRAM]
-#
-# PROGRAM is one that was built of bench/weave, whose allocations are refused by bench/refuse.c. Without it, it is compiled
-# without proof and with checks, in a copy of the repository, by `rt try`, which refuses them, in ten minutes at most a run:
-# it says with which it goes on.
+# usage: bench/weave.sh [PROGRAM]      (default: built anew)
 set -eu
 top=$(cd "$(dirname "$0")/.." && pwd)
-if [ $# -gt 0 ]; then
-    exec "$top/bench/refused_memory.sh" "$1" weave
-fi
 room=$(mktemp -d)
 trap 'rm -rf "$room"' EXIT
-git clone -q "$top" "$room/it"
-cd "$room/it"
-mkdir -p crates/bench_weave/src
-cp "$top/bench/weave/main.rt.in" crates/bench_weave/src/main.rt
-echo "bench_weave: terms meaning catalog reader plan answers store protocol site desk world history" >> crates.txt
-cd crates/bench_weave
-rt try --fail-alloc 1..
+program=${1:-}
+if [ -z "$program" ]; then
+    crates="terms meaning catalog reader plan answers store protocol site desk world history"
+    mkdir -p "$room/it/crates" "$room/it/.git"
+    for crate in $crates; do
+        cp -r "$top/crates/$crate" "$room/it/crates/"
+        grep "^$crate:" "$top/crates.txt" >> "$room/it/crates.txt"
+    done
+    cp "$top/HANDLES" "$room/it/"
+    mkdir -p "$room/it/crates/bench_weave/src" "$room/it/crates/bench_weave/proofs/desk_cell"
+    cp "$top/bench/weave/main.rt.in" "$room/it/crates/bench_weave/src/main.rt"
+    cp "$top/bench/weave/desk_cell.antt.in" "$room/it/crates/bench_weave/proofs/desk_cell/Answers.antt"
+    echo "bench_weave: $crates" >> "$room/it/crates.txt"
+    (cd "$room/it/crates/bench_weave" && rt run --jobs 1 > "$room/log" 2>&1) || true
+    program=$room/it/crates/bench_weave/out/bench_weave
+    [ -x "$program" ] || { tail -20 "$room/log"; exit 1; }
+fi
+"$top/bench/refused_memory.sh" "$program" weave
