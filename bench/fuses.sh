@@ -29,7 +29,7 @@ trap 'rm -rf "$room"' EXIT
 git clone -q "$top" "$room/it"
 cd "$room/it"
 mkdir -p crates/bench_fuses/src
-for name in main cable; do
+for name in main database cable; do
     cp "$top/bench/fuses/$name.rt.in" "crates/bench_fuses/src/$name.rt"
 done
 echo "bench_fuses: terms meaning catalog reader store desk world sqlstore sqlite sqlite_disk" >> crates.txt
