@@ -249,7 +249,7 @@ b SELECT title FROM dept WHERE no = 50
 SCRIPT
 }
 
-# Two sessions with transactions of several statements, which are never in each other's way either.
+# Writes two sessions with transactions of several statements, which are never in each other's way either.
 transactions_at_once() {
     cat << 'SCRIPT'
 a BEGIN
@@ -269,8 +269,8 @@ b SELECT title FROM dept WHERE no = 51
 SCRIPT
 }
 
-# Whether the run of the script in $1 went on rightly: what was committed is there, and what was told to have aborted isn't.
-# Writes to `behind` where a session had a transaction committed that it began behind one that had aborted inside BEGIN.
+# Tells whether the run of the script in $1 went on rightly: what was committed is there, and what was told to have aborted isn't.
+# Makes the file `behind` where a session had a transaction committed that it began behind one that had aborted inside BEGIN.
 is_right() {
     [ "$status" = 0 ] && [ ! -s "$folder/errors" ] && grep -q '^weave yes$' "$folder/output" && python3 - "$1" "$folder/output" "$folder/behind" << 'PYTHON'
 import re
@@ -285,7 +285,7 @@ with open(script, encoding="utf-8") as file:
     said = [line.rstrip("\n").split(" ", 1) for line in file]
 for name in sorted({name for name, _ in said}):
     heard = [line[3:] for line in lines[:end] if line.startswith(f"{name}: ")]
-    # The rows of an open transaction; whether one aborted inside BEGIN.
+    # Holds the rows of an open transaction, and whether one has aborted inside BEGIN.
     pending, had_aborted = None, False
     for text in (text for it, text in said if it == name):
         answer = heard.pop(0) if heard else ""
