@@ -10,11 +10,18 @@ use Rattle.wire.specs.declared.fault.CallFault.TheVariants as call
 use Rattle.wire.specs.Fault.{call_name, call_number}
 use Rattle.lines.specs.PlayText.{reply_text, told, why_text}
 
+-- the number that a refusal is printed with, which is the coordinator's where it has one
+abbrev pub told_number : CallFault → ℕ
+told_number call.NotAlone = 9
+told_number call.NoNext = 10
+told_number call.Chain = 11
+told_number other = call_number other
+
 -- why a command wasn't done
 abbrev pub denied_text : CallFault → List ℕ
 denied_text (call.Aborted why) = codes "aborted " ++ why_text why
 denied_text (call.Read fault) = codes "refused read " ++ reading.fault_text fault
-denied_text other = codes "refused " ++ decimal (call_number other) ++ codes " " ++ call_name other
+denied_text other = codes "refused " ++ decimal (told_number other) ++ codes " " ++ call_name other
 
 -- a reply, in the lines of the session of this name
 abbrev pub replied_lines : List ℕ → Reply → List ℕ

@@ -11,6 +11,18 @@ use std::alloc::Global;
 use terms::memory::Memory;
 use wire::fault::CallFault;
 
+/// The number that a refusal is printed with, which is the coordinator's where it has one.
+fn told_number(fault: CallFault) -> u8
+    ensures { result ≡ spec.told_number fault }
+{
+    match fault {
+        CallFault::NotAlone => 9,
+        CallFault::NoNext => 10,
+        CallFault::Chain => 11,
+        other => other.number(),
+    }
+}
+
 /// Why a command wasn't done, with no line feed at its end.
 fn denied_text(alloc: Global, fault: CallFault) -> Result<String, Memory>
     ensures { IfOk result (λ text. string_bytes text ≡ spec.denied_text fault) }
@@ -18,7 +30,7 @@ fn denied_text(alloc: Global, fault: CallFault) -> Result<String, Memory>
     match fault {
         CallFault::Aborted(why) => Ok(format!(in alloc; "aborted {}", why_name(why))?),
         CallFault::Read(fault) => Ok(format!(in alloc; "refused read {fault}")?),
-        other => Ok(format!(in alloc; "refused {} {other}", other.number())?),
+        other => Ok(format!(in alloc; "refused {} {other}", told_number(other))?),
     }
 }
 

@@ -1,5 +1,5 @@
 -- Voters and acknowledgements, as the protocol has them.
-use Rattle.std.proofs.Common.{◌≡◌, refl, sym, ap, ◌∙◌, subst, ℕ, nat_eq, Bool, true, false, not, ◌&&◌, ◌||◌, List, [], ◌∷◌, ◌++◌, map, Option, Some, if◌then◌else◌}
+use Rattle.std.proofs.Common.{◌≡◌, refl, sym, ap, ◌∙◌, subst, ℕ, suc, nat_eq, Bool, true, false, not, ◌&&◌, ◌||◌, List, [], ◌∷◌, ◌++◌, map, Option, Some, if◌then◌else◌}
 use Rattle.std.specs.List.{list_any}
 use Rattle.std.proofs.lemmas.List.{map-append}
 use Rattle.std.specs.Cmp.{tied_itself}
@@ -15,7 +15,7 @@ use Rattle.store.specs.Orders.{ticket_cmp_total, ticket_cmp-IsAntisymmetric, txn
 use Rattle.protocol.specs.Desk as desk
 use Rattle.protocol.specs.Language.{Name, same}
 use Rattle.protocol.specs.Letters.{name_of, ticket_of}
-use Rattle.protocol.proofs.Basics.{same_law}
+use Rattle.protocol.proofs.Basics.{if_false, same_law}
 use Rattle.desk.specs.Database.{Database, language}
 use Rattle.desk.specs.declared.transaction.Committed.{Committed}
 use Rattle.desk.specs.declared.transaction.TxnState.{TxnState}
@@ -116,11 +116,11 @@ pub txn_is : (a b : Txn) → is_txn a b ≡ true → a ≡ b
 txn_is a b e = txn_cmp-IsAntisymmetric a b (is_equal _ e)
 
 -- nothing has changed
-pub keeps_same : (txn : Txn) (voters : Option Voters) (kept after : DeskContent) → kept.commits txn ≡ voters → IsUnchanged kept after → Keeps txn voters kept after
-keeps_same txn voters kept after is same = record {
+pub keeps_same : (txn : Txn) (voters : Option Voters) (raised : Bool) (kept after : DeskContent) → raised ≡ false → kept.commits txn ≡ voters → IsUnchanged kept after → Keeps txn voters raised kept after
+keeps_same txn voters raised kept after quiet is same = record {
   commits = λ other. same.commits other ∙ go other (is_txn txn other) refl;
   life = same.life;
-  version = same.version;
+  version = same.version ∙ sym (if_false raised (suc kept.version) kept.version quiet);
 }
   where
     go : (other : Txn) (b : Bool) → is_txn txn other ≡ b → kept.commits other ≡ (if b then voters else kept.commits other)

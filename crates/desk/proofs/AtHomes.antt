@@ -1,5 +1,5 @@
 -- Fetches and writes are of leaves at their sites, and at each of these there is a participant.
-use Rattle.std.proofs.Common.{◌≡◌, ◌<◌, refl, sym, ap, ◌∙◌, subst, ℕ, zero, suc, nat_eq, Bool, true, false, ◌||◌, List, [], ◌∷◌, length, map, find, Option, Some, option_and_then, unwrap_or, if◌then◌else◌}
+use Rattle.std.proofs.Common.{◌≡◌, ◌<◌, refl, sym, ap, ◌∙◌, subst, ℕ, zero, suc, nat_eq, Bool, true, false, ◌||◌, List, [], ◌∷◌, length, map, find, Option, None, Some, ⊎_elim, option_and_then, unwrap_or, if◌then◌else◌}
 use Rattle.std.specs.Cmp.Lexicographic.{pointwise}
 use Rattle.std.specs.List.{AllByRecursion, list_any, slice_get}
 use Rattle.std.proofs.lemmas.Option.{slice_get-get_or, unwrap_or-slice_get}
@@ -12,24 +12,27 @@ use Rattle.catalog.specs.FragmentLeaf.{catalogue_leaves, is_name_of, leaf_named}
 use Rattle.catalog.proofs.FormedCatalogues.{sited}
 use Rattle.plan.specs.declared.fetch.Fetch.{Fetch}
 use Rattle.plan.specs.declared.need.Need.{Need}
+use Rattle.answers.specs.declared.moves.Move.{Move}
+use Rattle.answers.specs.Moves.{is_site, is_there, is_to_either}
 use Rattle.answers.specs.Writes as answers
 use Rattle.answers.specs.Writes.{is_leaf_in}
 use Rattle.protocol.specs.Desk as desk
 use Rattle.protocol.specs.Letters.{leaf_of}
+use Rattle.protocol.proofs.Basics.{or_cases}
 use Rattle.desk.specs.declared.participant.Participant.{Participant}
 use Rattle.desk.specs.declared.transaction.Unsent.{Unsent}
 use Rattle.desk.specs.Database.{Database, language}
 use Rattle.desk.specs.Does.{ArePlaced}
 use Rattle.desk.specs.OfCatalogue.{IsOfCatalogue}
 use Rattle.desk.specs.Opening.{HaveParticipants}
-use Rattle.desk.specs.Place.{fetch_in, home_in, site_in, write_in}
-use Rattle.desk.specs.Planned.{ask_from, asked, unsent_from}
+use Rattle.desk.specs.Place.{fetch_in, home_in, move_in, site_in, write_in}
+use Rattle.desk.specs.Planned.{AreUnsentBy, AreUnsentFrom, ask_from, asked, unsent_by, unsent_from}
 use Rattle.desk.specs.Send.{AsksAtHome, UnsentAtHome}
 use Rattle.desk.specs.Participants.{is_at, sites_of}
 use Rattle.desk.specs.Transaction.{ask_of, write_of}
 use Rattle.desk.specs.Statement.{ask_sites, write_sites}
 use Rattle.desk.proofs.Located.{IsOfSome, located}
-use Rattle.desk.proofs.Participants.{text_self}
+use Rattle.desk.proofs.Participants.{text_is, text_self}
 
 -- what holds of all holds of the one that is found, and the test too
 pub found_so : {A : Type 0} (P : A → Type 0) (test : A → Bool) (xs : List A) (x : A) → AllByRecursion P xs → find test xs ≡ Some x → P x × (test x ≡ true)
@@ -111,6 +114,71 @@ module _ (db : Database) (of : IsOfCatalogue db) (n : ℕ) where
   writes_home (write ∷ list) each =
       let there = named write each.0 in
       (record { version = n; there = home_is (leaf_of write) there.0 there.1 }, writes_home list each.1)
+
+-- ---- moves
+-- a leaf that a catalogue has at a site is there
+there_is : (catalogue : Catalogue) (site : List ℕ) (name : Leaf) → is_there catalogue site name ≡ true → site_in catalogue name ≡ Some site
+there_is catalogue site name there = go (site_in catalogue name) there
+  where
+    go : (o : Option (List ℕ)) → is_site o site ≡ true → o ≡ Some site
+    go None e = cc
+    go (Some home) e = ap Some (text_is home site e)
+
+-- so it is one of the sites
+among_sites : (catalogue : Catalogue) (sites : List (List ℕ)) → sites ≡ catalogue.sites → (participants : List Participant) → sites_of participants ≡ sites → (site : List ℕ) (name : Leaf) → site_in catalogue name ≡ Some site → list_any (is_at site) participants ≡ true
+among_sites catalogue sites same participants those site name is = go (leaf_named name (catalogue_leaves catalogue)) is
+  where
+    go : (found : Option FragmentLeaf) → option_and_then (λ leaf. slice_get catalogue.sites leaf.site) found ≡ Some site → list_any (is_at site) participants ≡ true
+    go None e = cc
+    go (Some leaf) e = participant_there participants leaf.site site (ap (λ (ss : List (List ℕ)). slice_get ss leaf.site) (those ∙ same) ∙ e)
+
+module _ (db : Database) (of : IsOfCatalogue db) (n : ℕ) where
+  move_home : (move : Move) → is_to_either (db.catalogue n) (db.catalogue (suc n)) move ≡ true → (m : ℕ) × (site_in (db.catalogue m) (answers.leaf_of move.write) ≡ Some move.site)
+  move_home move either = ⊎_elim
+      (λ old. (n, there_is (db.catalogue n) move.site (answers.leaf_of move.write) old))
+      (λ new. (suc n, there_is (db.catalogue (suc n)) move.site (answers.leaf_of move.write) new))
+      (or_cases (is_there (db.catalogue n) move.site (answers.leaf_of move.write)) _ either)
+
+  same_leaf : (write : Write) → answers.leaf_of write ≡ leaf_of write
+  same_leaf (writes.Put leaf part) = refl
+  same_leaf (writes.Del leaf key) = refl
+
+  -- moves are of leaves at their sites, under the one catalogue or the next, and each site has a participant
+  pub moves_home : (list : List Move) → AllByRecursion (λ one. is_to_either (db.catalogue n) (db.catalogue (suc n)) one ≡ true) list → UnsentAtHome db (map unsent_by list)
+  moves_home [] each = tt
+  moves_home (move ∷ list) each = let home = move_home move each.0 in (record { version = home.0; there = ap (site_in (db.catalogue home.0)) (sym (same_leaf move.write)) ∙ home.1 }, moves_home list each.1)
+
+  pub moves_participants : (participants : List Participant) → sites_of participants ≡ db.sites → (list : List Move) → AllByRecursion (λ one. is_to_either (db.catalogue n) (db.catalogue (suc n)) one ≡ true) list → HaveParticipants participants (write_sites (map unsent_by list))
+  moves_participants participants those [] each = tt
+  moves_participants participants those (move ∷ list) each =
+      let home = move_home move each.0 in
+      (among_sites (db.catalogue home.0) db.sites (of.sites home.0) participants those move.site (answers.leaf_of move.write) home.1, moves_participants participants those list each.1)
+
+-- the moves with their sites are the moves
+pub moves_are : (list : List Move) → map write_of (map unsent_by list) ≡ map move_in list
+moves_are [] = refl
+moves_are (move ∷ list) = ap (λ rest. move_in move ∷ rest) (moves_are list)
+
+-- so where the catalogues go by other names
+pub from_home : (db : Database) (of : IsOfCatalogue db) (n : ℕ) (catalogue : Catalogue) → db.catalogue n ≡ catalogue → (unsent : List Unsent) → AreUnsentFrom catalogue unsent → UnsentAtHome db unsent
+from_home db of n catalogue same unsent from =
+    subst (UnsentAtHome db) (sym from.are) (subst (λ cat. UnsentAtHome db (map (unsent_from cat) from.writes)) same
+    (writes_home db of n from.writes (subst (λ cat. AllByRecursion (λ write. is_leaf_in (catalogue_leaves cat) (answers.leaf_of write) ≡ true) from.writes) (sym same) from.leaves)))
+
+pub from_participants : (db : Database) (of : IsOfCatalogue db) (n : ℕ) (catalogue : Catalogue) → db.catalogue n ≡ catalogue → (participants : List Participant) → sites_of participants ≡ db.sites → (unsent : List Unsent) → AreUnsentFrom catalogue unsent → HaveParticipants participants (write_sites unsent)
+from_participants db of n catalogue same participants those unsent from =
+    subst (λ us. HaveParticipants participants (write_sites us)) (sym from.are) (subst (λ cat. HaveParticipants participants (write_sites (map (unsent_from cat) from.writes))) same
+    (writes_participants db of n participants those from.writes (subst (λ cat. AllByRecursion (λ write. is_leaf_in (catalogue_leaves cat) (answers.leaf_of write) ≡ true) from.writes) (sym same) from.leaves)))
+
+module _ (db : Database) (of : IsOfCatalogue db) (n : ℕ) (old new : Catalogue) (same : db.catalogue n ≡ old) (next : db.catalogue (suc n) ≡ new) (unsent : List Unsent) (by : AreUnsentBy old new unsent) where
+  there : AllByRecursion (λ one. is_to_either (db.catalogue n) (db.catalogue (suc n)) one ≡ true) by.moves
+  there = subst (λ one. AllByRecursion (λ move. is_to_either one (db.catalogue (suc n)) move ≡ true) by.moves) (sym same) (subst (λ other. AllByRecursion (λ move. is_to_either old other move ≡ true) by.moves) (sym next) by.leaves)
+
+  pub by_home : UnsentAtHome db unsent
+  by_home = subst (UnsentAtHome db) (sym by.are) (moves_home db of n by.moves there)
+
+  pub by_participants : (participants : List Participant) → sites_of participants ≡ db.sites → HaveParticipants participants (write_sites unsent)
+  by_participants participants those = subst (λ us. HaveParticipants participants (write_sites us)) (sym by.are) (moves_participants db of n participants those by.moves there)
 
 -- so the writes of an answer are
 pub all_placed : (db : Database) (unsent : List Unsent) → UnsentAtHome db unsent → ArePlaced db (map write_of unsent)

@@ -1,5 +1,5 @@
 -- Which steps call the store.
-use Rattle.std.proofs.Common.{◌≡◌, ◌<◌, refl, sym, ap, ◌∙◌, subst, ℕ, nat_eq, Bool, true, false, not, List, [], ◌∷◌, ◌++◌, map, length, Option, Some, is_none, Result, Ok, Err, IfOk, OnErr, arith}
+use Rattle.std.proofs.Common.{◌≡◌, ◌<◌, ◌⊎◌, ⊎_elim, inl, inr, refl, sym, ap, ◌∙◌, subst, ℕ, nat_eq, Bool, true, false, not, List, [], ◌∷◌, ◌++◌, map, length, Option, Some, is_none, Result, Ok, Err, IfOk, OnErr, arith}
 use Rattle.std.proofs.lemmas.List.{map-append}
 use Rattle.std.specs.Cmp.Lexicographic.{pointwise}
 use Rattle.std.specs.List.{list_all}
@@ -37,11 +37,11 @@ no_voters : (voters : List Voter) → 0 < length voters → map voter_of voters 
 no_voters [] some none = omega arith
 no_voters (v ∷ voters) some none = cc
 
--- all votes are in, and there are voters
-pub decides_all : (db : Database) (participants : List Participant) → AreParticipants db participants → (voters : List Voter) → list_all is_in participants ≡ true → voters ≡ voters_among participants → 0 < length voters → Decides {L = language db} (undecided_of db (voting participants)) (votes_of participants)
-decides_all db participants are voters all same some = record {
-  all_in = all_in_is db participants are ∙ all;
-  voters = λ none. no_voters voters some (ap (map voter_of) same ∙ sym (voters_is db participants are) ∙ none);
+-- all votes are in, and there are voters, or a relation gets another split
+pub decides_all : (db : Database) (moves : Bool) (participants : List Participant) → AreParticipants db participants → (voters : List Voter) → list_all is_in participants ≡ true → voters ≡ voters_among participants → (0 < length voters) ⊎ (moves ≡ true) → Decides {L = language db} (undecided_of db (voting moves participants)) (votes_of participants)
+decides_all db moves participants are voters all same some = record {
+  all_in = all_in_is db moves participants are ∙ all;
+  keeps = ⊎_elim (λ few. inl (λ none. no_voters voters few (ap (map voter_of) same ∙ sym (voters_is db moves participants are) ∙ none))) inr some;
 }
 
 -- a vote decides
@@ -65,12 +65,12 @@ module _ (db : Database) (u : Undecided) (a : List ℕ) (k : Ticket) (vote : Vot
   none = none_vote participant.vote ∙ right_true (is_first k participant.ticket) (is_none participant.vote) (right_true (is_voting u.stage) _ counts)
 
   -- so it does in the protocol
-  counted : Decides {L = language db} (undecided_of db (voting now)) (votes_of now) → Decides {L = language db} v votes
+  counted : Decides {L = language db} (undecided_of db (voting u.moves now)) (votes_of now) → Decides {L = language db} v votes
   counted decides =
       let there = ticket_there a k u.participants first in
-      let same = subst (λ x. Decides {L = language db} x (votes_of now)) (vote_counted db u.participants a there vote u.stage) decides in
+      let same = subst (λ x. Decides {L = language db} x (votes_of now)) (vote_counted db u.participants a there u.moves vote u.stage) decides in
       let put = subst (λ vs. desk.are_all_in {L = language db} v vs ≡ true) (votes_put db u.participants a there vote) same.all_in in
-      record { all_in = put; voters = λ nobody. same.voters (ap (λ vs. desk.voters_of {L = language db} v vs) (votes_put db u.participants a there vote) ∙ nobody) }
+      record { all_in = put; keeps = ⊎_elim (λ some. inl (λ nobody. some (ap (λ vs. desk.voters_of {L = language db} v vs) (votes_put db u.participants a there vote) ∙ nobody))) inr same.keeps }
 
   by_vote : (w : Vote) → is_no w ≡ false → Decides {L = language db} v (put (pointwise nat_eq) a (Some (vote_of w)) (votes_of u.participants)) → DecidesWith {L = language db} v a (votes_of u.participants) (vote_of w)
   by_vote Yes e decides = (none, decides)
@@ -83,9 +83,9 @@ module _ (db : Database) (u : Undecided) (a : List ℕ) (k : Ticket) (vote : Vot
   at_stage (stage.Writing w) e decides = cc
   at_stage stage.Voting e decides = by_vote vote other decides
 
-  pub vote_calls : (given : List Participant) → given ≡ now → Decides {L = language db} (undecided_of db (voting given)) (votes_of given) → CallsStore {L = language db} a (replied db a (reply.Voted (record { ticket = k; vote = vote }))) (desk.Known v)
+  pub vote_calls : (given : List Participant) → given ≡ now → Decides {L = language db} (undecided_of db (voting u.moves given)) (votes_of given) → CallsStore {L = language db} a (replied db a (reply.Voted (record { ticket = k; vote = vote }))) (desk.Known v)
   vote_calls given same decides =
-      (named_is k participant.ticket ∙ first, at_stage u.stage (left_true (is_voting u.stage) _ counts) (counted (subst (λ ss. Decides {L = language db} (undecided_of db (voting ss)) (votes_of ss)) same decides)))
+      (named_is k participant.ticket ∙ first, at_stage u.stage (left_true (is_voting u.stage) _ counts) (counted (subst (λ ss. Decides {L = language db} (undecided_of db (voting u.moves ss)) (votes_of ss)) same decides)))
 
 not_so : (b : Bool) → not b ≡ true → b ≡ false
 not_so true e = cc

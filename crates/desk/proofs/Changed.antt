@@ -86,13 +86,13 @@ module _ (db : Database) (participants : List Participant) (a : List ℕ) (at : 
   pub votes_put : (vote : Vote) → votes_of (voted vote) ≡ put (pointwise nat_eq) a (Some (vote_of vote)) (votes_of participants)
   votes_put vote = λ i j. (ap (λ s. option_map vote_of s.vote) (vote_there vote j) ∙ one_vote vote (participant_in j participants) (pointwise nat_eq j a)) i
 
-  pub vote_counted : (vote : Vote) (st : Stage) → undecided_of db (voting (voted vote)) ≡ record (undecided_of db (record { participants = participants; stage = st })) { stage = desk.Voting (put (pointwise nat_eq) a (Some (vote_of vote)) (votes_of participants)) }
-  vote_counted vote st = λ i. record {
+  pub vote_counted : (moves : Bool) (vote : Vote) (st : Stage) → undecided_of db (voting moves (voted vote)) ≡ record (undecided_of db (record { participants = participants; stage = st; moves = moves })) { stage = desk.Voting (put (pointwise nat_eq) a (Some (vote_of vote)) (votes_of participants)) }
+  vote_counted moves vote st = λ i. record {
     visited = λ j. (ap (λ s. s.visited) (vote_there vote j) ∙ either (λ s. s.visited ≡ (participant_in j participants).visited) (pointwise nat_eq j a) (with_vote (Some vote) (participant_in j participants)) (participant_in j participants) refl refl) i;
     ticket = λ j. (ap (λ s. option_map name_of s.ticket) (vote_there vote j) ∙ either (λ s. option_map name_of s.ticket ≡ option_map name_of (participant_in j participants).ticket) (pointwise nat_eq j a) (with_vote (Some vote) (participant_in j participants)) (participant_in j participants) refl refl) i;
     sent = λ j. (ap (λ s. s.sent) (vote_there vote j) ∙ either (λ s. s.sent ≡ (participant_in j participants).sent) (pointwise nat_eq j a) (with_vote (Some vote) (participant_in j participants)) (participant_in j participants) refl refl) i;
     stage = desk.Voting (votes_put vote i);
-    moves = false;
+    moves = moves;
   }
 
   -- the ticket of a site has come
@@ -115,24 +115,24 @@ module _ (db : Database) (participants : List Participant) (a : List ℕ) (at : 
   same_stage ticket (stage.Writing w) = refl
   same_stage ticket stage.Voting = ap desk.Voting (same_votes ticket)
 
-  pub ticket_put : (ticket : Ticket) (st : Stage) → undecided_of db (record { participants = ticketed ticket; stage = st })
-      ≡ record (undecided_of db (record { participants = participants; stage = st })) { ticket = put (pointwise nat_eq) a (Some (name_of ticket)) (λ j. option_map name_of (participant_in j participants).ticket) }
-  ticket_put ticket st = λ i. record {
+  pub ticket_put : (moves : Bool) (ticket : Ticket) (st : Stage) → undecided_of db (record { participants = ticketed ticket; stage = st; moves = moves })
+      ≡ record (undecided_of db (record { participants = participants; stage = st; moves = moves })) { ticket = put (pointwise nat_eq) a (Some (name_of ticket)) (λ j. option_map name_of (participant_in j participants).ticket) }
+  ticket_put moves ticket st = λ i. record {
     visited = λ j. (ap (λ s. s.visited) (ticket_there ticket j) ∙ either (λ s. s.visited ≡ (participant_in j participants).visited) (pointwise nat_eq j a) (with_ticket (Some ticket) (participant_in j participants)) (participant_in j participants) refl refl) i;
     ticket = λ j. (ap (λ s. option_map name_of s.ticket) (ticket_there ticket j) ∙ one_ticket ticket (participant_in j participants) (pointwise nat_eq j a)) i;
     sent = λ j. (ap (λ s. s.sent) (ticket_there ticket j) ∙ either (λ s. s.sent ≡ (participant_in j participants).sent) (pointwise nat_eq j a) (with_ticket (Some ticket) (participant_in j participants)) (participant_in j participants) refl refl) i;
     stage = same_stage ticket st i;
-    moves = false;
+    moves = moves;
   }
 
 -- no vote is counted
-pub votes_gone : (db : Database) (participants : List Participant) (st : Stage) → undecided_of db (voting (map (with_vote None) participants)) ≡ record (undecided_of db (record { participants = participants; stage = st })) { stage = desk.Voting (λ site. None) }
-votes_gone db participants st = λ i. record {
+pub votes_gone : (db : Database) (moves : Bool) (participants : List Participant) (st : Stage) → undecided_of db (voting moves (map (with_vote None) participants)) ≡ record (undecided_of db (record { participants = participants; stage = st; moves = moves })) { stage = desk.Voting (λ site. None) }
+votes_gone db moves participants st = λ i. record {
   visited = λ j. ap (λ s. s.visited) (there j) i;
   ticket = λ j. ap (λ s. option_map name_of s.ticket) (there j) i;
   sent = λ j. ap (λ s. s.sent) (there j) i;
   stage = desk.Voting (λ j. ap (λ s. option_map vote_of s.vote) (there j) i);
-  moves = false;
+  moves = moves;
 }
   where
     there : (j : List ℕ) → participant_in j (map (with_vote None) participants) ≡ with_vote None (participant_in j participants)

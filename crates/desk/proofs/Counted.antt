@@ -117,14 +117,14 @@ module _ (db : Database) (t : Name) (u : Undecided) (a : List ℕ) (k : Ticket) 
     goes_on kept No e = cc
     goes_on kept Read e = refl
 
-    pub vote_no : (kept : Bool) → is_no vote ≡ true → turned kept ≡ desk.ends_by t (undecided_of db (voting now)) (desk.Aborted t desk.By_vote)
-    vote_no kept against = turned_is kept ∙ counted kept (is_first k participant.ticket) u.stage e ∙ ends_no kept vote against ∙ ap (λ x. desk.ends_by t x (desk.Aborted t desk.By_vote)) (sym (vote_counted db u.participants a at_site vote u.stage))
+    pub vote_no : (kept : Bool) → is_no vote ≡ true → turned kept ≡ desk.ends_by t (undecided_of db (voting u.moves now)) (desk.Aborted t desk.By_vote)
+    vote_no kept against = turned_is kept ∙ counted kept (is_first k participant.ticket) u.stage e ∙ ends_no kept vote against ∙ ap (λ x. desk.ends_by t x (desk.Aborted t desk.By_vote)) (sym (vote_counted db u.participants a at_site u.moves vote u.stage))
 
-    pub vote_goes : (kept : Bool) → is_no vote ≡ false → turned kept ≡ desk.votes_go t (undecided_of db (voting now)) (votes_of now) kept
+    pub vote_goes : (kept : Bool) → is_no vote ≡ false → turned kept ≡ desk.votes_go t (undecided_of db (voting u.moves now)) (votes_of now) kept
     vote_goes kept other =
         turned_is kept ∙ counted kept (is_first k participant.ticket) u.stage e ∙ goes_on kept vote other
-        ∙ ap (λ x. desk.votes_go t x (put (pointwise nat_eq) a (Some (vote_of vote)) (votes_of u.participants)) kept) (sym (vote_counted db u.participants a at_site vote u.stage))
-        ∙ ap (λ vs. desk.votes_go t (undecided_of db (voting now)) vs kept) (sym (votes_put db u.participants a at_site vote))
+        ∙ ap (λ x. desk.votes_go t x (put (pointwise nat_eq) a (Some (vote_of vote)) (votes_of u.participants)) kept) (sym (vote_counted db u.participants a at_site u.moves vote u.stage))
+        ∙ ap (λ vs. desk.votes_go t (undecided_of db (voting u.moves now)) vs kept) (sym (votes_put db u.participants a at_site vote))
 
 -- a step is one that is the same, whatever was kept
 pub turns_as : (db : Database) (txn : Txn) (old : Option TxnState) (one other : Transition → desk.Transition (language db)) → ((turn : Transition) → one turn ≡ other turn) → {E : Type 0} (result : Result Transition E) →
@@ -143,17 +143,17 @@ module _ (db : Database) (txn : Txn) (u : Undecided) (a : List ℕ) (k : Ticket)
   wanted turn = desk.on_known {L = language db} (txn_name txn) (undecided_of db u) a turn.kept choice (replied db a (reply.Voted (record { ticket = k; vote = vote })))
 
   pub no_turn : {E : Type 0} (result : Result Transition E) → is_no vote ≡ true →
-      IfOk result (λ turn. IsTransition db txn old turn (desk.ends_by (txn_name txn) (undecided_of db (voting given)) (desk.Aborted (txn_name txn) desk.By_vote))) → IfOk result (λ turn. IsTransition db txn old turn (wanted turn))
+      IfOk result (λ turn. IsTransition db txn old turn (desk.ends_by (txn_name txn) (undecided_of db (voting u.moves given)) (desk.Aborted (txn_name txn) desk.By_vote))) → IfOk result (λ turn. IsTransition db txn old turn (wanted turn))
   no_turn result against is =
-      turns_as db txn old wanted (λ turn. desk.ends_by (txn_name txn) (undecided_of db (voting given)) (desk.Aborted (txn_name txn) desk.By_vote))
-      (λ turn. vote_no db (txn_name txn) u a k vote choice e turn.kept against ∙ ap (λ ss. desk.ends_by (txn_name txn) (undecided_of db (voting ss)) (desk.Aborted (txn_name txn) desk.By_vote)) (sym same))
+      turns_as db txn old wanted (λ turn. desk.ends_by (txn_name txn) (undecided_of db (voting u.moves given)) (desk.Aborted (txn_name txn) desk.By_vote))
+      (λ turn. vote_no db (txn_name txn) u a k vote choice e turn.kept against ∙ ap (λ ss. desk.ends_by (txn_name txn) (undecided_of db (voting u.moves ss)) (desk.Aborted (txn_name txn) desk.By_vote)) (sym same))
       result is
 
   pub vote_turn : {E : Type 0} (result : Result Transition E) → is_no vote ≡ false →
-      IfOk result (λ turn. IsTransition db txn old turn (desk.votes_go (txn_name txn) (undecided_of db (voting given)) (votes_of given) turn.kept)) → IfOk result (λ turn. IsTransition db txn old turn (wanted turn))
+      IfOk result (λ turn. IsTransition db txn old turn (desk.votes_go (txn_name txn) (undecided_of db (voting u.moves given)) (votes_of given) turn.kept)) → IfOk result (λ turn. IsTransition db txn old turn (wanted turn))
   vote_turn result other is =
-      turns_as db txn old wanted (λ turn. desk.votes_go (txn_name txn) (undecided_of db (voting given)) (votes_of given) turn.kept)
-      (λ turn. vote_goes db (txn_name txn) u a k vote choice e turn.kept other ∙ ap (λ ss. desk.votes_go (txn_name txn) (undecided_of db (voting ss)) (votes_of ss) turn.kept) (sym same))
+      turns_as db txn old wanted (λ turn. desk.votes_go (txn_name txn) (undecided_of db (voting u.moves given)) (votes_of given) turn.kept)
+      (λ turn. vote_goes db (txn_name txn) u a k vote choice e turn.kept other ∙ ap (λ ss. desk.votes_go (txn_name txn) (undecided_of db (voting u.moves ss)) (votes_of ss) turn.kept) (sym same))
       result is
 
 -- ---- a refusal

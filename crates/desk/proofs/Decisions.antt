@@ -1,5 +1,5 @@
 -- Votes and the decision, as the protocol has them.
-use Rattle.std.proofs.Common.{◌≡◌, refl, sym, ap, ◌∙◌, subst, ℕ, ◌<◌, ◌==◌, nat_eq, Bool, true, false, not, ◌&&◌, ◌||◌, List, [], ◌∷◌, ◌++◌, map, length, Option, Some, None, is_some, if◌then◌else◌, inl, inr, Result, Ok, Err, IfOk, flat_map, arith}
+use Rattle.std.proofs.Common.{◌≡◌, refl, sym, ap, ◌∙◌, subst, ℕ, suc, ◌<◌, ◌⊎◌, ◌==◌, nat_eq, Bool, true, false, not, ◌&&◌, ◌||◌, List, [], ◌∷◌, ◌++◌, map, length, Option, Some, None, is_some, if◌then◌else◌, inl, inr, Result, Ok, Err, IfOk, flat_map, arith}
 use Rattle.std.proofs.lemmas.Bool.{eqb-true}
 use Rattle.std.specs.Cmp.Lexicographic.{pointwise}
 use Rattle.std.specs.List.{AllByRecursion, IsDistinct, cons_option, list_all}
@@ -10,7 +10,7 @@ use Rattle.store.specs.declared.name.Ticket.{Ticket}
 use Rattle.store.specs.declared.name.Txn.{Txn}
 use Rattle.store.specs.declared.reply.Vote.{Vote}
 use Rattle.store.specs.declared.reply.Vote.TheVariants.{Yes, No, Read}
-use Rattle.store.specs.DeskContent.{AreVoters, DeskContent, IsUnchanged, KeepsCommit, by_site, commit_row, is_txn}
+use Rattle.store.specs.DeskContent.{AreVoters, DeskContent, IsUnchanged, KeepsCommit, commit_row, is_txn}
 use Rattle.protocol.specs.Desk as desk
 use Rattle.protocol.specs.Language.{Name}
 use Rattle.protocol.specs.Letters.{name_of, txn_name, vote_of}
@@ -21,8 +21,13 @@ use Rattle.desk.specs.declared.transition.After.TheVariants.{Ends}
 use Rattle.desk.specs.declared.transition.Transition.{Transition}
 use Rattle.desk.specs.Database.{Database, language, sent}
 use Rattle.desk.specs.Participants.{is_in, sites_of}
-use Rattle.desk.specs.Transaction.{undecided_of, voter_of, votes_of}
-use Rattle.desk.specs.Transition.{AreParticipants, IsTransition, after_of, voting}
+use Rattle.desk.specs.Transaction.{txn_of, undecided_of, voter_of, votes_of}
+use Rattle.desk.specs.Commit.{committed_by}
+use Rattle.desk.specs.Transition.{AreParticipants, IsTransition, after_of, raises, told_to, voting}
+use Rattle.desk.specs.declared.reply.Reply.TheVariants as reply
+use Rattle.desk.specs.declared.transaction.TxnState.TheVariants as standing
+use Rattle.desk.specs.declared.transaction.Undecided.{Undecided}
+use Rattle.protocol.proofs.Basics.{if_false}
 use Rattle.desk.specs.Acknowledge.{Keeps, commit_letters, is_yes, kept_voters, voter_at, voter_with, voters_among}
 use Rattle.desk.proofs.Acknowledged.{keeps_same, turn_as}
 use Rattle.desk.proofs.Participants.{at_home, text_is}
@@ -60,9 +65,9 @@ pub commits_is : (db : Database) (txn : Txn) (voters : List Voter) → map (sent
 commits_is db txn [] = refl
 commits_is db txn (v ∷ voters) = ap (λ l. sent db (Rattle.desk.specs.Orders.ordered txn v.site (Rattle.store.specs.declared.order.Order.TheVariants.Commit v.ticket)) ∷ l) (commits_is db txn voters)
 
-module _ (db : Database) (participants : List Participant) (are : AreParticipants db participants) where
+module _ (db : Database) (moves : Bool) (participants : List Participant) (are : AreParticipants db participants) where
   abbrev u : desk.Undecided (language db)
-  u = undecided_of db (voting participants)
+  u = undecided_of db (voting moves participants)
 
   pub all_in_is : desk.are_all_in {L = language db} u (votes_of participants) ≡ list_all is_in participants
   all_in_is =
@@ -93,25 +98,31 @@ module _ (db : Database) (participants : List Participant) (are : AreParticipant
       ∙ ap (λ vs. desk.decides {L = language db} t u kept (map voter_of vs)) (sym same)
 
 -- the row is not kept
-pub unkept_is : (db : Database) (txn : Txn) (old : Option TxnState) (v : desk.Undecided (language db)) (voters : List Voter) → 0 < length voters → {E : Type 0} (result : Result Transition E) →
+pub unkept_is : (db : Database) (txn : Txn) (old : Option TxnState) (v : desk.Undecided (language db)) (voters : List Voter) → (0 < length voters) ⊎ (v.moves ≡ true) → {E : Type 0} (result : Result Transition E) →
     IfOk result (λ turn. IsTransition db txn old turn (desk.ends_by (txn_name txn) v (desk.Aborted (txn_name txn) desk.By_store))) → IfOk result (λ turn. turn.kept ≡ false) →
     IfOk result (λ turn. IsTransition db txn old turn (desk.decides (txn_name txn) v turn.kept (map voter_of voters)))
-unkept_is db txn old v [] some result ends kept = absurd (omega arith)
+unkept_is db txn old v [] (inl some) result ends kept = absurd (omega arith)
+unkept_is db txn old v [] (inr moves) (Ok turn) ends kept =
+    subst (λ b. IsTransition db txn old turn (desk.decides (txn_name txn) v b [])) (sym kept) (subst (IsTransition db txn old turn) (sym (if_false (not v.moves) _ _ (ap not moves))) ends)
+unkept_is db txn old v [] (inr moves) (Err e) ends kept = tt
 unkept_is db txn old v (x ∷ voters) some (Ok turn) ends kept = subst (λ b. IsTransition db txn old turn (desk.decides (txn_name txn) v b (map voter_of (x ∷ voters)))) (sym kept) ends
 unkept_is db txn old v (x ∷ voters) some (Err e) ends kept = tt
 
--- the row is kept
-pub kept_is : (db : Database) (txn : Txn) (old : Option TxnState) (v : desk.Undecided (language db)) (voters : List Voter) (turn : Transition) → 0 < length voters →
-    IsTransition db txn old turn (record { txn = desk.Row (map voter_of voters) []; letters = desk.commits {L = language db} (txn_name txn) (map voter_of voters); deeds = desk.Committed (txn_name txn) ∷ [] }) →
+-- the row is kept, or there is none to keep
+pub kept_is : (db : Database) (txn : Txn) (old : Option TxnState) (v : desk.Undecided (language db)) (voters : List Voter) (turn : Transition) → turn.after ≡ committed_by voters → turn.letters.items ≡ commit_letters txn voters → turn.reply ≡ Some reply.Committed →
     IsTransition db txn old turn (desk.decides {L = language db} (txn_name txn) v true (map voter_of voters))
-kept_is db txn old v [] turn some is = absurd (omega arith)
-kept_is db txn old v (x ∷ voters) turn some is = is
+kept_is db txn old v [] turn after letters heard = record { stands = ap (λ a. txn_of db (after_of old a)) after; letters = ap (map (sent db)) letters; replies = ap (told_to (txn_name txn)) heard }
+kept_is db txn old v (x ∷ voters) turn after letters heard = record {
+  stands = ap (λ a. txn_of db (after_of old a)) after;
+  letters = ap (map (sent db)) letters ∙ commits_is db txn (x ∷ voters);
+  replies = ap (told_to (txn_name txn)) heard;
+}
 
 -- the store keeps nothing of a transaction that ends
 pub ended_keeps : (txn : Txn) (old : Option TxnState) (kept after : DeskContent) → kept.commits txn ≡ None → IsUnchanged kept after → {E : Type 0} (result : Result Transition E) →
-    IfOk result (λ turn. turn.after ≡ Ends) → IfOk result (λ turn. Keeps txn (kept_voters (after_of old turn.after)) kept after)
-ended_keeps txn old kept after none same (Ok turn) is = subst (λ a. Keeps txn (kept_voters (after_of old a)) kept after) (sym is) (keeps_same txn None kept after none same)
-ended_keeps txn old kept after none same (Err e) is = tt
+    IfOk result (λ turn. turn.after ≡ Ends) → IfOk result (λ turn. raises old turn.reply ≡ false) → IfOk result (λ turn. Keeps txn (kept_voters (after_of old turn.after)) (raises old turn.reply) kept after)
+ended_keeps txn old kept after none same (Ok turn) is quiet = subst (λ a. Keeps txn (kept_voters (after_of old a)) (raises old turn.reply) kept after) (sym is) (keeps_same txn None (raises old turn.reply) kept after quiet none same)
+ended_keeps txn old kept after none same (Err e) is quiet = tt
 
 -- ---- the voters' sites are distinct
 pub others_apart : (site : List ℕ) (participants : List Participant) → AllByRecursion (λ other. (site ≡ other) → ⊥) (sites_of participants) → AllByRecursion (λ other. pointwise nat_eq site other ≡ false) (map (λ voter. voter.site) (voters_among participants))
@@ -148,17 +159,23 @@ voters_once (s ∷ participants) apart = go s.visited s.vote s.ticket (voters_on
 pub are_voters : (participants : List Participant) (voters : List Voter) → AreDistinct (sites_of participants) → voters ≡ voters_among participants → AreVoters voters
 are_voters participants voters apart same = subst AreVoters (sym same) (voters_once participants apart)
 
--- the store keeps the row
-pub keeps_row : (txn : Txn) (kept after : DeskContent) (voters same : List Voter) (version : ℕ) → voters ≡ same → 0 < length same → version ≡ kept.version → KeepsCommit txn voters version kept after → Keeps txn (Some (by_site same)) kept after
-keeps_row txn kept after voters same version is some remembered keeps = record {
-  commits = λ other. keeps.commits other ∙ ap (λ vs. if is_txn txn other then commit_row vs else kept.commits other) is ∙ ap (λ row. if is_txn txn other then row else kept.commits other) (row_is same some);
+-- the store keeps the row, if there is one, and the number of the catalogue that is in force from then on
+pub keeps_row : (txn : Txn) (old : Undecided) (kept after : DeskContent) (voters same : List Voter) (in_force : ℕ) (turn : Transition) → voters ≡ same → in_force ≡ (if old.moves then suc kept.version else kept.version) → KeepsCommit txn voters in_force kept after →
+    turn.after ≡ committed_by same → turn.reply ≡ Some reply.Committed → Keeps txn (kept_voters (after_of (Some (standing.Undecided old)) turn.after)) (raises (Some (standing.Undecided old)) turn.reply) kept after
+keeps_row txn old kept after voters same in_force turn is remembered keeps ends heard = record {
+  commits = λ other. keeps.commits other ∙ ap (λ vs. if is_txn txn other then commit_row vs else kept.commits other) is
+      ∙ ap (λ row. if is_txn txn other then row else kept.commits other) (row_is same ∙ sym (ap (λ a. kept_voters (after_of (Some (standing.Undecided old)) a)) ends));
   life = keeps.life;
-  version = keeps.version ∙ remembered;
+  version = keeps.version ∙ remembered ∙ ap (λ b. if b then suc kept.version else kept.version) (raised old.moves ∙ sym (ap (raises (Some (standing.Undecided old))) heard));
 }
   where
-    row_is : (voters : List Voter) → 0 < length voters → commit_row voters ≡ Some (by_site voters)
-    row_is [] none = absurd (omega arith)
-    row_is (v ∷ voters) some = refl
+    row_is : (voters : List Voter) → commit_row voters ≡ kept_voters (after_of (Some (standing.Undecided old)) (committed_by voters))
+    row_is [] = refl
+    row_is (v ∷ voters) = refl
+
+    raised : (b : Bool) → b ≡ (b && true)
+    raised true = refl
+    raised false = refl
 
 -- ---- the code's branches
 -- nobody is to be told
@@ -171,9 +188,9 @@ somebody [] e = cc
 somebody (v ∷ voters) e = omega arith
 
 -- all votes are in, and it is decided
-pub decided_is : (db : Database) (txn : Txn) (old : Option TxnState) (participants now : List Participant) → now ≡ participants → AreParticipants db participants → (voters : List Voter) → list_all is_in participants ≡ true → voters ≡ voters_among participants → {E : Type 0} (result : Result Transition E) →
-    IfOk result (λ turn. IsTransition db txn old turn (desk.decides (txn_name txn) (undecided_of db (voting now)) turn.kept (map voter_of voters))) →
-    IfOk result (λ turn. IsTransition db txn old turn (desk.votes_go (txn_name txn) (undecided_of db (voting participants)) (votes_of participants) turn.kept))
-decided_is db txn old participants now same are voters all is (Ok turn) steps =
-    turn_as db txn old turn _ _ (votes_decide db participants are (txn_name txn) turn.kept voters all is ∙ ap (λ ss. desk.decides {L = language db} (txn_name txn) (undecided_of db (voting ss)) turn.kept (map voter_of voters)) (sym same)) steps
-decided_is db txn old participants now same are voters all is (Err e) steps = tt
+pub decided_is : (db : Database) (moves : Bool) (txn : Txn) (old : Option TxnState) (participants now : List Participant) → now ≡ participants → AreParticipants db participants → (voters : List Voter) → list_all is_in participants ≡ true → voters ≡ voters_among participants → {E : Type 0} (result : Result Transition E) →
+    IfOk result (λ turn. IsTransition db txn old turn (desk.decides (txn_name txn) (undecided_of db (voting moves now)) turn.kept (map voter_of voters))) →
+    IfOk result (λ turn. IsTransition db txn old turn (desk.votes_go (txn_name txn) (undecided_of db (voting moves participants)) (votes_of participants) turn.kept))
+decided_is db moves txn old participants now same are voters all is (Ok turn) steps =
+    turn_as db txn old turn _ _ (votes_decide db moves participants are (txn_name txn) turn.kept voters all is ∙ ap (λ ss. desk.decides {L = language db} (txn_name txn) (undecided_of db (voting moves ss)) turn.kept (map voter_of voters)) (sym same)) steps
+decided_is db moves txn old participants now same are voters all is (Err e) steps = tt

@@ -3,7 +3,10 @@ use Rattle.std.proofs.Common.{arith, suc, nat_eq, nat_lt, ◌^◌, length, Resul
 use Rattle.std.specs.Option.{option_map}
 use Rattle.meaning.specs.declared.answer.Answer.{Answer}
 use Rattle.meaning.specs.declared.answer.Answer.TheVariants as answer
+use Rattle.meaning.specs.declared.statement.Refragment.{Refragment}
 use Rattle.meaning.specs.declared.statement.Statement.{Statement}
+use Rattle.meaning.specs.declared.statement.Statement.TheVariants as statements
+use Rattle.catalog.specs.Chain.{IsNext}
 use Rattle.store.specs.declared.name.Ticket.{Ticket}
 use Rattle.store.specs.declared.name.Txn.{Txn}
 use Rattle.store.specs.declared.reply.Reply.TheVariants as replies
@@ -48,6 +51,7 @@ use Rattle.desk.specs.Transition.{AreParticipants, told_to}
 use Rattle.desk.specs.Opening.{HaveParticipants}
 use Rattle.desk.specs.Request.{notices, open_in}
 use Rattle.desk.proofs.Making.{goes_on}
+use Rattle.desk.proofs.Raised.{TurnKeeps}
 use Rattle.desk.proofs.Asked.{rows_home, rows_order}
 use Rattle.desk.proofs.AtHomes.{all_placed, asks_fresh, asks_home, asks_order, asks_participants}
 use Rattle.desk.proofs.Within.{same_plan}
@@ -59,7 +63,7 @@ use Rattle.catalog.specs.Catalogue.{Catalogue}
 use Rattle.catalog.specs.FragmentLeaf.{schemas_of}
 use Rattle.catalog.specs.Laws.{LeafNamesAreUnique}
 use Rattle.meaning.specs.declared.schema.RelationSchema.{RelationSchema}
-use Rattle.meaning.specs.Statement.{IsStatementOf, is_refragment}
+use Rattle.meaning.specs.Statement.{IsStatementOf}
 use Rattle.plan.specs.Reduced.{FindsAll}
 use Rattle.plan.specs.Stated.{AreFetchesOf}
 use Rattle.reader.specs.Printable.{AreDistinct}
@@ -214,14 +218,14 @@ module _ (db : Database) (n : ℕ) (txn : Txn) (u : Undecided) (site : List ℕ)
     go_if choice b = if b then desk.works {L = language db} (txn_name txn) (undecided_of db u) (n, reading.statement) (map (ask_of db) given) choice else desk.stays (desk.Known (record (undecided_of db u) { stage = desk.Reading (n, reading.statement) (map (ask_of db) given) }))
 
     module _ (new : Undecided) (step : Progress) where
-      pub rows_wait : are_in given ≡ false → (after : Reading) → after.version ≡ reading.version → after.statement ≡ reading.statement → after.plan ≡ reading.plan → after.asks.items ≡ given → new.participants ≡ u.participants → new.stage ≡ stage.Reading after → step.letters.items ≡ [] → step.reply ≡ None → Does db n txn new step rowed
-      rows_wait more after version statement plan items participants now none quiet =
+      pub rows_wait : are_in given ≡ false → (after : Reading) → after.version ≡ reading.version → after.statement ≡ reading.statement → after.plan ≡ reading.plan → after.asks.items ≡ given → new.participants ≡ u.participants → new.moves ≡ u.moves → new.stage ≡ stage.Reading after → step.letters.items ≡ [] → step.reply ≡ None → Does db n txn new step rowed
+      rows_wait more after version statement plan items participants kind now none quiet =
           let choice : desk.Choice (language db) = (answer.Changed 0, []) in
           let same : rowed choice ≡ go_if choice false = turn_is choice ∙ ap (go_if choice) (all_in db given ∙ more) in
           record {
             choice = choice;
             step = step_as db txn new step (rowed choice) (go_if choice false) same (record {
-              stands = λ i. desk.Known (record (undecided_of db (record { participants = participants i; stage = u.stage })) { stage = (ap (stage_of db new.participants) now ∙ (λ j. desk.Reading ((version ∙ of_reading.0) j, statement j) (map (ask_of db) (items j)))) i });
+              stands = λ i. desk.Known (record (undecided_of db (record { participants = participants i; stage = u.stage; moves = kind i })) { stage = (ap (stage_of db new.participants) now ∙ (λ j. desk.Reading ((version ∙ of_reading.0) j, statement j) (map (ask_of db) (items j)))) i });
               letters = ap (map (sent db)) none;
               replies = ap (told_to (txn_name txn)) quiet;
             });
@@ -330,10 +334,10 @@ module _ (db : Database) (kept : DeskContent) (table : VolatileState) (fits : Fi
   participants_there of = record { sites = known_there.0; distinct = subst AreDistinct (sym (known_there.0 ∙ of.sites table.version)) (of.formed table.version).distinct }
 
 -- ---- a plan that is made
-pub plan_made : (db : Database) → IsOfCatalogue db → (n : ℕ) (catalogue : Catalogue) → db.catalogue n ≡ catalogue → (stated : Statement) (plan : ReducedPlan) (asks : List Ask) → IsStatementOf (schemas_of catalogue) stated → is_refragment stated ≡ false → AreFetchesOf catalogue stated plan.fetches → FindsAll catalogue stated plan.fetches (plan_in plan) →
+pub plan_made : (db : Database) → IsOfCatalogue db → (n : ℕ) (catalogue : Catalogue) → db.catalogue n ≡ catalogue → (stated : Statement) (plan : ReducedPlan) (asks : List Ask) → IsStatementOf (schemas_of catalogue) stated → ((refragment : Refragment) → stated ≡ statements.Refragment refragment → IsNext (db.catalogue n) (db.catalogue (suc n)) refragment.relation.name) → AreFetchesOf catalogue stated plan.fetches → FindsAll catalogue stated plan.fetches (plan_in plan) →
     asks ≡ map (ask_from catalogue) plan.fetches → IsOfPlan db n stated plan asks
-plan_made db of n catalogue same stated plan those is ordinary are finds list = record {
-  statement = record { of_schemas = subst (λ (ss : List RelationSchema). IsStatementOf ss stated) (sym (of.schemas n ∙ ap schemas_of same)) is; stays = ordinary };
+plan_made db of n catalogue same stated plan those is next are finds list = record {
+  statement = record { of_schemas = subst (λ (ss : List RelationSchema). IsStatementOf ss stated) (sym (of.schemas n ∙ ap schemas_of same)) is; next = next };
   fetches = subst (λ cat. AreFetchesOf cat stated plan.fetches) (sym same) are;
   finds = subst (λ cat. FindsAll cat stated plan.fetches (plan_in plan)) (sym same) finds;
   in_order = ap (map asked) (list ∙ ap (λ cat. map (ask_from cat) plan.fetches) (sym same)) ∙ asks_order (db.catalogue n) plan.fetches;
@@ -363,10 +367,10 @@ standing_is e = cc
 
 -- ---- the call
 module _ (db : Database) (kept : DeskContent) (volatile : Volatile) (sorted : IsStrictlySortedBy txn_cmp (keys_of volatile.standings.entries)) (fits : Fits db kept (volatile_of volatile)) (txn : Txn) (u : Undecided) (here : (volatile_of volatile).standing txn ≡ Some (standing.Undecided u))
-    (wanted : desk.Choice (language db) → desk.Transition (language db)) (after : VolatileState) (step : Progress) (goes : GoesOn db volatile after txn step wanted) (written : List Letter) (heard : List Notice) (letters : written ≡ step.letters.items) (replies : heard ≡ notices txn step.reply) where
+    (wanted : desk.Choice (language db) → desk.Transition (language db)) (after : VolatileState) (step : Progress) (goes : GoesOn db volatile after txn step wanted) (turns : (choice : desk.Choice (language db)) → TurnKeeps (language db) (txn_name txn) (txn_of db ((volatile_of volatile).standing txn)) (wanted choice)) (written : List Letter) (heard : List Notice) (letters : written ≡ step.letters.items) (replies : heard ≡ notices txn step.reply) where
   pub steps_on : Steps db (volatile_of volatile) kept after txn (wanted goes.does.choice) written heard
   steps_on =
-      goes_on db kept volatile sorted fits txn u goes.new here (wanted goes.does.choice) step.letters step.reply goes.does.step.stands goes.does.step.letters goes.does.step.replies goes.does.within goes.short after goes.moved written heard letters replies
+      goes_on db kept volatile.standings.entries volatile.undecided volatile.life volatile.number volatile.version sorted fits txn u goes.new here (wanted goes.does.choice) step.letters step.reply goes.does.step.stands goes.does.step.letters goes.does.step.replies (turns goes.does.choice) goes.does.within goes.short after goes.moved written heard letters replies
 
   pub takes_on : Takes db (volatile_of volatile) kept after txn wanted written heard
   takes_on = record { choice = goes.does.choice; steps = steps_on; explained = goes.does.explained; placed = goes.does.placed }
@@ -394,8 +398,8 @@ module _ (db : Database) (n : ℕ) (txn : Txn) (u : Undecided) (site : List ℕ)
 
 pub rows_wait_by : (db : Database) (n : ℕ) (txn : Txn) (u new : Undecided) (site : List ℕ) (rows : Rows) (of : IsOfCatalogue db) (unique : LeafNamesAreUnique) (reading : Reading) → u.stage ≡ stage.Reading reading → is_first rows.ticket (participant_in site u.participants).ticket ≡ true → IsIn db n (standing.Undecided u) →
     (catalogue : Catalogue) → db.catalogue n ≡ catalogue → (list : List Ask) → list ≡ map (with_rows catalogue site rows.op rows.parts) reading.asks.items → are_in list ≡ false → (after : Reading) → after.version ≡ reading.version → after.statement ≡ reading.statement → after.plan ≡ reading.plan → after.asks.items ≡ list →
-    new.participants ≡ u.participants → new.stage ≡ stage.Reading after → (step : Progress) → step.letters.items ≡ [] → step.reply ≡ None →
+    new.participants ≡ u.participants → new.moves ≡ u.moves → new.stage ≡ stage.Reading after → (step : Progress) → step.letters.items ≡ [] → step.reply ≡ None →
     Does db n txn new step (λ choice. desk.on_known {L = language db} (txn_name txn) (undecided_of db u) site true choice (replied db site (replies.Rows rows)))
-rows_wait_by db n txn u new site rows of unique reading here first known_in catalogue same list list_is more after version statement plan items participants now step none quiet =
+rows_wait_by db n txn u new site rows of unique reading here first known_in catalogue same list list_is more after version statement plan items participants kind now step none quiet =
     let there = list_is ∙ ap (λ cat. map (with_rows cat site rows.op rows.parts) reading.asks.items) (sym same) in
-    rows_wait db n txn u site rows of unique reading here first known_in new step (sym (ap are_in there) ∙ more) after version statement plan (items ∙ there) participants now none quiet
+    rows_wait db n txn u site rows of unique reading here first known_in new step (sym (ap are_in there) ∙ more) after version statement plan (items ∙ there) participants kind now none quiet

@@ -1,5 +1,5 @@
 -- A statement that is evaluated is the protocol's.
-use Rattle.std.proofs.Common.{◌≡◌, refl, sym, ap, ◌∙◌, ℕ, List, [], ◌∷◌, ◌++◌, map, Some, None, false}
+use Rattle.std.proofs.Common.{◌≡◌, refl, sym, ap, ◌∙◌, ℕ, List, [], ◌∷◌, ◌++◌, map, Some, None}
 use Rattle.std.proofs.lemmas.List.{map-append}
 use Rattle.std.specs.List.{filter_map}
 use Rattle.std.specs.Option.{option_map}
@@ -41,7 +41,7 @@ writing_apart : (L : Lang) (t : Name) (v : desk.Undecided L) (st : desk.Stage L)
 writing_apart L t v st answer counts [] letters = refl
 writing_apart L t v st answer counts (x ∷ left) letters = refl
 
-module _ (db : Database) (txn : Txn) (u new : Undecided) (began : Writing) (s : ℕ × Statement) (asks : List (desk.Ask (language db))) (are : AreParticipants db u.participants) (have : HaveParticipants u.participants (write_sites began.unsent.items)) (step : Progress)
+module _ (db : Database) (txn : Txn) (u new : Undecided) (began : Writing) (s : ℕ × Statement) (asks : List (desk.Ask (language db))) (are : AreParticipants db u.participants) (have : HaveParticipants u.participants (write_sites began.unsent.items)) (kind : new.moves ≡ u.moves) (step : Progress)
     (participants_now : new.participants ≡ (writes_go txn began.unsent.items (visits (write_sites began.unsent.items) u.participants)).participants) (letters : step.letters.items ≡ opens txn (write_sites began.unsent.items) u.participants ++ (writes_go txn began.unsent.items (visits (write_sites began.unsent.items) u.participants)).letters) where
   abbrev ws : List Unsent
   ws = began.unsent.items
@@ -53,43 +53,43 @@ module _ (db : Database) (txn : Txn) (u new : Undecided) (began : Writing) (s : 
   at_work = desk.works (txn_name txn) (undecided_of db u) s asks (began.answer, map write_of ws)
 
   -- after the Opens, apart from its stage
-  opened_is : (st : Stage) → undecided_of db (record { participants = opened; stage = st }) ≡ record (desk.visits (undecided_of db u) (write_leaves ws)) { stage = stage_of db opened st }
+  opened_is : (st : Stage) → undecided_of db (record { participants = opened; stage = st; moves = u.moves }) ≡ record (desk.visits (undecided_of db u) (write_leaves ws)) { stage = stage_of db opened st }
   opened_is st = λ i. record {
-    visited = λ j. visited_now db txn u.participants are u.stage (write_leaves ws) (write_sites ws) (homes_are ws) have j i;
+    visited = λ j. visited_now db txn u.participants are u.stage u.moves (write_leaves ws) (write_sites ws) (homes_are ws) have j i;
     ticket = λ j. option_map name_of (kept_by_visits (write_sites ws) u.participants (λ x. x.ticket) (λ x. refl) j i);
     sent = λ j. kept_by_visits (write_sites ws) u.participants (λ x. x.sent) (λ x. refl) j i;
     stage = stage_of db opened st;
-    moves = false;
+    moves = u.moves;
   }
 
   -- the writes that go out, from either
   abbrev goes : desk.Undecided (language db) → desk.Transition (language db)
   goes v = desk.writes_go (txn_name txn) v began.answer (map write_of ws)
 
-  goes_as : goes (undecided_of db (record { participants = opened; stage = stage.Writing began })) ≡ goes (desk.visits (undecided_of db u) (write_leaves ws))
+  goes_as : goes (undecided_of db (record { participants = opened; stage = stage.Writing began; moves = u.moves })) ≡ goes (desk.visits (undecided_of db u) (write_leaves ws))
   goes_as =
       let v = desk.visits (undecided_of db u) (write_leaves ws) in
       let out = desk.writes_out {L = language db} (txn_name txn) v.ticket (map write_of ws) v.sent in
       ap goes (opened_is (stage.Writing began)) ∙ writing_apart (language db) (txn_name txn) v (stage_of db opened (stage.Writing began)) began.answer out.sent out.left out.letters
 
-  all_letters : map (sent db) (writes_go txn ws opened).letters ≡ (goes (undecided_of db (record { participants = opened; stage = stage.Writing began }))).letters → map (sent db) step.letters.items ≡ at_work.letters
+  all_letters : map (sent db) (writes_go txn ws opened).letters ≡ (goes (undecided_of db (record { participants = opened; stage = stage.Writing began; moves = u.moves }))).letters → map (sent db) step.letters.items ≡ at_work.letters
   all_letters out = ap (map (sent db)) letters ∙ map-append (sent db) (opens txn (write_sites ws) u.participants) (writes_go txn ws opened).letters
-      ∙ (λ i. opens_are db txn u.participants are u.stage (write_leaves ws) (write_sites ws) (homes_are ws) have i ++ (out ∙ ap (λ turn. turn.letters) goes_as) i)
+      ∙ (λ i. opens_are db txn u.participants are u.stage u.moves (write_leaves ws) (write_sites ws) (homes_are ws) have i ++ (out ∙ ap (λ turn. turn.letters) goes_as) i)
 
   pub works_waiting : (after : Writing) → after.answer ≡ began.answer → (first : Unsent) (rest : List Unsent) → after.unsent.items ≡ first ∷ rest → after.unsent.items ≡ (writes_go txn ws opened).left → new.stage ≡ stage.Writing after → step.reply ≡ None → IsProgress db txn new step at_work
   works_waiting after answer first rest some left now quiet =
-      let base = waiting_is db txn opened new.participants (writes_go txn ws opened).letters began participants_now refl after answer first rest some left in
+      let base = waiting_is db txn u.moves opened new.participants (writes_go txn ws opened).letters began participants_now refl after answer first rest some left in
       record {
-        stands = ap (λ x. desk.Known (undecided_of db (record { participants = new.participants; stage = x }))) now ∙ base.0 ∙ ap (λ turn. turn.txn) goes_as;
+        stands = ap (λ x. desk.Known (undecided_of db (record { participants = new.participants; stage = x; moves = new.moves }))) now ∙ ap (λ m. desk.Known (undecided_of db (record { participants = new.participants; stage = stage.Writing after; moves = m }))) kind ∙ base.0 ∙ ap (λ turn. turn.txn) goes_as;
         letters = all_letters base.1;
         replies = ap (told_to (txn_name txn)) quiet ∙ sym (ap (filter_map (told db)) (sym (ap (λ turn. turn.deeds) goes_as) ∙ base.2));
       }
 
   pub works_answered : [] ≡ (writes_go txn ws opened).left → new.stage ≡ stage.Idle → step.reply ≡ Some (reply.Answer began.answer) → IsProgress db txn new step at_work
   works_answered none now answers =
-      let base = answered_is db txn opened new.participants (writes_go txn ws opened).letters began participants_now refl none in
+      let base = answered_is db txn u.moves opened new.participants (writes_go txn ws opened).letters began participants_now refl none in
       record {
-        stands = ap (λ x. desk.Known (undecided_of db (record { participants = new.participants; stage = x }))) now ∙ base.0 ∙ ap (λ turn. turn.txn) goes_as;
+        stands = ap (λ x. desk.Known (undecided_of db (record { participants = new.participants; stage = x; moves = new.moves }))) now ∙ ap (λ m. desk.Known (undecided_of db (record { participants = new.participants; stage = stage.Idle; moves = m }))) kind ∙ base.0 ∙ ap (λ turn. turn.txn) goes_as;
         letters = all_letters base.1;
         replies = ap (told_to (txn_name txn)) answers ∙ sym (ap (filter_map (told db)) (sym (ap (λ turn. turn.deeds) goes_as) ∙ base.2));
       }

@@ -12,6 +12,7 @@ pub mod Phases
 pub mod Operations
 pub mod Txns
 pub mod Counts
+pub mod Raised
 pub mod Settled
 pub mod SentLetters
 pub mod Limits
@@ -36,3 +37,6 @@ pub mod Quiet
 pub mod PastLimit
 pub mod Full
 pub mod Arriving
+pub mod Refragmenting
+pub mod NextNames
+pub mod Leaving

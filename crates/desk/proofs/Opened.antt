@@ -73,9 +73,9 @@ kept_by_visits sites (s ∷ participants) view same j = go (is_at j s) (kept_by_
     go true rest = same s
     go false rest = rest
 
-module _ (db : Database) (txn : Txn) (participants : List Participant) (are : AreParticipants db participants) (stage : Stage) (leaves : List Place) (sites : List (List ℕ)) (homes : sites ≡ map (λ g. g.0) leaves) (have : HaveParticipants participants sites) where
+module _ (db : Database) (txn : Txn) (participants : List Participant) (are : AreParticipants db participants) (stage : Stage) (moves : Bool) (leaves : List Place) (sites : List (List ℕ)) (homes : sites ≡ map (λ g. g.0) leaves) (have : HaveParticipants participants sites) where
   abbrev u : desk.Undecided (language db)
-  u = undecided_of db (record { participants = participants; stage = stage })
+  u = undecided_of db (record { participants = participants; stage = stage; moves = moves })
 
   among : (j : List ℕ) → list_any (λ site. pointwise nat_eq site j) sites ≡ list_any (λ g. pointwise nat_eq g.0 j) leaves
   among j = ap (list_any (λ site. pointwise nat_eq site j)) homes ∙ any_mapped (λ site. pointwise nat_eq site j) (λ g. g.0) leaves

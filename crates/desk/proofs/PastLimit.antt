@@ -78,9 +78,9 @@ module _ (db : Database) (txn : Txn) (u : Undecided) (those : sites_of u.partici
       written db txn (desk.visits (undecided_of db u) (map (λ w. w.0) (map write_of unsent))) told wanted.sent wanted.left wanted.letters ∙ long db (writes_go txn unsent opened).participants (out.same.sites ∙ visits_sites sites u.participants ∙ those) past _ sent
 
 -- ---- a ticket comes
-module _ (db : Database) (txn : Txn) (participants : List Participant) (those : sites_of participants ≡ db.sites) where
+module _ (db : Database) (txn : Txn) (moves : Bool) (participants : List Participant) (those : sites_of participants ≡ db.sites) where
   abbrev now : (st : Stage) → desk.Undecided (language db)
-  now st = undecided_of db (record { participants = participants; stage = st })
+  now st = undecided_of db (record { participants = participants; stage = st; moves = moves })
 
   -- what waited for it would lead past the limit
   pub goes_past : (choice : desk.Choice (language db)) (st : Stage) → IsPast (goes_to txn participants st) → desk.is_short_txn (desk.ticket_goes {L = language db} (txn_name txn) (now st) choice (stage_of db participants st)).txn ≡ false
@@ -101,7 +101,7 @@ ticket_past db txn u site ticket there those past choice =
     let participants = map (changed_at site (with_ticket (Some ticket))) u.participants in
     stage_alike u.stage (ticketed db u site ticket)
     ∙ ap (λ (v : desk.Undecided (language db)). desk.is_short_txn (desk.ticket_goes {L = language db} (txn_name txn) v choice (stage_of db participants u.stage)).txn) (sym (ticketed_is db u site ticket there))
-    ∙ goes_past db txn participants (ticket_sites site (Some ticket) u.participants ∙ those) choice u.stage past
+    ∙ goes_past db txn u.moves participants (ticket_sites site (Some ticket) u.participants ∙ those) choice u.stage past
   where
     stage_alike : (st : Stage) (v : desk.Undecided (language db)) → desk.is_short_txn (desk.ticket_goes {L = language db} (txn_name txn) v choice (stage_of db u.participants st)).txn ≡ desk.is_short_txn (desk.ticket_goes {L = language db} (txn_name txn) v choice (stage_of db (map (changed_at site (with_ticket (Some ticket))) u.participants) st)).txn
     stage_alike stage.Idle v = refl

@@ -93,17 +93,17 @@ module _ (db : Database) (txn : Txn) (u : Undecided) (are : AreParticipants db u
   abbrev phase : desk.Transition (language db) → desk.Transition (language db)
   phase turn = record turn { letters = protocol.letters_to {L = language db} t (λ a. desk.when {L = language db} (v.visited a) (desk.to_prepare v a (v.ticket a))) db.sites; deeds = desk.Phased t ∷ turn.deeds }
 
-  goes : desk.phases t v ≡ phase (desk.votes_go {L = language db} t (undecided_of db (voting now)) (votes_of now) true)
+  goes : desk.phases t v ≡ phase (desk.votes_go {L = language db} t (undecided_of db (voting u.moves now)) (votes_of now) true)
   goes =
-      ap (λ x. phase (desk.votes_go {L = language db} t x (λ a. None) true)) (sym (votes_gone db u.participants u.stage))
-      ∙ ap (λ vs. phase (desk.votes_go {L = language db} t (undecided_of db (voting now)) vs true)) none_there
+      ap (λ x. phase (desk.votes_go {L = language db} t x (λ a. None) true)) (sym (votes_gone db u.moves u.participants u.stage))
+      ∙ ap (λ vs. phase (desk.votes_go {L = language db} t (undecided_of db (voting u.moves now)) vs true)) none_there
 
   -- no site was visited
   pub commit_alone : (turn : Transition) (given : List Participant) → given ≡ now → is_idle u.stage ≡ true → list_all is_in given ≡ true → IsTransition db txn here turn (commits_now db t) → IsTransition db txn here turn called
   commit_alone turn given same idle all is =
       let every : list_all is_in now ≡ true = subst (λ ss. list_all is_in ss ≡ true) same all in
       turn_as db txn here turn called (phase (commits_now db t))
-      (begins u.stage idle ∙ goes ∙ ap phase (votes_decide db now now_are t true [] every (sym (no_voters u.participants))))
+      (begins u.stage idle ∙ goes ∙ ap phase (votes_decide db u.moves now now_are t true [] every (sym (no_voters u.participants))))
       (record {
         stands = is.stands;
         letters = is.letters ∙ sym (ap (map (sent db)) (no_letters txn u.participants every)) ∙ prepare_letters db txn u are;
@@ -111,14 +111,14 @@ module _ (db : Database) (txn : Txn) (u : Undecided) (are : AreParticipants db u
       })
 
   -- each visited one is asked
-  pub commit_asks : (letters : Vec Letter Global) (given : List Participant) (asked : Undecided) → given ≡ now → asked ≡ voting given → is_idle u.stage ≡ true → list_all is_in given ≡ false → letters.items ≡ broadcast_letters txn word.Prepare u.participants →
+  pub commit_asks : (letters : Vec Letter Global) (given : List Participant) (asked : Undecided) → given ≡ now → asked ≡ voting u.moves given → is_idle u.stage ≡ true → list_all is_in given ≡ false → letters.items ≡ broadcast_letters txn word.Prepare u.participants →
       IsTransition db txn here (record { after = after.Becomes (standing.Undecided asked); letters = letters; reply = None; kept = true }) called
   commit_asks letters given asked same is idle some put =
       let not_all : list_all is_in now ≡ false = subst (λ ss. list_all is_in ss ≡ false) same some in
-      turn_as db txn here _ called (phase (desk.stays (desk.Known (undecided_of db (voting now)))))
-      (begins u.stage idle ∙ goes ∙ ap phase (votes_wait db now now_are t true not_all))
+      turn_as db txn here _ called (phase (desk.stays (desk.Known (undecided_of db (voting u.moves now)))))
+      (begins u.stage idle ∙ goes ∙ ap phase (votes_wait db u.moves now now_are t true not_all))
       (record {
-        stands = ap (λ x. desk.Known (undecided_of db x)) (is ∙ ap voting same);
+        stands = ap (λ x. desk.Known (undecided_of db x)) (is ∙ ap (voting u.moves) same);
         letters = ap (map (sent db)) put ∙ prepare_letters db txn u are;
         replies = refl;
       })

@@ -59,7 +59,7 @@ head_below k e (x ∷ entries) below (inl is) = ap (λ (y : Txn × TxnState). is
 head_below k e (x ∷ entries) below (inr here) = head_below k e entries below.1 here
 
 -- what stands there is what is listed
-entry_there : (entries : Entries) → IsStrictlySortedBy txn_cmp (keys_of entries) → (e : Txn × TxnState) → In e entries → at_txn entries e.0 ≡ Some e.1
+pub entry_there : (entries : Entries) → IsStrictlySortedBy txn_cmp (keys_of entries) → (e : Txn × TxnState) → In e entries → at_txn entries e.0 ≡ Some e.1
 entry_there [] sorted e here = absurd here
 entry_there (x ∷ entries) sorted e (inl is) = ap (λ (y : Txn × TxnState). at_txn (x ∷ entries) y.0) is ∙ if_true (is_txn x.0 x.0) (Some x.1) (at_txn entries x.0) (txn_self x.0) ∙ ap (λ (y : Txn × TxnState). Some y.1) (sym is)
 entry_there (x ∷ entries) sorted e (inr here) =

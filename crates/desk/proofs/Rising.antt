@@ -25,6 +25,7 @@ use Rattle.desk.specs.Database.{Database}
 use Rattle.desk.specs.Recovery.{Rises, SendsAgain, are_begun, commits_again, in_order, may_stand, resting, row_in_order, row_standing, rows_are_at, stood_by}
 use Rattle.desk.specs.State.{Fits, IsIn, VolatileState, is_open, open_among, volatile_from}
 use Rattle.desk.specs.Transaction.{txn_of}
+use Rattle.desk.specs.Transition.{is_moving}
 use Rattle.protocol.specs.Desk.{is_short_txn}
 use Rattle.desk.specs.Acknowledge.{kept_voters, listed}
 use Rattle.desk.proofs.Acknowledged.{txn_is}
@@ -171,6 +172,10 @@ module _ (db : Database) (all : DeskKept) (kept after : DeskContent) (lists : Li
   at_sites j None is s e = cc
   at_sites j (Some voters) is s e = subst (IsIn db table.version) (some_is e) (ap (listed db.sites) (at_home j voters is))
 
+  none_moves : (r : Option Voters) → is_moving (resting db.sites r) ≡ false
+  none_moves None = refl
+  none_moves (Some voters) = refl
+
   short : (r : Option Voters) → is_short_txn (txn_of db (resting db.sites r)) ≡ true
   short None = refl
   short (Some voters) = refl
@@ -189,6 +194,7 @@ module _ (db : Database) (all : DeskKept) (kept after : DeskContent) (lists : Li
         let h : j.life < after.life = grind (arith) in
         inl h;
     sites = λ j s e. at_sites j (voters_in j all.commits) refl s (ap (resting db.sites) (row_is j) ∙ sym (there j) ∙ e);
+    moving = λ j e. clash e (ap is_moving (there j) ∙ none_moves (after.commits j));
     counted = sym (none_open table.txns);
     short = λ j. subst (λ o. is_short_txn (txn_of db o) ≡ true) (sym (there j)) (short (after.commits j));
     few = omega arith;

@@ -11,7 +11,7 @@ use Rattle.protocol.specs.Desk as desk
 use Rattle.protocol.specs.Language.{Name, put, same}
 use Rattle.protocol.specs.Letters.{txn_name}
 use Rattle.protocol.specs.Parts.{In}
-use Rattle.protocol.proofs.Basics.{both_true, if_true, if_false, in_filter, some_is}
+use Rattle.protocol.proofs.Basics.{both_true, clash, if_true, if_false, in_filter, some_is}
 use Rattle.protocol.proofs.Locks.{from_filter}
 use Rattle.desk.specs.declared.transaction.TxnState.{TxnState}
 use Rattle.desk.specs.declared.transaction.TxnState.TheVariants as standing
@@ -19,8 +19,10 @@ use Rattle.desk.specs.declared.transition.After.{After}
 use Rattle.desk.specs.declared.transition.After.TheVariants.{Stays, Ends, Becomes}
 use Rattle.desk.specs.Database.{Database, language}
 use Rattle.desk.specs.Transaction.{txn_of}
-use Rattle.desk.specs.State.{Fits, IsIn, IsInAfter, VolatileState, closes, desk_of, is_open, open_among, settled, volatile_from, txn_at}
-use Rattle.desk.specs.Transition.{after_of}
+use Rattle.desk.specs.State.{Fits, IsIn, IsInAfter, IsMoving, VolatileState, closes, desk_of, is_open, open_among, settled, volatile_from, txn_at}
+use Rattle.desk.specs.Transition.{after_of, is_moving}
+use Rattle.desk.proofs.Raised.{moving_open}
+use Rattle.catalog.specs.Chain.{IsNext}
 use Rattle.desk.specs.Acknowledge.{Keeps, kept_voters}
 use Rattle.desk.proofs.Acknowledged.{txn_is}
 use Rattle.desk.proofs.Counts.{as_many, filter_among, one_fewer}
@@ -37,13 +39,17 @@ open_is db None = refl
 open_is db (Some (standing.Undecided u)) = refl
 open_is db (Some (standing.Committed c)) = refl
 
+moving_some : (o : Option TxnState) → is_moving o ≡ true → (s : TxnState) × (o ≡ Some s)
+moving_some None e = cc
+moving_some (Some s) e = (s, refl)
+
 pub open_some : (o : Option TxnState) → is_open o ≡ true → is_some o ≡ true
 open_some None e = cc
 open_some (Some s) e = refl
 
 -- ---- a step of one transaction
 module _ (db : Database) (kept new : DeskContent) (entries : Entries) (sorted : IsStrictlySortedBy txn_cmp (keys_of entries)) (undecided life number version : ℕ)
-    (fits : Fits db kept (volatile_from entries undecided life number version)) (k : Txn) (now : TxnState) (here : at_txn entries k ≡ Some now) (after : After) where
+    (fits : Fits db kept (volatile_from entries undecided life number version)) (k : Txn) (now : TxnState) (here : at_txn entries k ≡ Some now) (after : After) (raised : Bool) where
   abbrev before : VolatileState
   before = volatile_from entries undecided life number version
 
@@ -54,7 +60,7 @@ module _ (db : Database) (kept new : DeskContent) (entries : Entries) (sorted : 
   left = if is_open (Some now) && closes after then undecided - 1 else undecided
 
   abbrev table : VolatileState
-  table = volatile_from (settled k after entries) left life number version
+  table = volatile_from (settled k after entries) left life number (if raised then suc version else version)
 
   there : (j : Txn) → table.standing j ≡ stood k next before.standing j
   there j = go after
@@ -114,7 +120,8 @@ module _ (db : Database) (kept new : DeskContent) (entries : Entries) (sorted : 
         λ i. record { txn = λ name. txn_there (txn_at name) i; known = known i; life = life; number = number }
 
   -- ---- what is in memory fits
-  module _ (keeps : Keeps k (kept_voters next) kept new) (sites : IsInAfter db before.version after) (short : desk.is_short_txn (txn_of db next) ≡ true) (shut : is_open (Some now) ≡ false → is_open next ≡ false) where
+  module _ (keeps : Keeps k (kept_voters next) raised kept new) (sites : IsInAfter db before.version after) (short : desk.is_short_txn (txn_of db next) ≡ true) (shut : is_open (Some now) ≡ false → is_open next ≡ false)
+      (kind : is_moving next ≡ true → is_moving (Some now) ≡ true) (ends : raised ≡ true → (is_moving (Some now) ≡ true) × (is_open next ≡ false)) where
     rows_are : (j : Txn) → kept_voters (table.standing j) ≡ new.commits j
     rows_are j = ap kept_voters (there j) ∙ go (is_txn k j) ∙ sym (keeps.commits j)
       where
@@ -175,15 +182,44 @@ module _ (db : Database) (kept new : DeskContent) (entries : Entries) (sorted : 
     at_sites Ends sites s e = cc
     at_sites (Becomes x) sites s e = subst (IsIn db before.version) (some_is e) sites
 
+    -- who is decided is so under any catalogue
+    closed_in : (n m : ℕ) (s : TxnState) → is_open (Some s) ≡ false → IsIn db n s → IsIn db m s
+    closed_in n m (standing.Undecided u) e is = cc
+    closed_in n m (standing.Committed c) e is = is
+
+    -- where the transaction moves, nothing else stands
+    others_none : is_moving (Some now) ≡ true → (j : Txn) → is_txn k j ≡ false → (s : TxnState) → before.standing j ≡ Some s → ⊥
+    others_none moves j apart s e = let is : j ≡ k = (fits.moving k (ap is_moving here ∙ moves)).alone j (ap is_some e) in clash (subst (λ i. is_txn i j ≡ true) is (txn_self j)) apart
+
+    sites_now : (b : Bool) → raised ≡ b → (j : Txn) (s : TxnState) → table.standing j ≡ Some s → IsIn db (if b then suc version else version) s
+    sites_now false e j s is = stood_all k next before.standing (λ i o. o ≡ Some s → IsIn db version s) (at_sites after sites s) (λ i apart f. fits.sites i s f) j (sym (there j) ∙ is)
+    sites_now true e j s is =
+        stood_all k next before.standing (λ i o. o ≡ Some s → IsIn db (suc version) s)
+        (λ f. closed_in version (suc version) s (sym (ap is_open f) ∙ (ends e).1) (at_sites after sites s f))
+        (λ i apart f. absurd (others_none (ends e).0 i apart s f)) j (sym (there j) ∙ is)
+
+    moving_now : (b : Bool) → raised ≡ b → (j : Txn) → is_moving (table.standing j) ≡ true → IsMoving db table j
+    moving_now true e j moves = absurd (stood_all k next before.standing (λ i o. is_moving o ≡ true → ⊥) (λ f. clash (moving_open next f) (ends e).1)
+        (λ i apart f. let s = moving_some (before.standing i) f in others_none (ends e).0 i apart s.0 s.1) j (ap is_moving (sym (there j)) ∙ moves))
+    moving_now false e j moves = stood_all k next before.standing (λ i o. is_moving o ≡ true → IsMoving db table i) at_its
+        (λ i apart f. let is : k ≡ i = (fits.moving i f).alone k (ap is_some here) in clash (subst (λ x. is_txn k x ≡ true) is (txn_self k)) apart) j (ap is_moving (sym (there j)) ∙ moves)
+      where
+        at_its : is_moving next ≡ true → IsMoving db table k
+        at_its f = let was = fits.moving k (ap is_moving here ∙ kind f) in record {
+          alone = λ other stands. was.alone other (was_there other stands);
+          next = subst (λ n. (name : List ℕ) × IsNext (db.catalogue n) (db.catalogue (suc n)) name) (sym (if_false raised (suc version) version e)) was.next;
+        }
+
     pub fits_after : Fits db new table
     fits_after = record {
       rows = rows_are;
       life = fits.life ∙ sym keeps.life;
-      version = fits.version ∙ sym keeps.version;
+      version = ap (λ n. if raised then suc n else n) fits.version ∙ sym keeps.version;
       listed = λ j e. subst (In j) (sym keys_are) (in_filter stands_still j before.txns (fits.listed j (was_there j e)) e);
       lives = λ j listed. (from_filter stands_still j before.txns (subst (In j) keys_are listed)).1;
       begun = λ j e. fits.begun j (was_there j e);
-      sites = λ j s e. stood_all k next before.standing (λ i o. o ≡ Some s → IsIn db before.version s) (at_sites after sites s) (λ i apart f. fits.sites i s f) j (sym (there j) ∙ e);
+      sites = λ j s e. sites_now raised refl j s e;
+      moving = λ j moves. moving_now raised refl j moves;
       counted = counts ∙ sym among;
       short = λ j. subst (λ o. desk.is_short_txn (txn_of db o) ≡ true) (sym (there j)) (stood_all k next before.standing (λ i o. desk.is_short_txn (txn_of db o) ≡ true) short (λ i apart. fits.short i) j);
       few = let a : left ≤ undecided = less in let b : undecided ≤ 256 = fits.few in omega arith;

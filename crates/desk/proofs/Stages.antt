@@ -42,8 +42,8 @@ module _ (db : Database) (t : Name) (u : desk.Undecided (language db)) (particip
 
 -- a transaction ends, whatever rule ends it
 pub ends_as : (db : Database) (txn : Txn) (old : Option TxnState) (u : Undecided) (participants : List Participant) (deed : desk.Deed (language db)) (wanted : desk.Transition (language db)) → {E : Type 0} (result : Result Transition E) → participants ≡ u.participants → AreParticipants db u.participants →
-    wanted ≡ desk.ends_by (txn_name txn) (undecided_of db u) deed → (AreParticipants db participants → IfOk result (λ turn. IsTransition db txn old turn (desk.ends_by (txn_name txn) (undecided_of db (record { participants = participants; stage = u.stage })) deed))) →
+    wanted ≡ desk.ends_by (txn_name txn) (undecided_of db u) deed → (AreParticipants db participants → IfOk result (λ turn. IsTransition db txn old turn (desk.ends_by (txn_name txn) (undecided_of db (record { participants = participants; stage = u.stage; moves = u.moves })) deed))) →
     IfOk result (λ turn. IsTransition db txn old turn wanted)
 ends_as db txn old u participants deed wanted result same are is ends =
     subst (λ w. IfOk result (λ turn. IsTransition db txn old turn w)) (sym is)
-    (subst (λ ss. (AreParticipants db ss → IfOk result (λ turn. IsTransition db txn old turn (desk.ends_by (txn_name txn) (undecided_of db (record { participants = ss; stage = u.stage })) deed)))) same ends are)
+    (subst (λ ss. (AreParticipants db ss → IfOk result (λ turn. IsTransition db txn old turn (desk.ends_by (txn_name txn) (undecided_of db (record { participants = ss; stage = u.stage; moves = u.moves })) deed)))) same ends are)

@@ -1,5 +1,5 @@
 -- A statement that begins is the protocol's.
-use Rattle.std.proofs.Common.{◌≡◌, refl, sym, ap, ◌∙◌, subst, ℕ, List, [], ◌∷◌, ◌++◌, map, None, false}
+use Rattle.std.proofs.Common.{◌≡◌, refl, sym, ap, ◌∙◌, subst, ℕ, List, [], ◌∷◌, ◌++◌, map, None}
 use Rattle.std.proofs.lemmas.List.{map-append}
 use Rattle.std.specs.Option.{option_map}
 use Rattle.meaning.specs.declared.statement.Statement.{Statement}
@@ -38,7 +38,7 @@ states_some : (db : Database) (t : Name) (u : desk.Undecided (language db)) (s :
     desk.states t u s (map (ask_of db) asks) choice ≡ desk.after_letters (desk.opens t u (ask_leaves db asks)) (desk.asks_go t (desk.visits u (ask_leaves db asks)) s (map (ask_of db) asks))
 states_some db t u s choice first rest asks some = subst (λ (x : List Ask). desk.states t u s (map (ask_of db) x) choice ≡ desk.after_letters (desk.opens t u (ask_leaves db x)) (desk.asks_go t (desk.visits u (ask_leaves db x)) s (map (ask_of db) x))) (sym some) refl
 
-module _ (db : Database) (txn : Txn) (choice : desk.Choice (language db)) (u new : Undecided) (began : Reading) (first : Ask) (rest : List Ask) (some : began.asks.items ≡ first ∷ rest) (are : AreParticipants db u.participants) (have : HaveParticipants u.participants (ask_sites began.asks.items)) where
+module _ (db : Database) (txn : Txn) (choice : desk.Choice (language db)) (u new : Undecided) (began : Reading) (first : Ask) (rest : List Ask) (some : began.asks.items ≡ first ∷ rest) (are : AreParticipants db u.participants) (have : HaveParticipants u.participants (ask_sites began.asks.items)) (kind : new.moves ≡ u.moves) where
   abbrev asks : List Ask
   asks = began.asks.items
 
@@ -49,25 +49,25 @@ module _ (db : Database) (txn : Txn) (choice : desk.Choice (language db)) (u new
   leaves = ask_leaves db asks
 
   -- after the Opens, apart from its stage
-  opened_is : (st : Stage) → undecided_of db (record { participants = opened; stage = st }) ≡ record (desk.visits (undecided_of db u) leaves) { stage = stage_of db opened st }
+  opened_is : (st : Stage) → undecided_of db (record { participants = opened; stage = st; moves = u.moves }) ≡ record (desk.visits (undecided_of db u) leaves) { stage = stage_of db opened st }
   opened_is st = λ i. record {
-    visited = λ j. visited_now db txn u.participants are u.stage leaves (ask_sites asks) (homes_are db asks) have j i;
+    visited = λ j. visited_now db txn u.participants are u.stage u.moves leaves (ask_sites asks) (homes_are db asks) have j i;
     ticket = λ j. option_map name_of (kept_by_visits (ask_sites asks) u.participants (λ x. x.ticket) (λ x. refl) j i);
     sent = λ j. kept_by_visits (ask_sites asks) u.participants (λ x. x.sent) (λ x. refl) j i;
     stage = stage_of db opened st;
-    moves = false;
+    moves = u.moves;
   }
 
   pub reads_is : (reading : Reading) → reading.version ≡ began.version → reading.statement ≡ began.statement → reading.asks.items ≡ (asks_go txn asks opened).left → new.participants ≡ (asks_go txn asks opened).participants → new.stage ≡ stage.Reading reading →
       (step : Progress) → step.letters.items ≡ opens txn (ask_sites asks) u.participants ++ (asks_go txn asks opened).letters → step.reply ≡ None → IsProgress db txn new step (desk.states (txn_name txn) (undecided_of db u) (began.version, began.statement) (map (ask_of db) asks) choice)
   reads_is reading version statement left participants_now now step letters quiet =
       subst (IsProgress db txn new step) (sym (states_some db (txn_name txn) (undecided_of db u) (began.version, began.statement) choice first rest asks some)) (record {
-        stands = ap (λ x. desk.Known (undecided_of db (record { participants = new.participants; stage = x }))) now ∙ base.0 ∙ ap (λ v. (desk.asks_go (txn_name txn) v (began.version, began.statement) (map (ask_of db) asks)).txn) (opened_is (stage.Reading began));
+        stands = ap (λ x. desk.Known (undecided_of db (record { participants = new.participants; stage = x; moves = new.moves }))) now ∙ ap (λ m. desk.Known (undecided_of db (record { participants = new.participants; stage = stage.Reading reading; moves = m }))) kind ∙ base.0 ∙ ap (λ v. (desk.asks_go (txn_name txn) v (began.version, began.statement) (map (ask_of db) asks)).txn) (opened_is (stage.Reading began));
         letters = ap (map (sent db)) letters ∙ map-append (sent db) (opens txn (ask_sites asks) u.participants) (asks_go txn asks opened).letters
-            ∙ (λ i. opens_are db txn u.participants are u.stage leaves (ask_sites asks) (homes_are db asks) have i ++ (base.1 ∙ ap (λ v. (desk.asks_go (txn_name txn) v (began.version, began.statement) (map (ask_of db) asks)).letters) (opened_is (stage.Reading began))) i);
+            ∙ (λ i. opens_are db txn u.participants are u.stage u.moves leaves (ask_sites asks) (homes_are db asks) have i ++ (base.1 ∙ ap (λ v. (desk.asks_go (txn_name txn) v (began.version, began.statement) (map (ask_of db) asks)).letters) (opened_is (stage.Reading began))) i);
         replies = ap (told_to (txn_name txn)) quiet;
       })
     where
-      base : (desk.Known (undecided_of db (record { participants = new.participants; stage = stage.Reading reading })) ≡ (desk.asks_go (txn_name txn) (undecided_of db (record { participants = opened; stage = stage.Reading began })) (began.version, began.statement) (map (ask_of db) asks)).txn)
-          × (map (sent db) (asks_go txn asks opened).letters ≡ (desk.asks_go (txn_name txn) (undecided_of db (record { participants = opened; stage = stage.Reading began })) (began.version, began.statement) (map (ask_of db) asks)).letters)
-      base = reading_is db txn opened new.participants (asks_go txn asks opened).letters began reading version statement left participants_now refl
+      base : (desk.Known (undecided_of db (record { participants = new.participants; stage = stage.Reading reading; moves = u.moves })) ≡ (desk.asks_go (txn_name txn) (undecided_of db (record { participants = opened; stage = stage.Reading began; moves = u.moves })) (began.version, began.statement) (map (ask_of db) asks)).txn)
+          × (map (sent db) (asks_go txn asks opened).letters ≡ (desk.asks_go (txn_name txn) (undecided_of db (record { participants = opened; stage = stage.Reading began; moves = u.moves })) (began.version, began.statement) (map (ask_of db) asks)).letters)
+      base = reading_is db txn u.moves opened new.participants (asks_go txn asks opened).letters began reading version statement left participants_now refl

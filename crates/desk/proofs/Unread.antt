@@ -52,14 +52,15 @@ module _ (there schema : List RelationSchema) (same : there ≡ schema) where
   }))
 
 -- what is told of a statement that was read is told of its text, by whichever statement the protocol is asked
-pub ran_told : {A : Type 0} (result : Result A Refusal) (First Unread Busy Full : Refusal → Type 0) (one other : Option protocol.Refusal) (moves : Bool) → one ≡ None → other ≡ None → moves ≡ false →
-    IfErr result (λ told. First told ⊎ (option_map refused_as one ≡ Some told) ⊎ ((one ≡ None) × (((moves ≡ true) × Busy told) ⊎ Full told))) →
-    IfErr result (λ told. First told ⊎ (option_map refused_as other ≡ Some told) ⊎ ((other ≡ None) × (Unread told ⊎ Full told)))
-ran_told (Ok out) First Unread Busy Full one other moves free none ordinary why = tt
-ran_told (Err told) First Unread Busy Full one other moves free none ordinary (inl first) = inl first
-ran_told (Err told) First Unread Busy Full one other moves free none ordinary (inr (inl refused)) = let never : None ≡ Some told = sym (ap (option_map refused_as) free) ∙ refused in cc
-ran_told (Err told) First Unread Busy Full one other moves free none ordinary (inr (inr (is, inl busy))) = let never : false ≡ true = sym ordinary ∙ busy.0 in cc
-ran_told (Err told) First Unread Busy Full one other moves free none ordinary (inr (inr (is, inr full))) = inr (inr (none, inr full))
+pub ran_told : {A : Type 0} (result : Result A Refusal) (First Moving Unread Busy Full : Refusal → Type 0) (one other : Option protocol.Refusal) (moves : Bool) → one ≡ None → other ≡ None → moves ≡ false →
+    IfErr result (λ told. First told ⊎ ((option_map refused_as one ≡ Some told) ⊎ Moving told) ⊎ ((one ≡ None) × (((moves ≡ true) × Busy told) ⊎ Full told))) →
+    IfErr result (λ told. First told ⊎ ((option_map refused_as other ≡ Some told) ⊎ Moving told) ⊎ ((other ≡ None) × (Unread told ⊎ Full told)))
+ran_told (Ok out) First Moving Unread Busy Full one other moves free none ordinary why = tt
+ran_told (Err told) First Moving Unread Busy Full one other moves free none ordinary (inl first) = inl first
+ran_told (Err told) First Moving Unread Busy Full one other moves free none ordinary (inr (inl (inl refused))) = let never : None ≡ Some told = sym (ap (option_map refused_as) free) ∙ refused in cc
+ran_told (Err told) First Moving Unread Busy Full one other moves free none ordinary (inr (inl (inr moving))) = inr (inl (inr moving))
+ran_told (Err told) First Moving Unread Busy Full one other moves free none ordinary (inr (inr (is, inl busy))) = let never : false ≡ true = sym ordinary ∙ busy.0 in cc
+ran_told (Err told) First Moving Unread Busy Full one other moves free none ordinary (inr (inr (is, inr full))) = inr (inr (none, inr full))
 
 -- what holds of a result holds of it with less
 pub if_ok : {A E : Type 0} (result : Result A E) {P Q : A → Type 0} → ((x : A) → P x → Q x) → IfOk result P → IfOk result Q

@@ -1,5 +1,5 @@
 -- Who is to commit, and who has acknowledged.
-use Rattle.std.specs.Prelude.{◌≡◌, ℕ, nat_eq, Bool, true, false, ◌&&◌, not, List, [], ◌∷◌, ◌++◌, map, Option, Some, None, if◌then◌else◌}
+use Rattle.std.specs.Prelude.{◌≡◌, ℕ, suc, nat_eq, Bool, true, false, ◌&&◌, not, List, [], ◌∷◌, ◌++◌, map, Option, Some, None, if◌then◌else◌}
 use Rattle.std.specs.Cmp.Lexicographic.{pointwise}
 use Rattle.std.specs.FinMap as keyed
 use Rattle.std.specs.List.{filter_map, list_all, list_any}
@@ -77,11 +77,11 @@ kept_voters None = None
 kept_voters (Some (standing.Undecided undecided)) = None
 kept_voters (Some (standing.Committed committed)) = Some (by_site committed.voters)
 
--- the store keeps these voters of a transaction, or no longer any, and nothing else has changed
-pub record Keeps (txn : Txn) (voters : Option Voters) (old new : DeskContent) : Type 0 where
+-- the store keeps these voters of a transaction, or no longer any, and, where the next catalogue comes into force, its number; nothing else has changed
+pub record Keeps (txn : Txn) (voters : Option Voters) (raised : Bool) (old new : DeskContent) : Type 0 where
   pub commits : (other : Txn) → new.commits other ≡ (if is_txn txn other then voters else old.commits other)
   pub life : new.life ≡ old.life
-  pub version : new.version ≡ old.version
+  pub version : new.version ≡ (if raised then suc old.version else old.version)
 
 -- a voter has acknowledged
 abbrev pub with_ack : Committed → List ℕ → Ticket → Committed

@@ -1,10 +1,14 @@
 -- Which votes count.
-use Rattle.std.specs.Prelude.{ℕ, Bool, true, false, ◌&&◌, List, Option, Some, None, is_none}
+use Rattle.std.specs.Prelude.{ℕ, Bool, true, false, ◌&&◌, List, [], ◌∷◌, Option, Some, None, is_none}
+use Rattle.store.specs.declared.commit.Voter.{Voter}
 use Rattle.store.specs.declared.name.Ticket.{Ticket}
 use Rattle.desk.specs.declared.participant.Participant.{Participant}
 use Rattle.desk.specs.declared.transaction.Stage.TheVariants as stage
 use Rattle.desk.specs.declared.transaction.Stage.{Stage}
+use Rattle.desk.specs.declared.transaction.TxnState.TheVariants as standing
 use Rattle.desk.specs.declared.transaction.Undecided.{Undecided}
+use Rattle.desk.specs.declared.transition.After.{After}
+use Rattle.desk.specs.declared.transition.After.TheVariants.{Ends, Becomes}
 use Rattle.desk.specs.Orders.{is_voting}
 use Rattle.desk.specs.Participants.{participant_in}
 use Rattle.desk.specs.Acknowledge.{is_ticket}
@@ -21,6 +25,11 @@ awaits_vote ticket participant = is_first ticket participant.ticket && is_none p
 -- whether a vote counts: in the first phase, the first one of its site, under the site's first ticket
 abbrev pub counts_vote : Undecided → List ℕ → Ticket → Bool
 counts_vote undecided site ticket = is_voting undecided.stage && awaits_vote ticket (participant_in site undecided.participants)
+
+-- what a committed transaction becomes: a commit row, if it has voters
+abbrev pub committed_by : List Voter → After
+committed_by [] = Ends
+committed_by (voter ∷ voters) = Becomes (standing.Committed (record { voters = voter ∷ voters; acked = [] }))
 
 -- whether the transaction stands between two statements
 abbrev pub is_idle : Stage → Bool

@@ -1,5 +1,5 @@
 -- What calls leave of the coordinator, and why they fail.
-use Rattle.std.specs.Prelude.{◌≡◌, ◌⊎◌, ◌+◌, ◌^◌, ◌≤◌, nat_eq, ℕ, Bool, true, false, List, [], Some, None, is_some, Result, Err, IsOk, IfOk, IfErr, OnOk, OnErr}
+use Rattle.std.specs.Prelude.{◌≡◌, ◌⊎◌, ◌+◌, ◌^◌, ◌≤◌, nat_eq, ℕ, Bool, true, false, List, [], Some, None, is_some, Result, Err, IsOk, IfOk, IfErr, OnOk, OnErr, ◌≢◌, Option}
 use Rattle.std.specs.Cmp.Lexicographic.{pointwise}
 use Rattle.std.specs.List.{list_any}
 use Rattle.terms.specs.declared.memory.Memory.{Memory}
@@ -32,13 +32,17 @@ use Rattle.desk.specs.Called.{CallsStore}
 use Rattle.desk.specs.Request.{IsAt, IsOver, txn_in}
 use Rattle.desk.specs.Database.{Database, language, replied}
 use Rattle.desk.specs.Does.{IsPastLimits, Takes}
-use Rattle.desk.specs.OfCatalogue.{InForce, IsOfCatalogue}
+use Rattle.desk.specs.OfCatalogue.{InForce, IsNextOf, IsOfCatalogue}
 use Rattle.desk.specs.Recovery.{IsStrange, Restarts, Rises}
-use Rattle.desk.specs.State.{Fits, volatile_of}
+use Rattle.desk.specs.State.{Fits, desk_of, volatile_of}
+use Rattle.desk.specs.Refragmented.{IsNoNext, Refragments}
+use Rattle.meaning.specs.declared.statement.Refragment.{Refragment}
+use Rattle.catalog.specs.declared.relation.SplitRelation.{SplitRelation}
+use Rattle.catalog.specs.Relation.{catalogue_of}
 use Rattle.desk.specs.Participants.{sites_of}
 use Rattle.desk.specs.Receive.{is_strange, may_send}
 use Rattle.desk.specs.Send.{AreShort, IsPast}
-use Rattle.desk.specs.Transition.{AtSites, after_of}
+use Rattle.desk.specs.Transition.{AtSites, after_of, is_moving, raises, says_committed}
 
 -- a call puts out these letters and replies, and no store counts as having refused
 pub record PutsOut (out : Out) (written : List Letter) (heard : List Notice) : Type 0 where
@@ -57,8 +61,9 @@ pub record StepsBelowLimits (old new : Volatile) (result : Result Out Refusal) :
   pub err : OnErr result (volatile_of new ≡ volatile_of old)
   pub own : IfErr result (λ told. (told ≡ refusals.Memory) ⊎ (told ≡ refusals.Full))
 
--- a statement's step is made in memory alone, of a transaction for which the protocol refuses none
+-- a statement's step is made in memory alone, of a transaction that may state one
 pub record StatesInMemory (old new : Volatile) (txn : Txn) (result : Result Out Refusal) : Type 0 where
+  pub still : OnOk result (is_moving ((volatile_of old).standing txn) ≡ false)
   pub kept : IfOk result (λ out. out.kept ≡ true)
   pub err : OnErr result (volatile_of new ≡ volatile_of old)
   pub accepted : (db : Database) (statement : Statement) → OnOk result (protocol.refusal (protocol.State ((volatile_of old).version, statement)) (txn_in db (volatile_of old) txn) ≡ None)
@@ -70,24 +75,28 @@ pub record StepsPlainly {S : Type 0} (old new : Desk S) (result : Result Out Ref
   pub store : new.store ≡ old.store
   pub catalog : new.catalog ≡ old.catalog
 
--- so it makes a statement's, of a transaction for which the protocol refuses none
+-- so it makes a statement's, of a transaction that may state one
 pub record StatesPlainly {S : Type 0} (old new : Desk S) (txn : Txn) (result : Result Out Refusal) : Type 0 where
+  pub still : OnOk result (is_moving ((volatile_of old.volatile).standing txn) ≡ false)
   pub plainly : StepsPlainly old new result
   pub accepted : (db : Database) (statement : Statement) → OnOk result (protocol.refusal (protocol.State ((volatile_of old.volatile).version, statement)) (txn_in db (volatile_of old.volatile) txn) ≡ None)
 
--- a step that calls no store leaves what stands there
+-- a step that calls no store leaves what stands there, and nobody hears that it is committed
 pub record LeavesStanding (result : Result Transition Memory) : Type 0 where
   pub after : IfOk result (λ turn. turn.after ≡ Stays)
+  pub quiet : IfOk result (λ turn. says_committed turn.reply ≡ false)
   pub kept : IfOk result (λ turn. turn.kept ≡ true)
 
--- a step of an undecided transaction calls no store: the transaction keeps its sites, and has no commit row
+-- a step of an undecided transaction calls no store: the transaction keeps its sites, and has no commit row, and no next catalogue comes into force by it
 pub record LeavesNoRow (old : Undecided) (result : Result Transition Memory) : Type 0 where
+  pub quiet : IfOk result (λ turn. raises (Some (standing.Undecided old)) turn.reply ≡ false)
   pub sites : IfOk result (λ turn. AtSites (sites_of old.participants) turn.after)
   pub keeps : IfOk result (λ turn. kept_voters (after_of (Some (standing.Undecided old)) turn.after) ≡ None)
   pub kept : IfOk result (λ turn. turn.kept ≡ true)
 
--- the step that a client asks for calls no store: a transaction keeps its sites and its commit row, and nothing comes to stand where nothing stood
+-- the step that a client asks for calls no store: a transaction keeps its sites and its commit row, nothing comes to stand where nothing stood, and no next catalogue comes into force
 pub record LeavesRows (old : Volatile) (txn : Txn) (result : Result Transition Refusal) : Type 0 where
+  pub quiet : IfOk result (λ turn. raises ((volatile_of old).standing txn) turn.reply ≡ false)
   pub sites : (db : Database) → IsAt db ((volatile_of old).standing txn) → IfOk result (λ turn. AtSites db.sites turn.after)
   pub keeps : IfOk result (λ turn. kept_voters (after_of ((volatile_of old).standing txn) turn.after) ≡ kept_voters ((volatile_of old).standing txn))
   pub kept : IfOk result (λ turn. turn.kept ≡ true)
@@ -123,25 +132,36 @@ pub record BeginsOrFails {S T : Type 0} (is_clean is_sound : S → Type 0) (kept
   pub damaged : Soundly is_clean is_sound old new (result ≡ Err (refusals.Store store_faults.Damaged) → IsStrange sites (kept new))
   pub own : IfErr result (λ told. (told ≡ refusals.Memory) ⊎ (told ≡ refusals.Full) ⊎ (told ≡ refusals.Store store_faults.Refused) ⊎ (told ≡ refusals.Store store_faults.Damaged))
 
--- a letter is taken, where `may` is true with the store: it makes the protocol's step, Full only where that would lead past the limits; a letter of no
+-- a letter is taken, where `may` is true with the store; next: the catalogue that comes next, if one does; it makes the protocol's step, Full only where that would lead past the limits; a letter of no
 -- site of the catalogue, and one that no site sends, are passed over; after a refusal nothing has changed
-pub record TakesLetter {S : Type 0} (is_clean is_sound : S → Type 0) (kept : S → DeskContent) (refused : S → ℕ) (old new : Desk S) (letter : Letter) (may : Bool) (result : Result Out Refusal) : Type 0 where
+pub record TakesLetter {S : Type 0} (is_clean is_sound : S → Type 0) (kept : S → DeskContent) (refused : S → ℕ) (old new : Desk S) (letter : Letter) (may : Bool) (next : Option (List (List ℕ) × List SplitRelation)) (result : Result Out Refusal) : Type 0 where
   pub store : StepsStore is_clean is_sound kept refused old.store new.store may result (λ out. out.kept)
-      ((db : Database) (reply : Reply) → IsOfCatalogue db → InForce db old.volatile.version old.catalog → Fits db (kept old.store) (volatile_of old.volatile) → letter.body ≡ bodies.Reply reply
+      ((db : Database) (reply : Reply) → IsOfCatalogue db → InForce db old.volatile.version old.catalog → IsNextOf db old.volatile.version next → Fits db (kept old.store) (volatile_of old.volatile) → letter.body ≡ bodies.Reply reply
       → CallsStore {L = language db} letter.site (replied db letter.site reply) (txn_in db (volatile_of old.volatile) letter.txn))
-  pub ok : (db : Database) (reply : Reply) → IsOfCatalogue db → InForce db old.volatile.version old.catalog → is_clean new.store → is_sound old.store → Fits db (kept old.store) (volatile_of old.volatile)
+  pub ok : (db : Database) (reply : Reply) → IsOfCatalogue db → InForce db old.volatile.version old.catalog → IsNextOf db old.volatile.version next → is_clean new.store → is_sound old.store → Fits db (kept old.store) (volatile_of old.volatile)
       → letter.body ≡ bodies.Reply reply → list_any (λ site. pointwise nat_eq site letter.site) db.sites ≡ true
       → IfOk result (λ out. Takes db (volatile_of old.volatile) (kept new.store) (volatile_of new.volatile) letter.txn
       (λ choice. on_desk_letter (txn_name letter.txn) letter.site out.kept choice (replied db letter.site reply) (txn_in db (volatile_of old.volatile) letter.txn)) out.letters out.replies)
   pub strange : is_strange old.catalog.0 letter ≡ true → IsOk result × ((new.volatile ≡ old.volatile) × (new.store ≡ old.store))
   pub silent : is_strange old.catalog.0 letter ≡ true → IfOk result (λ out. (out.letters ≡ []) × (out.replies ≡ []) × (out.kept ≡ true))
   pub own : IfErr result (λ told. (told ≡ refusals.Memory) ⊎ (told ≡ refusals.Full))
-  pub full : (db : Database) (reply : Reply) → IsOfCatalogue db → InForce db old.volatile.version old.catalog → Fits db (kept old.store) (volatile_of old.volatile)
+  pub full : (db : Database) (reply : Reply) → IsOfCatalogue db → InForce db old.volatile.version old.catalog → IsNextOf db old.volatile.version next → Fits db (kept old.store) (volatile_of old.volatile)
       → letter.body ≡ bodies.Reply reply → list_any (λ site. pointwise nat_eq site letter.site) db.sites ≡ true → result ≡ Err refusals.Full
       → IsPastLimits db (volatile_of old.volatile) letter.txn (λ choice. on_desk_letter (txn_name letter.txn) letter.site true choice (replied db letter.site reply) (txn_in db (volatile_of old.volatile) letter.txn))
   pub full_at : (reply : Reply) → letter.body ≡ bodies.Reply reply → result ≡ Err refusals.Full → may_send ((volatile_of old.volatile).standing letter.txn) letter.site reply ≡ true
   pub err : OnErr result (volatile_of new.volatile ≡ volatile_of old.volatile)
   pub catalog : new.catalog ≡ old.catalog
+
+-- a transaction of its own gives a relation the split that the next catalogue has for it: its first step is the protocol's; Full only past the limits, NotAlone only
+-- where something stands, NoNext only where that catalogue is no next one by this relation; the store and the catalogue are as they were
+pub record RefragmentsDesk {S : Type 0} (kept : S → DeskContent) (old new : Desk S) (next : Option (List (List ℕ) × List SplitRelation)) (refragment : Refragment) (result : Result Out Refusal) : Type 0 where
+  pub plainly : StepsPlainly old new result
+  pub ok : (db : Database) → IsOfCatalogue db → InForce db old.volatile.version old.catalog → IsNextOf db old.volatile.version next → Fits db (kept old.store) (volatile_of old.volatile)
+      → IfOk result (λ out. Refragments db (volatile_of old.volatile) (kept new.store) (volatile_of new.volatile) refragment out.letters out.replies)
+  pub own : IfErr result (λ told. (told ≡ refusals.Memory) ⊎ (told ≡ refusals.Full) ⊎ (told ≡ refusals.NotAlone) ⊎ (told ≡ refusals.NoNext))
+  pub full : (db : Database) → Fits db (kept old.store) (volatile_of old.volatile) → result ≡ Err refusals.Full → protocol.is_desk_within (protocol.began_as true (desk_of db (volatile_of old.volatile))) ≡ false
+  pub alone : result ≡ Err refusals.NotAlone → (volatile_of old.volatile).txns ≢ []
+  pub none : result ≡ Err refusals.NoNext → IsNoNext (catalogue_of old.catalog) next refragment.relation.name
 
 -- a restart of the coordinator: who was undecided is lost, and the rows of the store stand; after a refusal nothing has changed
 pub record RestartsDesk {S : Type 0} (is_clean is_sound : S → Type 0) (kept : S → DeskContent) (refused : S → ℕ) (old new : Desk S) (result : Result Out Refusal) : Type 0 where

@@ -23,6 +23,8 @@ pub mod State
 pub mod Begun
 pub mod Request
 pub mod Does
+pub mod Refragmented
 pub mod Recovery
 pub mod Receive
 pub mod Frame
+pub mod Coordinator

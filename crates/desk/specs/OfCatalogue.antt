@@ -1,5 +1,5 @@
 -- What a database has to do with its catalogues.
-use Rattle.std.specs.Prelude.{◌≡◌, ◌↔◌, ℕ, suc, true, List, map, Some}
+use Rattle.std.specs.Prelude.{◌≡◌, ◌↔◌, ⊤, ℕ, suc, true, List, [], ◌∷◌, map, Option, None, Some}
 use Rattle.std.specs.FinMap as keyed
 use Rattle.std.specs.List.{AllByRecursion, slice_get}
 use Rattle.terms.specs.declared.value.Value.{Value}
@@ -44,3 +44,23 @@ pub record IsOfCatalogue (db : Database) : Type 0 where
 -- the catalogue of this number is the one that was read
 abbrev pub InForce : Database → ℕ → List (List ℕ) × List SplitRelation → Type 0
 InForce db n catalog = db.catalogue n ≡ catalogue_of catalog
+
+-- the catalogue that comes after that of this number, if one does, is the one that was read
+abbrev pub IsNextOf : Database → ℕ → Option (List (List ℕ) × List SplitRelation) → Type 0
+IsNextOf db n None = ⊤
+IsNextOf db n (Some next) = InForce db (suc n) next
+
+-- these come after it, in this order
+abbrev pub AreNextOf : Database → ℕ → List (List (List ℕ) × List SplitRelation) → Type 0
+AreNextOf db n [] = ⊤
+AreNextOf db n (next ∷ rest) = InForce db (suc n) next × AreNextOf db (suc n) rest
+
+-- the first of these, if there is one
+abbrev pub first_in : List (List (List ℕ) × List SplitRelation) → Option (List (List ℕ) × List SplitRelation)
+first_in [] = None
+first_in (next ∷ rest) = Some next
+
+-- the catalogues from the one in force on, once the next one is: past the end the last one stays
+abbrev pub follow : List (List ℕ) × List SplitRelation → List (List (List ℕ) × List SplitRelation) → (List (List ℕ) × List SplitRelation) × List (List (List ℕ) × List SplitRelation)
+follow catalog [] = (catalog, [])
+follow catalog (next ∷ rest) = (next, rest)

@@ -3,7 +3,7 @@ use Rattle.std.specs.Prelude.{ℕ, List, codes}
 use Rattle.store.specs.declared.fault.StoreFault.{StoreFault}
 use Rattle.store.specs.declared.fault.StoreFault.TheVariants as store
 use Rattle.desk.specs.declared.refusal.Refusal as refusals
-use Rattle.desk.specs.declared.refusal.Refusal.TheVariants.{NoTransaction, Busy, Ended, Full, Read, Aborted, Memory, Store, NoNext}
+use Rattle.desk.specs.declared.refusal.Refusal.TheVariants.{NoTransaction, Busy, Ended, Full, Read, Aborted, Memory, Store, NotAlone, NoNext, Chain}
 
 abbrev pub refusal_name : refusals.Refusal → List ℕ
 refusal_name NoTransaction = codes "NoTransaction"
@@ -14,7 +14,9 @@ refusal_name (Read fault) = codes "Read"
 refusal_name (Aborted why) = codes "Aborted"
 refusal_name Memory = codes "Memory"
 refusal_name (Store fault) = codes "Store"
+refusal_name NotAlone = codes "NotAlone"
 refusal_name NoNext = codes "NoNext"
+refusal_name Chain = codes "Chain"
 
 abbrev pub refusal_number : refusals.Refusal → ℕ
 refusal_number NoTransaction = 1
@@ -25,7 +27,9 @@ refusal_number (Read fault) = 5
 refusal_number (Aborted why) = 6
 refusal_number Memory = 7
 refusal_number (Store fault) = 8
+refusal_number NotAlone = 9
 refusal_number NoNext = 10
+refusal_number Chain = 11
 
 -- a store's fault as the coordinator's
 abbrev pub refusal_of : StoreFault → refusals.Refusal

@@ -1,5 +1,7 @@
 -- What clients ask for, and what is refused.
-use Rattle.std.specs.Prelude.{◌≡◌, ℕ, List, [], ◌∷◌, Option, Some, None}
+use Rattle.std.specs.Prelude.{◌≡◌, ◌⊎◌, ℕ, true, List, [], ◌∷◌, Option, Some, None}
+use Rattle.std.specs.Option.{option_map}
+use Rattle.meaning.specs.declared.statement.Statement.{Statement}
 use Rattle.reader.specs.Printable.{AreDistinct}
 use Rattle.store.specs.declared.name.Txn.{Txn}
 use Rattle.protocol.specs.Desk as protocol
@@ -14,7 +16,7 @@ use Rattle.desk.specs.declared.transaction.Undecided.{Undecided}
 use Rattle.desk.specs.Database.{Database, language}
 use Rattle.desk.specs.Acknowledge.{AreInOrder}
 use Rattle.desk.specs.State.{VolatileState, desk_of}
-use Rattle.desk.specs.Transition.{AreParticipants}
+use Rattle.desk.specs.Transition.{AreParticipants, is_moving}
 
 -- the database has these sites, each once
 pub record IsOver (db : Database) (those : List (List ℕ)) : Type 0 where
@@ -36,6 +38,11 @@ refused_as protocol.Ended = Ended
 -- what stands behind a transaction, as the protocol sees it
 abbrev pub txn_in : (db : Database) → VolatileState → Txn → protocol.Txn (language db)
 txn_in db table txn = (desk_of db table).txn (txn_name txn)
+
+-- why a transaction states no statement: the protocol refuses one, or it gives a relation another split, and has stated all that it does
+abbrev pub WhyNotStated : Database → VolatileState → Txn → Statement → refusals.Refusal → Type 0
+WhyNotStated db table txn statement told =
+    (option_map refused_as (protocol.refusal {L = language db} (protocol.State (table.version, statement)) (txn_in db table txn)) ≡ Some told) ⊎ ((is_moving (table.standing txn) ≡ true) × (told ≡ Busy))
 
 -- a reply to a transaction's client, if there is one
 abbrev pub notices : Txn → Option Reply → List Notice

@@ -1,17 +1,19 @@
 -- The coordinator's state: what its store keeps, and what it has in memory.
-use Rattle.std.specs.Prelude.{◌≡◌, ℕ, ◌^◌, ◌<◌, ◌≤◌, ◌⊎◌, Bool, true, false, List, [], ◌∷◌, map, length, filter, Option, Some, None, is_some}
+use Rattle.std.specs.Prelude.{◌≡◌, ℕ, suc, ◌^◌, ◌<◌, ◌≤◌, ◌⊎◌, Bool, true, false, List, [], ◌∷◌, map, length, filter, Option, Some, None, is_some}
 use Rattle.std.specs.BTreeMap.{is_at}
-use Rattle.std.specs.List.{filter_map}
+use Rattle.std.specs.List.{filter_map, list_any}
 use Rattle.std.specs.List.Sorted.{IsStrictlySortedBy}
 use Rattle.std.specs.Map.{lookup, keys_of, remove_entry, set_value}
 use Rattle.store.specs.declared.letter.Letter.{Letter}
 use Rattle.store.specs.declared.name.Txn.{Txn}
 use Rattle.store.specs.DeskContent.{DeskContent}
 use Rattle.store.specs.Name.{txn_cmp}
+use Rattle.catalog.specs.Chain.{IsNext}
 use Rattle.protocol.specs.Desk as protocol
 use Rattle.protocol.specs.Language.{Name}
 use Rattle.protocol.specs.Letters.{txn_name}
 use Rattle.protocol.specs.Parts.{In}
+use Rattle.protocol.specs.World.{version_after}
 use Rattle.desk.specs.declared.volatile.Volatile.{Volatile}
 use Rattle.desk.specs.declared.reply.Notice.{Notice}
 use Rattle.desk.specs.declared.transaction.TxnState.{TxnState}
@@ -23,7 +25,7 @@ use Rattle.desk.specs.Planned.{IsPlanned}
 use Rattle.desk.specs.Participants.{sites_of}
 use Rattle.desk.specs.Transaction.{txn_of}
 use Rattle.desk.specs.Stepped.{IsAtHome}
-use Rattle.desk.specs.Transition.{told}
+use Rattle.desk.specs.Transition.{is_moving, told}
 use Rattle.desk.specs.Acknowledge.{AreInOrder, kept_voters}
 
 -- what is in memory, read transaction by transaction
@@ -94,6 +96,15 @@ IsBegun table txn = (txn.life < table.life) ⊎ ((txn.life ≡ table.life) × (t
 abbrev pub open_among : (Txn → Option TxnState) → List Txn → ℕ
 open_among standing txns = length (filter (λ txn. is_open (standing txn)) txns)
 
+-- whether any transaction that is undecided gives a relation another split
+abbrev pub anyone_moves : VolatileState → Bool
+anyone_moves table = list_any (λ txn. is_moving (table.standing txn)) table.txns
+
+-- a transaction that gives a relation another split: nothing else stands, and there is a next catalogue, which splits one relation otherwise
+pub record IsMoving (db : Database) (table : VolatileState) (txn : Txn) : Type 0 where
+  pub alone : (other : Txn) → is_some (table.standing other) ≡ true → other ≡ txn
+  pub next : (name : List ℕ) × IsNext (db.catalogue table.version) (db.catalogue (suc table.version)) name
+
 -- what is in memory fits what the store keeps
 pub record Fits (db : Database) (kept : DeskContent) (table : VolatileState) : Type 0 where
   -- the voters of decided transactions are those of the store's rows
@@ -108,6 +119,8 @@ pub record Fits (db : Database) (kept : DeskContent) (table : VolatileState) : T
   pub begun : (txn : Txn) → is_some (table.standing txn) ≡ true → IsBegun table txn
   -- each has to do with the sites of the database, and with the catalogue in force
   pub sites : (txn : Txn) (standing : TxnState) → table.standing txn ≡ Some standing → IsIn db table.version standing
+  -- who gives a relation another split does so alone
+  pub moving : (txn : Txn) → is_moving (table.standing txn) ≡ true → IsMoving db table txn
   -- so many are undecided
   pub counted : table.undecided ≡ open_among table.standing table.txns
   -- the limits are kept
@@ -130,15 +143,15 @@ pub record Steps (db : Database) (before : VolatileState) (kept : DeskContent) (
   pub fits : Fits db kept after
   pub within : protocol.is_desk_within (desk_of db after) ≡ true
   pub state : desk_of db after ≡ protocol.desk_after (desk_of db before) (txn_name txn) wanted.txn
-  pub version : after.version ≡ before.version
+  pub version : after.version ≡ version_after before.version ((desk_of db before).txn (txn_name txn)) (txn_name txn) wanted.deeds
   pub letters : map (sent db) written ≡ wanted.letters
   pub replies : map notice_of notices ≡ filter_map (told db) wanted.deeds
 
--- a transaction begins: the state after it is the protocol's, and its client hears that it has begun
-pub record Begins (db : Database) (before : VolatileState) (kept : DeskContent) (after : VolatileState) (written : List Letter) (notices : List Notice) : Type 0 where
+-- a transaction begins, moves: one that is to give a relation another split; the state after it is the protocol's, and its client hears that it has begun
+pub record Begins (db : Database) (moves : Bool) (before : VolatileState) (kept : DeskContent) (after : VolatileState) (written : List Letter) (notices : List Notice) : Type 0 where
   pub fits : Fits db kept after
   pub within : protocol.is_desk_within (desk_of db after) ≡ true
-  pub state : desk_of db after ≡ protocol.desk_began (desk_of db before)
+  pub state : desk_of db after ≡ protocol.began_as moves (desk_of db before)
   pub version : after.version ≡ before.version
   pub letters : written ≡ []
   pub replies : map notice_of notices ≡ filter_map (told db) (protocol.Began (protocol.next_txn (desk_of db before)) ∷ [])

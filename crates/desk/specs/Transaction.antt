@@ -1,5 +1,5 @@
 -- What stands behind transactions, as the protocol has it.
-use Rattle.std.specs.Prelude.{ℕ, List, map, Option, Some, None, false}
+use Rattle.std.specs.Prelude.{ℕ, List, map, Option, Some, None}
 use Rattle.std.specs.Option.{option_map}
 use Rattle.store.specs.declared.commit.Voter.{Voter}
 use Rattle.protocol.specs.Desk as protocol
@@ -44,7 +44,7 @@ undecided_of db undecided = record {
   ticket = λ site. option_map name_of (participant_in site undecided.participants).ticket;
   sent = λ site. (participant_in site undecided.participants).sent;
   stage = stage_of db undecided.participants undecided.stage;
-  moves = false;
+  moves = undecided.moves;
 }
 
 -- a voter

@@ -1,5 +1,5 @@
 -- What a step makes of a transaction, as the protocol has it.
-use Rattle.std.specs.Prelude.{◌≡◌, ℕ, List, [], ◌∷◌, map, Option, Some, None}
+use Rattle.std.specs.Prelude.{◌≡◌, ℕ, Bool, true, false, ◌&&◌, List, [], ◌∷◌, map, Option, Some, None}
 use Rattle.std.specs.List.{filter_map}
 use Rattle.reader.specs.Printable.{AreDistinct}
 use Rattle.store.specs.declared.name.Txn.{Txn}
@@ -72,9 +72,24 @@ pub record IsTransition (db : Database) (txn : Txn) (old : Option TxnState) (tur
   pub letters : map (sent db) turn.letters.items ≡ wanted.letters
   pub replies : told_to (txn_name txn) turn.reply ≡ filter_map (told db) wanted.deeds
 
--- a transaction in its first phase
-abbrev pub voting : List Participant → Undecided
-voting participants = record { participants = participants; stage = stage.Voting }
+-- a transaction in its first phase; moves: whether it gives a relation another split
+abbrev pub voting : Bool → List Participant → Undecided
+voting moves participants = record { participants = participants; stage = stage.Voting; moves = moves }
+
+-- whether an undecided transaction that gives a relation another split stands there
+abbrev pub is_moving : Option TxnState → Bool
+is_moving None = false
+is_moving (Some (standing.Undecided undecided)) = undecided.moves
+is_moving (Some (standing.Committed committed)) = false
+
+-- whether a client hears that its transaction is committed
+abbrev pub says_committed : Option Reply → Bool
+says_committed (Some Committed) = true
+says_committed reply = false
+
+-- whether a step brings the next catalogue into force: it commits a transaction that gives a relation another split
+abbrev pub raises : Option TxnState → Option Reply → Bool
+raises old reply = is_moving old && says_committed reply
 
 -- it is committed, and nobody is to be told
 abbrev pub commits_now : (db : Database) → Name → protocol.Transition (language db)

@@ -1,6 +1,6 @@
 //! Transactions end without a commit: rolled back, refused or given up.
 
-ghost use Rattle.std.specs.Prelude.{◌≡◌, Option, Some, IfOk, None, true};
+ghost use Rattle.std.specs.Prelude.{◌≡◌, Bool, Option, Some, IfOk, None, true, false};
 ghost use Rattle.protocol.specs.Desk.{Deed, ends_by, Choice, Given_up, on_known, on_refused, on_rollback};
 ghost use Rattle.protocol.specs.Letters.{txn_name};
 ghost use Rattle.desk.specs.declared.transaction.TxnState.TheVariants as standing;
@@ -11,7 +11,7 @@ ghost use Rattle.desk.specs.Database.{Database, language, replied};
 ghost use Rattle.desk.specs.Frame.{LeavesNoRow};
 ghost use Rattle.desk.specs.Orders.{abort_broadcast, is_voting};
 ghost use Rattle.desk.specs.Transaction.{undecided_of, stage_of};
-ghost use Rattle.desk.specs.Transition.{AreParticipants, IsTransition, told, AtSites, after_of};
+ghost use Rattle.desk.specs.Transition.{AreParticipants, IsTransition, told, AtSites, after_of, raises};
 ghost use Rattle.protocol.specs.Desk as protocol;
 ghost use Rattle.store.specs.declared.reply.Reply.TheVariants as reply;
 ghost use Rattle.desk.specs.Participants.{sites_of};
@@ -48,10 +48,11 @@ pub(crate) fn ends(
     reply: Reply,
     kept: bool,
 ) -> Result<Transition, Memory>
-    ensures turn { (db : Database) (old : Option TxnState) (stage : StageNow) (deed : Deed (language db)) → AreParticipants db participants.now → word ≡ abort_broadcast stage → told db deed ≡ Some (txn_name txn, reply)
-        → IfOk result (λ turn. IsTransition db txn old turn (ends_by (txn_name txn) (undecided_of db (record { participants = participants.now; stage = stage })) deed)) }
+    ensures turn { (db : Database) (old : Option TxnState) (stage : StageNow) (moves : Bool) (deed : Deed (language db)) → AreParticipants db participants.now → word ≡ abort_broadcast stage → told db deed ≡ Some (txn_name txn, reply)
+        → IfOk result (λ turn. IsTransition db txn old turn (ends_by (txn_name txn) (undecided_of db (record { participants = participants.now; stage = stage; moves = moves })) deed)) }
     ensures kept { IfOk result (λ turn. turn.kept ≡ kept) }
     ensures after { IfOk result (λ turn. turn.after ≡ Ends) }
+    ensures reply { IfOk result (λ turn. turn.reply ≡ Some reply) }
 {
     Ok(Transition {
         after: After::Ends,
@@ -138,6 +139,7 @@ pub(crate) fn on_refusal(
     ensures sites { IfOk result (λ turn. AtSites (sites_of undecided.now.participants) turn.after) }
     ensures keeps { IfOk result (λ turn. kept_voters (after_of (Some (standing.Undecided undecided.now)) turn.after) ≡ None) }
     ensures kept { IfOk result (λ turn. turn.kept ≡ true) }
+    ensures quiet { IfOk result (λ turn. raises (Some (standing.Undecided undecided.now)) turn.reply ≡ false) }
 {
     if gave_first(undecided.participants.as_slice(), site, &refusal.ticket) {
         refused(alloc, txn, undecided)

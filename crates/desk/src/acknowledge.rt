@@ -1,6 +1,6 @@
 //! Who is to commit, and who has acknowledged.
 
-ghost use Rattle.std.specs.Prelude.{◌≡◌, IfOk, OnOk, map, ◌++◌, ◌∷◌, [], ℕ, List, Some};
+ghost use Rattle.std.specs.Prelude.{false, ◌≡◌, IfOk, OnOk, map, ◌++◌, ◌∷◌, [], ℕ, List, Some};
 ghost use Rattle.store.specs.DeskContent.{by_site};
 ghost use Rattle.desk.specs.Acknowledge.{AreInOrder, are_acked, commit_letters, has_voter, is_voter, is_yes, voter_at, voter_with, voters_among, Keeps, is_new_ack, kept_voters, with_ack};
 ghost use Rattle.protocol.specs.Desk.{Row, on_row, on_ack};
@@ -159,7 +159,7 @@ pub(crate) fn on_row<S: DeskStore>(
         (on_row (txn_name txn) (map voter_of committed.now.voters) (map voter_of committed.now.acked) site.now turn.kept (replied db site.now reply.now))) }
     ensures sites { (sites : List (List ℕ)) → AreInOrder sites committed.now.voters → IfOk result (λ turn. AtSites sites turn.after) }
     ensures keeps { S.is_clean store.new → S.is_sound store.old → (S.kept store.old).commits txn ≡ Some (by_site committed.now.voters)
-        → IfOk result (λ turn. Keeps txn (kept_voters (after_of (Some (standing.Committed committed.now)) turn.after)) (S.kept store.old) (S.kept store.new)) }
+        → IfOk result (λ turn. Keeps txn (kept_voters (after_of (Some (standing.Committed committed.now)) turn.after)) false (S.kept store.old) (S.kept store.new)) }
 {
     match reply {
         Reply::Ack(ticket) => on_ack(store, alloc, txn, committed, site, *ticket, kept),
@@ -217,7 +217,7 @@ fn on_ack<S: DeskStore>(
         (on_ack {L = language db} (map voter_of committed.now.voters) (map voter_of committed.now.acked) (site.now, name_of ticket) turn.kept)) }
     ensures sites { (sites : List (List ℕ)) → AreInOrder sites committed.now.voters → IfOk result (λ turn. AtSites sites turn.after) }
     ensures keeps { S.is_clean store.new → S.is_sound store.old → (S.kept store.old).commits txn ≡ Some (by_site committed.now.voters)
-        → IfOk result (λ turn. Keeps txn (kept_voters (after_of (Some (standing.Committed committed.now)) turn.after)) (S.kept store.old) (S.kept store.new)) }
+        → IfOk result (λ turn. Keeps txn (kept_voters (after_of (Some (standing.Committed committed.now)) turn.after)) false (S.kept store.old) (S.kept store.new)) }
 {
     if !is_new(committed, site, &ticket) {
         return Ok(stays(alloc, true));

@@ -1,6 +1,6 @@
 //! The commit of a transaction: it is asked for, votes come, and it is decided.
 
-ghost use Rattle.std.specs.Prelude.{◌≡◌, None, Some, true, IfOk, ⊤, ℕ, List, ◌==◌, ◌<◌, length, map, false, Option};
+ghost use Rattle.std.specs.Prelude.{◌≡◌, None, Some, true, IfOk, OnOk, ⊤, ℕ, suc, Bool, List, ◌==◌, ◌<◌, ◌+◌, ◌^◌, ◌⊎◌, length, map, false, Option, if◌then◌else◌};
 ghost use Rattle.protocol.specs.Desk.{on_commit_call, Choice, Known, on_known, By_store, decides, ends_by, votes_go};
 ghost use Rattle.protocol.specs.Letters.{txn_name, is_no};
 ghost use Rattle.desk.specs.declared.transaction.TxnState.TheVariants as standing;
@@ -9,7 +9,11 @@ ghost use Rattle.desk.specs.Commit.{is_idle, awaits_vote, counts_vote, is_first}
 ghost use Rattle.desk.specs.Database.{Database, language, replied};
 ghost use Rattle.desk.specs.Participants.{sites_of, participant_in};
 ghost use Rattle.desk.specs.Transaction.{stage_of, undecided_of, voter_of, votes_of};
-ghost use Rattle.desk.specs.Transition.{AreParticipants, AtSites, IsTransition, after_of, commits_now, voting};
+ghost use Rattle.desk.specs.Transition.{AreParticipants, AtSites, IsTransition, after_of, commits_now, raises, voting};
+ghost use Rattle.desk.specs.Commit.{committed_by};
+ghost use Rattle.desk.specs.declared.transaction.Undecided.{Undecided as UndecidedNow};
+ghost use Rattle.desk.specs.declared.reply.Reply.TheVariants as replies;
+ghost use Rattle.desk.specs.declared.reply.Why.TheVariants as whys;
 ghost use Rattle.desk.specs.Acknowledge.{AreInOrder, kept_voters, Keeps};
 ghost use Rattle.reader.specs.Printable.{AreDistinct};
 ghost use Rattle.store.specs.declared.reply.Reply.TheVariants as reply;
@@ -30,6 +34,7 @@ use std::alloc::Global;
 use store::commit::Voter;
 use store::desk_store::DeskStore;
 use store::fault::StoreFault;
+use store::letter::Letter;
 use store::name::{Ticket, Txn};
 use store::reply::{Vote, Voted};
 use terms::memory::Memory;
@@ -55,6 +60,10 @@ pub(crate) fn commit(alloc: Global, txn: Txn, undecided: &Undecided) -> Result<T
     }
     let participants = without_votes(alloc, undecided.participants.as_slice())?;
     if are_all_in(&participants) {
+        // Who gives a relation another split has visited the sites of its leaves, so nothing is turned away here.
+        if undecided.moves {
+            return Err(Memory);
+        }
         return Ok(commits_at_once(alloc));
     }
     let letters = broadcast_letters(
@@ -64,7 +73,7 @@ pub(crate) fn commit(alloc: Global, txn: Txn, undecided: &Undecided) -> Result<T
         undecided.participants.as_slice(),
     )?;
     Ok(Transition {
-        after: After::Becomes(TxnState::Undecided(voting(participants))),
+        after: After::Becomes(TxnState::Undecided(voting(participants, undecided.moves))),
         letters,
         reply: None,
         kept: true,
@@ -140,7 +149,8 @@ pub(crate) fn on_vote<S: DeskStore>(
         (on_known (txn_name txn) (undecided_of db undecided.now) site.now turn.kept choice (replied db site.now (reply.Voted voted)))) }
     ensures sites { AreDistinct (sites_of undecided.now.participants) → IfOk result (λ turn. AtSites (sites_of undecided.now.participants) turn.after) }
     ensures keeps { (db : Database) → AreParticipants db undecided.now.participants → S.is_clean store.new → S.is_sound store.old → (S.kept store.old).commits txn ≡ None → version ≡ (S.kept store.old).version
-        → IfOk result (λ turn. Keeps txn (kept_voters (after_of (Some (standing.Undecided undecided.now)) turn.after)) (S.kept store.old) (S.kept store.new)) }
+        → IfOk result (λ turn. Keeps txn (kept_voters (after_of (Some (standing.Undecided undecided.now)) turn.after)) (raises (Some (standing.Undecided undecided.now)) turn.reply) (S.kept store.old) (S.kept store.new)) }
+    ensures below { IfOk result (λ turn. raises (Some (standing.Undecided undecided.now)) turn.reply ≡ true → version + 1 < 2 ^ 64) }
 {
     if !counts(undecided, site, &voted.ticket) {
         return Ok(stays(alloc, true));
@@ -156,31 +166,45 @@ pub(crate) fn on_vote<S: DeskStore>(
             true,
         );
     }
-    votes_go(store, alloc, txn, participants, version, kept)
+    votes_go(
+        store,
+        alloc,
+        txn,
+        participants,
+        undecided.moves,
+        version,
+        kept,
+    )
 }
 
 /// The first phase goes on with these votes. With all of them in, none NO, the transaction is decided:
-/// committed at once where none is YES, else where the commit row is kept. Where `kept` is false, the
+/// committed at once where none is YES, else where the commit row is kept. One that gives a relation another split is
+/// committed only where the next catalogue's number is kept, also where none is YES. Where `kept` is false, the
 /// store isn't called, and counts as having refused.
 pub(crate) fn votes_go<S: DeskStore>(
     store: &mut S,
     alloc: Global,
     txn: Txn,
     participants: Vec<Participant>,
+    moves: bool,
     version: u64,
     kept: bool,
 ) -> Result<Transition, Memory>
-    ensures store { StepsStore S.is_clean S.is_sound S.kept S.refused store.old store.new kept result (λ turn. turn.kept) ((db : Database) → AreParticipants db participants.items → Decides (undecided_of db (voting participants.items)) (votes_of participants.items)) }
+    ensures store { StepsStore S.is_clean S.is_sound S.kept S.refused store.old store.new kept result (λ turn. turn.kept) ((db : Database) → AreParticipants db participants.items → Decides (undecided_of db (voting moves participants.items)) (votes_of participants.items)) }
     ensures turn { (db : Database) (old : Option TxnStateNow) → AreParticipants db participants.items
-        → IfOk result (λ turn. IsTransition db txn old turn (votes_go (txn_name txn) (undecided_of db (voting participants.items)) (votes_of participants.items) turn.kept)) }
+        → IfOk result (λ turn. IsTransition db txn old turn (votes_go (txn_name txn) (undecided_of db (voting moves participants.items)) (votes_of participants.items) turn.kept)) }
     ensures sites { AreDistinct (sites_of participants.items) → IfOk result (λ turn. AtSites (sites_of participants.items) turn.after) }
-    ensures keeps { (db : Database) (old : Option TxnStateNow) → AreParticipants db participants.items → kept_voters old ≡ None → S.is_clean store.new → S.is_sound store.old → (S.kept store.old).commits txn ≡ None → version ≡ (S.kept store.old).version
-        → IfOk result (λ turn. Keeps txn (kept_voters (after_of old turn.after)) (S.kept store.old) (S.kept store.new)) }
+    ensures keeps { (db : Database) (old : UndecidedNow) → AreParticipants db participants.items → old.moves ≡ moves → S.is_clean store.new → S.is_sound store.old → (S.kept store.old).commits txn ≡ None → version ≡ (S.kept store.old).version
+        → IfOk result (λ turn. Keeps txn (kept_voters (after_of (Some (standing.Undecided old)) turn.after)) (raises (Some (standing.Undecided old)) turn.reply) (S.kept store.old) (S.kept store.new)) }
+    ensures below { (old : UndecidedNow) → old.moves ≡ moves → IfOk result (λ turn. raises (Some (standing.Undecided old)) turn.reply ≡ true → version + 1 < 2 ^ 64) }
 {
     if !are_all_in(&participants) {
-        return Ok(becomes(alloc, TxnState::Undecided(voting(participants))));
+        return Ok(becomes(alloc, TxnState::Undecided(voting(participants, moves))));
     }
     let voters = voters_among(alloc, &participants)?;
+    if moves {
+        return raises(store, alloc, txn, &participants, voters, version, kept);
+    }
     if are_none(&voters) {
         return Ok(commits_at_once(alloc));
     }
@@ -194,13 +218,14 @@ fn are_none(voters: &[Voter]) -> bool
     voters.is_empty()
 }
 
-/// A transaction in its first phase.
-pub(crate) fn voting(participants: Vec<Participant>) -> Undecided
-    ensures { result ≡ voting participants.items }
+/// A transaction in its first phase; `moves`: whether it gives a relation another split.
+pub(crate) fn voting(participants: Vec<Participant>, moves: bool) -> Undecided
+    ensures { result ≡ voting moves participants.items }
 {
     Undecided {
         participants: Seq::new(participants),
         stage: Stage::Voting,
+        moves,
     }
 }
 
@@ -218,9 +243,62 @@ pub(crate) fn commits_at_once(alloc: Global) -> Transition
     }
 }
 
-/// Keeps the commit row beside the catalogue's version, and then each voter hears Commit; a transaction whose row isn't kept aborts. The
-/// letters are made before the store is called.
+/// What a decided transaction becomes of which the store kept the commit row, or has none to keep: each voter hears Commit.
+fn committed(alloc: Global, voters: Vec<Voter>, letters: Vec<Letter>) -> Transition
+    ensures after { result.after ≡ committed_by voters.items }
+    ensures letters { result.letters ≡ letters }
+    ensures reply { result.reply ≡ Some replies.Committed }
+    ensures kept { result.kept ≡ true }
+{
+    let after = if voters.is_empty() {
+        After::Ends
+    } else {
+        After::Becomes(TxnState::Committed(Committed {
+            voters: Seq::new(voters),
+            acked: Seq::new(Vec::new(alloc)),
+        }))
+    };
+    Transition {
+        after,
+        letters,
+        reply: Some(Reply::Committed),
+        kept: true,
+    }
+}
+
+/// Keeps the commit row beside the number of the catalogue that is in force from then on, and then each voter hears Commit; a
+/// transaction for which the store refuses that aborts. The letters are made before the store is called.
 fn decides<S: DeskStore>(
+    store: &mut S,
+    alloc: Global,
+    txn: Txn,
+    participants: &[Participant],
+    voters: Vec<Voter>,
+    in_force: u64,
+    kept: bool,
+) -> Result<Transition, Memory>
+    ensures store { StepsStore S.is_clean S.is_sound S.kept S.refused store.old store.new kept result (λ turn. turn.kept) (⊤) }
+    ensures turn { (db : Database) (old : Option TxnStateNow) (moves : Bool) → AreParticipants db participants.now → (0 < length voters.items) ⊎ (moves ≡ true)
+        → IfOk result (λ turn. IsTransition db txn old turn (decides (txn_name txn) (undecided_of db (voting moves participants.now)) turn.kept (map voter_of voters.items))) }
+    ensures sites { (sites : List (List ℕ)) → AreInOrder sites voters.items → IfOk result (λ turn. AtSites sites turn.after) }
+    ensures keeps { (old : UndecidedNow) → AreVoters voters.items → S.is_clean store.new → S.is_sound store.old → (S.kept store.old).commits txn ≡ None
+        → in_force ≡ (if old.moves then suc (S.kept store.old).version else (S.kept store.old).version)
+        → IfOk result (λ turn. Keeps txn (kept_voters (after_of (Some (standing.Undecided old)) turn.after)) (raises (Some (standing.Undecided old)) turn.reply) (S.kept store.old) (S.kept store.new)) }
+{
+    let aborts = unkept(alloc, txn, participants)?;
+    if !kept {
+        return Ok(aborts);
+    }
+    let letters = commit_letters(alloc, txn, &voters)?;
+    match store.keep_commit(txn, &voters, in_force) {
+        Ok(()) => Ok(committed(alloc, voters, letters)),
+        Err(StoreFault::Memory) => Err(Memory),
+        Err(_) => Ok(aborts),
+    }
+}
+
+/// So of one that gives a relation another split: the next catalogue is in force from then on, also where there is no voter.
+fn raises<S: DeskStore>(
     store: &mut S,
     alloc: Global,
     txn: Txn,
@@ -230,38 +308,27 @@ fn decides<S: DeskStore>(
     kept: bool,
 ) -> Result<Transition, Memory>
     ensures store { StepsStore S.is_clean S.is_sound S.kept S.refused store.old store.new kept result (λ turn. turn.kept) (⊤) }
-    ensures turn { (db : Database) (old : Option TxnStateNow) → AreParticipants db participants.now → 0 < length voters.items
-        → IfOk result (λ turn. IsTransition db txn old turn (decides (txn_name txn) (undecided_of db (voting participants.now)) turn.kept (map voter_of voters.items))) }
+    ensures turn { (db : Database) (old : Option TxnStateNow) → AreParticipants db participants.now
+        → IfOk result (λ turn. IsTransition db txn old turn (decides (txn_name txn) (undecided_of db (voting true participants.now)) turn.kept (map voter_of voters.items))) }
     ensures sites { (sites : List (List ℕ)) → AreInOrder sites voters.items → IfOk result (λ turn. AtSites sites turn.after) }
-    ensures keeps { (old : Option TxnStateNow) → AreVoters voters.items → 0 < length voters.items → S.is_clean store.new → S.is_sound store.old → (S.kept store.old).commits txn ≡ None → version ≡ (S.kept store.old).version
-        → IfOk result (λ turn. Keeps txn (kept_voters (after_of old turn.after)) (S.kept store.old) (S.kept store.new)) }
+    ensures keeps { (old : UndecidedNow) → old.moves ≡ true → AreVoters voters.items → S.is_clean store.new → S.is_sound store.old → (S.kept store.old).commits txn ≡ None → version ≡ (S.kept store.old).version
+        → IfOk result (λ turn. Keeps txn (kept_voters (after_of (Some (standing.Undecided old)) turn.after)) (raises (Some (standing.Undecided old)) turn.reply) (S.kept store.old) (S.kept store.new)) }
+    ensures below { OnOk result (version + 1 < 2 ^ 64) }
 {
-    let aborts = unkept(alloc, txn, participants)?;
-    if !kept {
-        return Ok(aborts);
-    }
-    let letters = commit_letters(alloc, txn, &voters)?;
-    match store.keep_commit(txn, &voters, version) {
-        Ok(()) => Ok(Transition {
-            after: After::Becomes(TxnState::Committed(Committed {
-                voters: Seq::new(voters),
-                acked: Seq::new(Vec::new(alloc)),
-            })),
-            letters,
-            reply: Some(Reply::Committed),
-            kept: true,
-        }),
-        Err(StoreFault::Memory) => Err(Memory),
-        Err(_) => Ok(aborts),
-    }
+    // A list of catalogues is never as long as that, so nothing is turned away here.
+    let Some(next) = version.checked_add(1) else {
+        return Err(Memory);
+    };
+    decides(store, alloc, txn, participants, voters, next, kept)
 }
 
 /// The commit row could not be kept: the transaction aborts.
 fn unkept(alloc: Global, txn: Txn, participants: &[Participant]) -> Result<Transition, Memory>
-    ensures turn { (db : Database) (old : Option TxnStateNow) → AreParticipants db participants.now
-        → IfOk result (λ turn. IsTransition db txn old turn (ends_by (txn_name txn) (undecided_of db (voting participants.now)) (protocol.Aborted (txn_name txn) By_store))) }
+    ensures turn { (db : Database) (old : Option TxnStateNow) (moves : Bool) → AreParticipants db participants.now
+        → IfOk result (λ turn. IsTransition db txn old turn (ends_by (txn_name txn) (undecided_of db (voting moves participants.now)) (protocol.Aborted (txn_name txn) By_store))) }
     ensures kept { IfOk result (λ turn. turn.kept ≡ false) }
     ensures after { IfOk result (λ turn. turn.after ≡ Ends) }
+    ensures reply { IfOk result (λ turn. turn.reply ≡ Some (replies.Aborted whys.Store)) }
 {
     ends(
         alloc,

@@ -2,7 +2,7 @@
 
 ghost use Rattle.std.specs.Prelude.{◌≡◌, ◌≢◌, ◌⊎◌, ◌+◌, ◌≤◌, ◌^◌, None, Some, true, false, Err, IfOk, IfErr, OnOk};
 ghost use Rattle.std.specs.BTreeMap.{IsOrdered};
-ghost use Rattle.std.specs.Option.{option_map};
+ghost use Rattle.std.specs.Option.{option_copied, option_map};
 ghost use Rattle.meaning.specs.declared.statement.Statement.{Statement as StatementNow};
 ghost use Rattle.meaning.specs.Statement.{IsStatementOf, is_refragment};
 ghost use Rattle.catalog.specs.FragmentLeaf.{schemas_of};
@@ -16,16 +16,18 @@ ghost use Rattle.store.specs.Name.{txn_cmp};
 ghost use Rattle.store.specs.declared.fault.StoreFault.TheVariants as store_faults;
 ghost use Rattle.store.specs.declared.reply.Reply.{Reply};
 ghost use Rattle.desk.specs.declared.refusal.Refusal.TheVariants as refusals;
-ghost use Rattle.desk.specs.Request.{IsOver, refused_as, txn_in};
+ghost use Rattle.desk.specs.Request.{IsOver, WhyNotStated, refused_as, txn_in};
 ghost use Rattle.desk.specs.Database.{Database, language};
 ghost use Rattle.desk.specs.Does.{IsNoStatement, Runs, RunsPastLimits, States, StatesPastLimits};
-ghost use Rattle.desk.specs.Frame.{RestartsDesk, StatesPlainly, StepsPlainly, TakesLetter};
+ghost use Rattle.desk.specs.Frame.{RefragmentsDesk, RestartsDesk, StatesPlainly, StepsPlainly, TakesLetter};
 ghost use Rattle.desk.specs.OfCatalogue.{InForce, IsOfCatalogue};
 ghost use Rattle.desk.specs.Recovery.{IsStrange, Rises};
-ghost use Rattle.desk.specs.State.{Begins, Fits, Steps, desk_of, volatile_of};
+ghost use Rattle.desk.specs.State.{Begins, Fits, Steps, anyone_moves, desk_of, volatile_of};
+ghost use Rattle.meaning.specs.declared.statement.Statement.TheVariants as statements;
 
 use crate::receive::{may_send, on_reply, passed_over, take};
 use crate::recovery::{begin, restart};
+use crate::refragment::call_refragment;
 use crate::refusal::{Refusal, store_refusal};
 use crate::reply::Out;
 use crate::request::{
@@ -34,7 +36,7 @@ use crate::request::{
 use crate::send::is_among;
 use crate::volatile::Volatile;
 use catalog::catalogue::Catalog;
-use meaning::statement::Statement;
+use meaning::statement::{Refragment, Statement};
 use std::alloc::Global;
 use store::commit::DeskKept;
 use store::desk_store::DeskStore;
@@ -101,13 +103,27 @@ impl<S: DeskStore> Desk<S> {
     /// A transaction begins. The reply names it.
     pub fn begin(&mut self) -> Result<Out, Refusal>
         ensures ok { (db : Database) → IsOver db self.old.catalog.0 → Fits db (S.kept self.old.store) (volatile_of self.old.volatile)
-            → IfOk result (λ out. Begins db (volatile_of self.old.volatile) (S.kept self.new.store) (volatile_of self.new.volatile) out.letters out.replies) }
+            → IfOk result (λ out. Begins db false (volatile_of self.old.volatile) (S.kept self.new.store) (volatile_of self.new.volatile) out.letters out.replies) }
         ensures plainly { StepsPlainly self.old self.new result }
-        ensures own { IfErr result (λ told. (told ≡ refusals.Memory) ⊎ (told ≡ refusals.Full)) }
-        ensures full { (db : Database) → IsOver db self.old.catalog.0 → Fits db (S.kept self.old.store) (volatile_of self.old.volatile)
-            → IfErr result (λ told. (told ≡ refusals.Memory) ⊎ ((told ≡ refusals.Full) × (is_desk_within (desk_began (desk_of db (volatile_of self.old.volatile))) ≡ false))) }
+        ensures accepted { OnOk result (anyone_moves (volatile_of self.old.volatile) ≡ false) }
+        ensures own { IfErr result (λ told. (told ≡ refusals.Memory) ⊎ (told ≡ refusals.Full) ⊎ (told ≡ refusals.NotAlone)) }
+        ensures full { (db : Database) → IsOver db self.old.catalog.0 → Fits db (S.kept self.old.store) (volatile_of self.old.volatile) → result ≡ Err refusals.Full
+            → is_desk_within (desk_began (desk_of db (volatile_of self.old.volatile))) ≡ false }
+        ensures alone { result ≡ Err refusals.NotAlone → anyone_moves (volatile_of self.old.volatile) ≡ true }
     {
         call_begin(&mut self.volatile, self.catalog.sites())
+    }
+
+    /// A relation gets the split that this next catalogue has for it: a transaction of its own begins and states that.
+    pub(crate) fn refragment(
+        &mut self,
+        next: Option<&Catalog>,
+        refragment: &Refragment,
+    ) -> Result<Out, Refusal>
+        requires { IsStatementOf (schemas_of (catalogue_of self.old.catalog)) (statements.Refragment refragment.now) }
+        ensures refragments { RefragmentsDesk S.kept self.old self.new (option_copied next.entry) refragment.now result }
+    {
+        call_refragment(&mut self.volatile, &self.catalog, next, refragment)
     }
 
     /// The commit of a transaction is asked for: its first phase begins.
@@ -148,7 +164,7 @@ impl<S: DeskStore> Desk<S> {
         ensures ok { (db : Database) → IsOfCatalogue db → InForce db self.old.volatile.version self.old.catalog → Fits db (S.kept self.old.store) (volatile_of self.old.volatile)
             → IfOk result (λ out. States db (volatile_of self.old.volatile) (S.kept self.new.store) (volatile_of self.new.volatile) txn text.now out.letters out.replies) }
         ensures states { StatesPlainly self.old self.new txn result }
-        ensures told { (db : Database) (statement : StatementNow) → IfErr result (λ told. (told ≡ refusals.Memory) ⊎ (option_map refused_as (refusal (State (self.old.volatile.version, statement)) (txn_in db (volatile_of self.old.volatile) txn)) ≡ Some told)
+        ensures told { (db : Database) (statement : StatementNow) → IfErr result (λ told. (told ≡ refusals.Memory) ⊎ WhyNotStated db (volatile_of self.old.volatile) txn statement told
             ⊎ ((refusal (State (self.old.volatile.version, statement)) (txn_in db (volatile_of self.old.volatile) txn) ≡ None) × (IsNoStatement (schemas_of (catalogue_of self.old.catalog)) text.now told ⊎ (told ≡ refusals.Full)))) }
         ensures full { (db : Database) → IsOfCatalogue db → InForce db self.old.volatile.version self.old.catalog → Fits db (S.kept self.old.store) (volatile_of self.old.volatile) → result ≡ Err refusals.Full
             → StatesPastLimits db (volatile_of self.old.volatile) txn text.now }
@@ -162,7 +178,7 @@ impl<S: DeskStore> Desk<S> {
         ensures ok { (db : Database) → IsOfCatalogue db → InForce db self.old.volatile.version self.old.catalog → Fits db (S.kept self.old.store) (volatile_of self.old.volatile)
             → IfOk result (λ out. Runs db (volatile_of self.old.volatile) (S.kept self.new.store) (volatile_of self.new.volatile) txn statement.now out.letters out.replies) }
         ensures states { StatesPlainly self.old self.new txn result }
-        ensures told { (db : Database) → IfErr result (λ told. (told ≡ refusals.Memory) ⊎ (option_map refused_as (refusal (State (self.old.volatile.version, statement.now)) (txn_in db (volatile_of self.old.volatile) txn)) ≡ Some told)
+        ensures told { (db : Database) → IfErr result (λ told. (told ≡ refusals.Memory) ⊎ WhyNotStated db (volatile_of self.old.volatile) txn statement.now told
             ⊎ ((refusal (State (self.old.volatile.version, statement.now)) (txn_in db (volatile_of self.old.volatile) txn) ≡ None) × (((is_refragment statement.now ≡ true) × (told ≡ refusals.Busy)) ⊎ (told ≡ refusals.Full)))) }
         ensures full { (db : Database) → IsOfCatalogue db → InForce db self.old.volatile.version self.old.catalog → Fits db (S.kept self.old.store) (volatile_of self.old.volatile) → result ≡ Err refusals.Full
             → RunsPastLimits db (volatile_of self.old.volatile) txn statement.now }
@@ -172,7 +188,7 @@ impl<S: DeskStore> Desk<S> {
 
     /// A letter comes. One of a site that the catalogue doesn't have, and one that no site sends, are passed over.
     pub fn take(&mut self, letter: &Letter) -> Result<Out, Refusal>
-        ensures takes { TakesLetter S.is_clean S.is_sound S.kept S.refused self.old self.new letter.now true result }
+        ensures takes { TakesLetter S.is_clean S.is_sound S.kept S.refused self.old self.new letter.now true None result }
         ensures refusal { IfOk result (λ out. out.kept ≡ false → HasRefused (S.refused self.old.store) (S.refused self.new.store)) }
     {
         self.take_kept(letter, true)
@@ -180,7 +196,19 @@ impl<S: DeskStore> Desk<S> {
 
     /// So, but where `kept` is false the store isn't called, and counts as having refused.
     pub fn take_kept(&mut self, letter: &Letter, kept: bool) -> Result<Out, Refusal>
-        ensures takes { TakesLetter S.is_clean S.is_sound S.kept S.refused self.old self.new letter.now kept result }
+        ensures takes { TakesLetter S.is_clean S.is_sound S.kept S.refused self.old self.new letter.now kept None result }
+    {
+        self.take_by(letter, kept, None)
+    }
+
+    /// So, where this catalogue comes next, if one does.
+    pub(crate) fn take_by(
+        &mut self,
+        letter: &Letter,
+        kept: bool,
+        next: Option<&Catalog>,
+    ) -> Result<Out, Refusal>
+        ensures takes { TakesLetter S.is_clean S.is_sound S.kept S.refused self.old self.new letter.now kept (option_copied next.entry) result }
     {
         let Body::Reply(reply) = &letter.body else {
             return Ok(passed_over(self.volatile.alloc));
@@ -190,9 +218,25 @@ impl<S: DeskStore> Desk<S> {
         }
         let (txn, site) = (letter.txn, &letter.site);
         if may_send(self.volatile.standing(&txn), site, reply) {
-            return on_reply(&mut self.volatile, &self.catalog, txn, site, reply);
+            return on_reply(&mut self.volatile, &self.catalog, next, txn, site, reply);
         }
         take(&mut self.store, &mut self.volatile, txn, site, reply, kept)
+    }
+
+    /// The number of the catalogue in force, as the store keeps it.
+    pub fn version(&self) -> u64
+        ensures { result ≡ self.now.volatile.version }
+    {
+        self.volatile.version
+    }
+
+    /// Another catalogue is in force.
+    pub(crate) fn put_in_force(&mut self, catalog: Catalog)
+        ensures catalog { self.new.catalog ≡ catalog }
+        ensures store { self.new.store ≡ self.old.store }
+        ensures volatile { self.new.volatile ≡ self.old.volatile }
+    {
+        self.catalog = catalog;
     }
 
     /// Restarts: undecided transactions abort and acknowledgements are lost, the next life begins, and who

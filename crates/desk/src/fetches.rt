@@ -5,11 +5,12 @@ ghost use Rattle.std.specs.Option.{option_copied};
 ghost use Rattle.catalog.specs.Relation.{catalogue_of};
 ghost use Rattle.protocol.specs.Letters.{leaf_of};
 ghost use Rattle.desk.specs.Place.{home_in, site_in};
-ghost use Rattle.desk.specs.Planned.{ask_from, unsent_from};
+ghost use Rattle.desk.specs.Planned.{ask_from, unsent_by, unsent_from};
 ghost use Rattle.catalog.specs.FragmentLeaf.{catalogue_leaves, leaf_named};
 ghost use Rattle.desk.specs.Fetches.{are_in_with, awaits, brought, fits_leaf, has_rows_with, rows_for, with_found, with_rows};
 
 use crate::transaction::Unsent;
+use answers::moves::Move;
 use answers::table::{FetchRows, are_parts};
 use catalog::catalogue::Catalog;
 use plan::fetch::Fetch;
@@ -122,6 +123,18 @@ pub(crate) fn unsent_of(
             write: write.copy()?,
             site: home_in(alloc, catalog, leaf_of(write))?,
         })?;
+    }
+    Ok(unsent)
+}
+
+/// Moves that are to be sent.
+pub(crate) fn unsent_by(alloc: Global, moves: Vec<Move>) -> Result<Vec<Unsent>, Memory>
+    ensures { IfOk result (λ unsent. unsent.items ≡ map unsent_by moves.items) }
+{
+    let mut unsent = Vec::new(alloc);
+    for one in moves {
+        let Move { site, write } = one;
+        unsent.push(Unsent { write, site })?;
     }
     Ok(unsent)
 }

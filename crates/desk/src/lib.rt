@@ -19,11 +19,13 @@
 mod abort;
 mod acknowledge;
 mod commit;
+pub mod coordinator;
 pub mod desk;
 mod fetches;
 mod participant;
 mod receive;
 mod recovery;
+mod refragment;
 pub mod refusal;
 pub mod reply;
 mod request;

@@ -1,6 +1,6 @@
 //! A site's letter, by what stands behind its transaction.
 
-ghost use Rattle.std.specs.Prelude.{◌≡◌, ℕ, ◌≢◌, ◌⊎◌, ◌<◌, true, false, Option, None, Some, is_some, IfOk, IfErr, OnErr, [], Err, nat_eq, OnOk};
+ghost use Rattle.std.specs.Prelude.{◌≡◌, ℕ, ◌≢◌, ◌⊎◌, ◌+◌, ◌<◌, ◌^◌, true, false, Option, None, Some, is_some, IfOk, IfErr, OnErr, [], Err, nat_eq, OnOk};
 ghost use Rattle.std.specs.Option.{option_copied};
 ghost use Rattle.reader.specs.Printable.{AreDistinct};
 ghost use Rattle.protocol.specs.Desk.{Choice, Known, on_desk_letter, on_known, stays as unchanged, on_unknown};
@@ -18,7 +18,7 @@ ghost use Rattle.desk.specs.Participants.{sites_of, participant_in, is_at};
 ghost use Rattle.desk.specs.Transaction.{txn_of, undecided_of};
 ghost use Rattle.desk.specs.State.{Fits, Steps, volatile_of, IsIn};
 ghost use Rattle.desk.specs.Receive.{goes_on, may_send};
-ghost use Rattle.desk.specs.Transition.{AreParticipants, AtSites, IsTransition, after_of};
+ghost use Rattle.desk.specs.Transition.{AreParticipants, AtSites, IsTransition, after_of, raises};
 ghost use Rattle.desk.specs.Acknowledge.{Keeps, kept_voters};
 ghost use Rattle.desk.specs.declared.transition.After.TheVariants.{Stays};
 ghost use Rattle.std.specs.Cmp.Lexicographic.{pointwise};
@@ -28,7 +28,7 @@ ghost use Rattle.store.specs.DeskContent.{DeskContent};
 ghost use Rattle.store.specs.Name.{txn_cmp};
 ghost use Rattle.desk.specs.declared.transaction.Undecided.{Undecided as UndecidedNow};
 ghost use Rattle.desk.specs.Does.{Does, DoesIn, GoesOn, IsLong, IsPastLimits, IsShort, Takes};
-ghost use Rattle.desk.specs.OfCatalogue.{InForce, IsOfCatalogue};
+ghost use Rattle.desk.specs.OfCatalogue.{InForce, IsNextOf, IsOfCatalogue};
 
 use crate::abort::on_refusal;
 use crate::acknowledge::on_row;
@@ -99,8 +99,7 @@ fn on_another(
 /// An undecided transaction may still go either way: who inquires after it hears nothing.
 fn unanswered(alloc: Global) -> Result<Transition, Memory>
     ensures turn { (db : Database) (txn : Txn) (old : Option TxnStateNow) → IfOk result (λ turn. IsTransition db txn old turn (unchanged (txn_of db old))) }
-    ensures after { IfOk result (λ turn. turn.after ≡ after.Stays) }
-    ensures kept { IfOk result (λ turn. turn.kept ≡ true) }
+    ensures leaves { LeavesStanding result }
 {
     Ok(stays(alloc, true))
 }
@@ -123,7 +122,8 @@ fn on_open<S: DeskStore>(
         (on_known (txn_name txn) (undecided_of db undecided.now) site.now turn.kept choice (replied db site.now reply.now))) }
     ensures sites { AreDistinct (sites_of undecided.now.participants) → IfOk result (λ turn. AtSites (sites_of undecided.now.participants) turn.after) }
     ensures keeps { (db : Database) → AreParticipants db undecided.now.participants → S.is_clean store.new → S.is_sound store.old → (S.kept store.old).commits txn ≡ None → version ≡ (S.kept store.old).version
-        → IfOk result (λ turn. Keeps txn (kept_voters (after_of (Some (standings.Undecided undecided.now)) turn.after)) (S.kept store.old) (S.kept store.new)) }
+        → IfOk result (λ turn. Keeps txn (kept_voters (after_of (Some (standings.Undecided undecided.now)) turn.after)) (raises (Some (standings.Undecided undecided.now)) turn.reply) (S.kept store.old) (S.kept store.new)) }
+    ensures below { IfOk result (λ turn. raises (Some (standings.Undecided undecided.now)) turn.reply ≡ true → version + 1 < 2 ^ 64) }
 {
     match reply {
         Reply::Voted(voted) => on_vote(store, alloc, txn, undecided, site, *voted, version, kept),
@@ -150,7 +150,8 @@ fn step<S: DeskStore>(
         → IfOk result (λ turn. IsTransition db txn ((volatile_of volatile.now).standing txn) turn (on_desk_letter (txn_name txn) site.now turn.kept choice (replied db site.now reply.now) (txn_in db (volatile_of volatile.now) txn))) }
     ensures sites { (db : Database) → IsAt db ((volatile_of volatile.now).standing txn) → IfOk result (λ turn. AtSites db.sites turn.after) }
     ensures keeps { (db : Database) → IsAt db ((volatile_of volatile.now).standing txn) → S.is_clean store.new → S.is_sound store.old → (S.kept store.old).commits txn ≡ kept_voters ((volatile_of volatile.now).standing txn) → (volatile_of volatile.now).version ≡ (S.kept store.old).version
-        → IfOk result (λ turn. Keeps txn (kept_voters (after_of ((volatile_of volatile.now).standing txn) turn.after)) (S.kept store.old) (S.kept store.new)) }
+        → IfOk result (λ turn. Keeps txn (kept_voters (after_of ((volatile_of volatile.now).standing txn) turn.after)) (raises ((volatile_of volatile.now).standing txn) turn.reply) (S.kept store.old) (S.kept store.new)) }
+    ensures below { IfOk result (λ turn. raises ((volatile_of volatile.now).standing txn) turn.reply ≡ true → volatile.now.version + 1 < 2 ^ 64) }
     ensures stands { IfOk result (λ turn. (is_some ((volatile_of volatile.now).standing txn) ≡ true) ⊎ (turn.after ≡ after.Stays)) }
 {
     let alloc = volatile.alloc;
@@ -211,15 +212,16 @@ pub(crate) fn on_unknown(
 fn rows_come(
     alloc: Global,
     catalog: &Catalog,
+    next: Option<&Catalog>,
     txn: Txn,
     undecided: &mut Undecided,
     site: &Text,
     rows: &Rows,
 ) -> Result<Progress, Refusal>
-    ensures does { (db : Database) (n : ℕ) → IsOfCatalogue db → InForce db n catalog.now → AreParticipants db undecided.old.participants → IsIn db n (standings.Undecided undecided.old)
+    ensures does { (db : Database) (n : ℕ) → IsOfCatalogue db → InForce db n catalog.now → IsNextOf db n (option_copied next.entry) → AreParticipants db undecided.old.participants → IsIn db n (standings.Undecided undecided.old)
         → IfOk result (λ step. Does db n txn undecided.new step (λ choice. on_known (txn_name txn) (undecided_of db undecided.old) site.now true choice (replied db site.now (replies.Rows rows.now)))) }
     ensures goes { GoesOnOrStays undecided.old undecided.new result }
-    ensures full { (db : Database) (n : ℕ) → IsOfCatalogue db → InForce db n catalog.now → AreParticipants db undecided.old.participants → IsIn db n (standings.Undecided undecided.old) → result ≡ Err refusals.Full
+    ensures full { (db : Database) (n : ℕ) → IsOfCatalogue db → InForce db n catalog.now → IsNextOf db n (option_copied next.entry) → AreParticipants db undecided.old.participants → IsIn db n (standings.Undecided undecided.old) → result ≡ Err refusals.Full
         → IsLong db (λ choice. on_known (txn_name txn) (undecided_of db undecided.old) site.now true choice (replied db site.now (replies.Rows rows.now))) }
 {
     leaf_names_are_unique();
@@ -237,6 +239,7 @@ fn rows_come(
     let worked = evaluate(
         alloc,
         catalog,
+        next,
         &reading.statement,
         &reading.plan,
         asks.as_slice(),
@@ -249,21 +252,22 @@ fn rows_come(
 fn resume_on(
     alloc: Global,
     catalog: &Catalog,
+    next: Option<&Catalog>,
     txn: Txn,
     undecided: &mut Undecided,
     site: &Text,
     reply: &Reply,
 ) -> Result<Progress, Refusal>
     requires { goes_on (participant_in site.now undecided.old.participants).ticket reply.now ≡ true }
-    ensures does { (db : Database) (n : ℕ) → IsOfCatalogue db → InForce db n catalog.now → list_any (is_at site.now) undecided.old.participants ≡ true → AreParticipants db undecided.old.participants → IsIn db n (standings.Undecided undecided.old)
+    ensures does { (db : Database) (n : ℕ) → IsOfCatalogue db → InForce db n catalog.now → IsNextOf db n (option_copied next.entry) → list_any (is_at site.now) undecided.old.participants ≡ true → AreParticipants db undecided.old.participants → IsIn db n (standings.Undecided undecided.old)
         → IfOk result (λ step. Does db n txn undecided.new step (λ choice. on_known (txn_name txn) (undecided_of db undecided.old) site.now true choice (replied db site.now reply.now))) }
     ensures goes { GoesOnOrStays undecided.old undecided.new result }
-    ensures full { (db : Database) (n : ℕ) → IsOfCatalogue db → InForce db n catalog.now → list_any (is_at site.now) undecided.old.participants ≡ true → AreParticipants db undecided.old.participants → IsIn db n (standings.Undecided undecided.old) → result ≡ Err refusals.Full
+    ensures full { (db : Database) (n : ℕ) → IsOfCatalogue db → InForce db n catalog.now → IsNextOf db n (option_copied next.entry) → list_any (is_at site.now) undecided.old.participants ≡ true → AreParticipants db undecided.old.participants → IsIn db n (standings.Undecided undecided.old) → result ≡ Err refusals.Full
         → IsLong db (λ choice. on_known (txn_name txn) (undecided_of db undecided.old) site.now true choice (replied db site.now reply.now)) }
 {
     match reply {
         Reply::Ticket(ticket) => ticket_goes(alloc, txn, undecided, site, *ticket),
-        Reply::Rows(rows) => rows_come(alloc, catalog, txn, undecided, site, rows),
+        Reply::Rows(rows) => rows_come(alloc, catalog, next, txn, undecided, site, rows),
         _ => Ok(no_progress(alloc)),
     }
 }
@@ -272,21 +276,24 @@ fn resume_on(
 fn resume_in(
     alloc: Global,
     catalog: &Catalog,
+    next: Option<&Catalog>,
     txn: Txn,
     standing: &mut TxnState,
     site: &Text,
     reply: &Reply,
 ) -> Result<Progress, Refusal>
     requires { may_send (Some standing.old) site.now reply.now ≡ true }
-    ensures does { (db : Database) (n : ℕ) (old : UndecidedNow) → IsOfCatalogue db → InForce db n catalog.now → standing.old ≡ standings.Undecided old → list_any (is_at site.now) old.participants ≡ true → AreParticipants db old.participants → IsIn db n (standings.Undecided old)
+    ensures does { (db : Database) (n : ℕ) (old : UndecidedNow) → IsOfCatalogue db → InForce db n catalog.now → IsNextOf db n (option_copied next.entry) → standing.old ≡ standings.Undecided old → list_any (is_at site.now) old.participants ≡ true → AreParticipants db old.participants → IsIn db n (standings.Undecided old)
         → IfOk result (λ step. DoesIn db n txn standing.new step (λ choice. on_known (txn_name txn) (undecided_of db old) site.now true choice (replied db site.now reply.now))) }
     ensures short { IsShort standing.old → OnOk result (IsShort standing.new) }
-    ensures full { (db : Database) (n : ℕ) (old : UndecidedNow) → IsOfCatalogue db → InForce db n catalog.now → standing.old ≡ standings.Undecided old → list_any (is_at site.now) old.participants ≡ true → AreParticipants db old.participants → IsIn db n (standings.Undecided old) → result ≡ Err refusals.Full
+    ensures full { (db : Database) (n : ℕ) (old : UndecidedNow) → IsOfCatalogue db → InForce db n catalog.now → IsNextOf db n (option_copied next.entry) → standing.old ≡ standings.Undecided old → list_any (is_at site.now) old.participants ≡ true → AreParticipants db old.participants → IsIn db n (standings.Undecided old) → result ≡ Err refusals.Full
         → IsLong db (λ choice. on_known (txn_name txn) (undecided_of db old) site.now true choice (replied db site.now reply.now)) }
     ensures same { OnErr result (standing.new ≡ standing.old) }
 {
     match standing {
-        TxnState::Undecided(undecided) => resume_on(alloc, catalog, txn, undecided, site, reply),
+        TxnState::Undecided(undecided) => resume_on(
+            alloc, catalog, next, txn, undecided, site, reply,
+        ),
         TxnState::Committed(_) => Err(Refusal::NoTransaction),
     }
 }
@@ -295,24 +302,26 @@ fn resume_in(
 fn resume(
     volatile: &mut Volatile,
     catalog: &Catalog,
+    next: Option<&Catalog>,
     txn: Txn,
     site: &Text,
     reply: &Reply,
 ) -> Result<Progress, Refusal>
     requires { may_send ((volatile_of volatile.old).standing txn) site.now reply.now ≡ true }
-    ensures resume_on { (db : Database) (kept : DeskContent) (old : UndecidedNow) → IsOfCatalogue db → InForce db volatile.old.version catalog.now → Fits db kept (volatile_of volatile.old)
+    ensures resume_on { (db : Database) (kept : DeskContent) (old : UndecidedNow) → IsOfCatalogue db → InForce db volatile.old.version catalog.now → IsNextOf db volatile.old.version (option_copied next.entry) → Fits db kept (volatile_of volatile.old)
         → (volatile_of volatile.old).standing txn ≡ Some (standings.Undecided old) → list_any (is_at site.now) old.participants ≡ true
         → IfOk result (λ step. GoesOn db volatile.old (volatile_of volatile.new) txn step (λ choice. on_desk_letter (txn_name txn) site.now true choice (replied db site.now reply.now) (txn_in db (volatile_of volatile.old) txn))) }
-    ensures full { (db : Database) (kept : DeskContent) (old : UndecidedNow) → IsOfCatalogue db → InForce db volatile.old.version catalog.now → Fits db kept (volatile_of volatile.old)
+    ensures full { (db : Database) (kept : DeskContent) (old : UndecidedNow) → IsOfCatalogue db → InForce db volatile.old.version catalog.now → IsNextOf db volatile.old.version (option_copied next.entry) → Fits db kept (volatile_of volatile.old)
         → (volatile_of volatile.old).standing txn ≡ Some (standings.Undecided old) → list_any (is_at site.now) old.participants ≡ true → result ≡ Err refusals.Full
         → IsLong db (λ choice. on_desk_letter (txn_name txn) site.now true choice (replied db site.now reply.now) (txn_in db (volatile_of volatile.old) txn)) }
     ensures err { OnErr result (volatile_of volatile.new ≡ volatile_of volatile.old) }
+    ensures version { volatile.new.version ≡ volatile.old.version }
     ensures ordered { IsOrdered txn_cmp volatile.old.standings }
 {
     let alloc = volatile.alloc;
     let _count = volatile.standings.len();
     match volatile.standings.get_mut(&txn) {
-        Some(standing) => resume_in(alloc, catalog, txn, standing, site, reply),
+        Some(standing) => resume_in(alloc, catalog, next, txn, standing, site, reply),
         None => Err(Refusal::NoTransaction),
     }
 }
@@ -332,19 +341,21 @@ pub(crate) fn passed_over(alloc: Global) -> Out
 pub(crate) fn on_reply(
     volatile: &mut Volatile,
     catalog: &Catalog,
+    next: Option<&Catalog>,
     txn: Txn,
     site: &Text,
     reply: &Reply,
 ) -> Result<Out, Refusal>
     requires { may_send ((volatile_of volatile.old).standing txn) site.now reply.now ≡ true }
-    ensures ok { (db : Database) (kept : DeskContent) → IsOfCatalogue db → InForce db volatile.old.version catalog.now → Fits db kept (volatile_of volatile.old) → list_any (λ other. pointwise nat_eq other site.now) db.sites ≡ true
+    ensures ok { (db : Database) (kept : DeskContent) → IsOfCatalogue db → InForce db volatile.old.version catalog.now → IsNextOf db volatile.old.version (option_copied next.entry) → Fits db kept (volatile_of volatile.old) → list_any (λ other. pointwise nat_eq other site.now) db.sites ≡ true
         → IfOk result (λ out. Takes db (volatile_of volatile.old) kept (volatile_of volatile.new) txn (λ choice. on_desk_letter (txn_name txn) site.now true choice (replied db site.now reply.now) (txn_in db (volatile_of volatile.old) txn)) out.letters out.replies) }
     ensures steps { StepsBelowLimits volatile.old volatile.new result }
-    ensures full { (db : Database) (kept : DeskContent) → IsOfCatalogue db → InForce db volatile.old.version catalog.now → Fits db kept (volatile_of volatile.old) → list_any (λ other. pointwise nat_eq other site.now) db.sites ≡ true → result ≡ Err refusals.Full
+    ensures version { volatile.new.version ≡ volatile.old.version }
+    ensures full { (db : Database) (kept : DeskContent) → IsOfCatalogue db → InForce db volatile.old.version catalog.now → IsNextOf db volatile.old.version (option_copied next.entry) → Fits db kept (volatile_of volatile.old) → list_any (λ other. pointwise nat_eq other site.now) db.sites ≡ true → result ≡ Err refusals.Full
         → IsPastLimits db (volatile_of volatile.old) txn (λ choice. on_desk_letter (txn_name txn) site.now true choice (replied db site.now reply.now) (txn_in db (volatile_of volatile.old) txn)) }
 {
     let room = room(volatile.alloc)?;
-    match resume(volatile, catalog, txn, site, reply) {
+    match resume(volatile, catalog, next, txn, site, reply) {
         Ok(step) => Ok(put_out(room, txn, step)),
         Err(refusal) => Err(limit_or_memory(refusal)),
     }

@@ -29,8 +29,12 @@ pub enum Refusal {
     Memory,
     /// The store failed, for another reason than memory.
     Store(StoreFault),
-    /// No catalogue comes after the one in force, so no relation can get another split.
+    /// A transaction that gives a relation another split is undecided, or it would not be alone.
+    NotAlone,
+    /// No catalogue comes after the one in force, or it splits another relation otherwise.
     NoNext,
+    /// The store's version is that of no catalogue in the list.
+    Chain,
 }
 
 impl Refusal {
@@ -47,7 +51,9 @@ impl Refusal {
             Refusal::Aborted(_) => 6,
             Refusal::Memory => 7,
             Refusal::Store(_) => 8,
+            Refusal::NotAlone => 9,
             Refusal::NoNext => 10,
+            Refusal::Chain => 11,
         }
     }
 }
@@ -65,7 +71,9 @@ impl fmt::Display for Refusal {
             Refusal::Aborted(_) => f.write_str("Aborted"),
             Refusal::Memory => f.write_str("Memory"),
             Refusal::Store(_) => f.write_str("Store"),
+            Refusal::NotAlone => f.write_str("NotAlone"),
             Refusal::NoNext => f.write_str("NoNext"),
+            Refusal::Chain => f.write_str("Chain"),
         }
     }
 }

@@ -10,11 +10,11 @@ ghost use Rattle.store.specs.DeskContent.{DeskContent};
 ghost use Rattle.desk.specs.declared.refusal.Refusal.TheVariants as refusals;
 ghost use Rattle.desk.specs.declared.reply.Reply.TheVariants as replies;
 ghost use Rattle.desk.specs.Begun.{nowhere_yet};
-ghost use Rattle.desk.specs.Request.{IsAt, IsOver, notices, open_in, refused_as, txn_in};
+ghost use Rattle.desk.specs.Request.{IsAt, IsOver, WhyNotStated, notices, open_in, refused_as, txn_in};
 ghost use Rattle.desk.specs.Database.{Database, language};
 ghost use Rattle.desk.specs.Frame.{GoesOnOrStays, LeavesRows, StatesInMemory, StepsBelowLimits, StepsInMemory};
-ghost use Rattle.desk.specs.State.{Begins, Fits, Steps, desk_of, volatile_of};
-ghost use Rattle.desk.specs.Transition.{IsTransition, AreParticipants};
+ghost use Rattle.desk.specs.State.{Begins, Fits, Steps, anyone_moves, desk_of, volatile_of};
+ghost use Rattle.desk.specs.Transition.{IsTransition, AreParticipants, is_moving};
 ghost use Rattle.std.specs.BTreeMap.{IsOrdered};
 ghost use Rattle.meaning.specs.declared.statement.Refragment.{Refragment as RefragmentNow};
 ghost use Rattle.meaning.specs.declared.statement.Statement.{Statement as StatementNow};
@@ -43,7 +43,7 @@ use crate::reply::{Notice, Out, Reply};
 use crate::statement::{Progress, Worked, evaluate, reads, works};
 use crate::transaction::{Planned, Stage, TxnState, Undecided};
 use crate::transition::{Transition, make, noticed, room, stays};
-use crate::volatile::Volatile;
+use crate::volatile::{Volatile, begun};
 use catalog::catalogue::Catalog;
 use catalog::laws::leaf_names_are_unique;
 use meaning::statement::Statement;
@@ -58,7 +58,7 @@ use terms::seq::Seq;
 use terms::text::Text;
 
 /// Participants of which none is visited.
-fn nowhere_yet(alloc: Global, sites: &[Text]) -> Result<Vec<Participant>, Memory>
+pub(crate) fn nowhere_yet(alloc: Global, sites: &[Text]) -> Result<Vec<Participant>, Memory>
     ensures { IfOk result (λ participants. participants.items ≡ nowhere_yet sites.now) }
 {
     let mut participants = Vec::new(alloc);
@@ -77,21 +77,28 @@ fn nowhere_yet(alloc: Global, sites: &[Text]) -> Result<Vec<Participant>, Memory
 /// A transaction begins at these sites.
 pub(crate) fn call_begin(volatile: &mut Volatile, sites: &[Text]) -> Result<Out, Refusal>
     ensures ok { (db : Database) (kept : DeskContent) → IsOver db sites.now → Fits db kept (volatile_of volatile.old)
-        → IfOk result (λ out. Begins db (volatile_of volatile.old) kept (volatile_of volatile.new) out.letters out.replies) }
-    ensures steps { StepsBelowLimits volatile.old volatile.new result }
-    ensures full { (db : Database) (kept : DeskContent) → IsOver db sites.now → Fits db kept (volatile_of volatile.old)
-        → IfErr result (λ told. (told ≡ refusals.Memory) ⊎ ((told ≡ refusals.Full) × (is_desk_within (desk_began (desk_of db (volatile_of volatile.old))) ≡ false))) }
+        → IfOk result (λ out. Begins db false (volatile_of volatile.old) kept (volatile_of volatile.new) out.letters out.replies) }
+    ensures steps { StepsInMemory volatile.old volatile.new result }
+    ensures accepted { OnOk result (anyone_moves (volatile_of volatile.old) ≡ false) }
+    ensures own { IfErr result (λ told. (told ≡ refusals.Memory) ⊎ (told ≡ refusals.Full) ⊎ (told ≡ refusals.NotAlone)) }
+    ensures full { (db : Database) (kept : DeskContent) → IsOver db sites.now → Fits db kept (volatile_of volatile.old) → result ≡ Err refusals.Full
+        → is_desk_within (desk_began (desk_of db (volatile_of volatile.old))) ≡ false }
+    ensures alone { result ≡ Err refusals.NotAlone → anyone_moves (volatile_of volatile.old) ≡ true }
 {
     let room = room(volatile.alloc)?;
     let participants = nowhere_yet(volatile.alloc, sites)?;
-    match volatile.begin(participants) {
-        Ok(txn) => Ok(begun(volatile.alloc, room, txn)),
+    volatile.next()?;
+    if volatile.moves() {
+        return Err(Refusal::NotAlone);
+    }
+    match volatile.begin(TxnState::Undecided(begun(participants, false))) {
+        Ok(txn) => Ok(out_of_begin(volatile.alloc, room, txn)),
         Err(refusal) => Err(refusal),
     }
 }
 
 /// A transaction's client hears that it has begun. There is room for it.
-fn begun(alloc: Global, room: Vec<Notice>, txn: Txn) -> Out
+fn out_of_begin(alloc: Global, room: Vec<Notice>, txn: Txn) -> Out
     requires { vec_len room < vec_capacity room }
     ensures letters { result.letters ≡ [] }
     ensures replies { room.items ≡ [] → result.replies ≡ notices txn (Some replies.Begun) }
@@ -218,7 +225,7 @@ fn run_at_once(
         → IsOfPlan db n statement.now plan.now asks.now → asks.now ≡ map (ask_from (db.catalogue n)) plan.now.fetches → asks.now ≡ [] → result ≡ Err refusals.Full
         → IsLong db (λ choice. on_request (txn_name txn) choice (State (n, statement.now)) (Known (undecided_of db undecided.old))) }
 {
-    let worked = evaluate(alloc, catalog, statement, plan, asks)?;
+    let worked = evaluate(alloc, catalog, None, statement, plan, asks)?;
     let Worked { answer, unsent } = worked;
     works(alloc, txn, undecided, answer, unsent)
 }
@@ -312,13 +319,17 @@ fn start(
 /// Whether a transaction may state something: it is undecided, and between two statements.
 fn may_state(volatile: &Volatile, txn: &Txn) -> Result<(), Refusal>
     ensures accepted { (db : Database) (statement : StatementNow) → OnOk result (refusal (State (volatile.now.version, statement)) (txn_in db (volatile_of volatile.now) txn.now) ≡ None) }
+    ensures still { OnOk result (is_moving ((volatile_of volatile.now).standing txn.now) ≡ false) }
     ensures idle { OnOk result (option_map (λ found. found.stage) (open_in ((volatile_of volatile.now).standing txn.now)) ≡ Some stages.Idle) }
-    ensures told { (db : Database) (statement : StatementNow) → IfErr result (λ told. option_map refused_as (refusal (State (volatile.now.version, statement)) (txn_in db (volatile_of volatile.now) txn.now)) ≡ Some told) }
+    ensures told { (db : Database) (statement : StatementNow) → IfErr result (λ told. WhyNotStated db (volatile_of volatile.now) txn.now statement told) }
     ensures own { result ≢ Err refusals.Full }
 {
     let Some(undecided) = undecided_of(volatile, txn) else {
         return Err(Refusal::NoTransaction);
     };
+    if undecided.moves {
+        return Err(Refusal::Busy);
+    }
     match &undecided.stage {
         Stage::Idle => Ok(()),
         Stage::Voting => Err(Refusal::Ended),
@@ -404,7 +415,7 @@ pub(crate) fn call_run(
     ensures ok { (db : Database) (kept : DeskContent) → IsOfCatalogue db → InForce db volatile.old.version catalog.now → Fits db kept (volatile_of volatile.old)
         → IfOk result (λ out. Runs db (volatile_of volatile.old) kept (volatile_of volatile.new) txn statement.now out.letters out.replies) }
     ensures states { StatesInMemory volatile.old volatile.new txn result }
-    ensures told { (db : Database) → IfErr result (λ told. (told ≡ refusals.Memory) ⊎ (option_map refused_as (refusal (State (volatile.old.version, statement.now)) (txn_in db (volatile_of volatile.old) txn)) ≡ Some told)
+    ensures told { (db : Database) → IfErr result (λ told. (told ≡ refusals.Memory) ⊎ WhyNotStated db (volatile_of volatile.old) txn statement.now told
         ⊎ ((refusal (State (volatile.old.version, statement.now)) (txn_in db (volatile_of volatile.old) txn) ≡ None) × (((is_refragment statement.now ≡ true) × (told ≡ refusals.Busy)) ⊎ (told ≡ refusals.Full)))) }
     ensures full { (db : Database) (kept : DeskContent) → IsOfCatalogue db → InForce db volatile.old.version catalog.now → Fits db kept (volatile_of volatile.old) → result ≡ Err refusals.Full
         → RunsPastLimits db (volatile_of volatile.old) txn statement.now }
@@ -433,7 +444,7 @@ pub(crate) fn call_statement(
     ensures ok { (db : Database) (kept : DeskContent) → IsOfCatalogue db → InForce db volatile.old.version catalog.now → Fits db kept (volatile_of volatile.old)
         → IfOk result (λ out. States db (volatile_of volatile.old) kept (volatile_of volatile.new) txn text.now out.letters out.replies) }
     ensures states { StatesInMemory volatile.old volatile.new txn result }
-    ensures told { (db : Database) (statement : StatementNow) → IfErr result (λ told. (told ≡ refusals.Memory) ⊎ (option_map refused_as (refusal (State (volatile.old.version, statement)) (txn_in db (volatile_of volatile.old) txn)) ≡ Some told)
+    ensures told { (db : Database) (statement : StatementNow) → IfErr result (λ told. (told ≡ refusals.Memory) ⊎ WhyNotStated db (volatile_of volatile.old) txn statement told
         ⊎ ((refusal (State (volatile.old.version, statement)) (txn_in db (volatile_of volatile.old) txn) ≡ None) × (IsNoStatement (schemas_of (catalogue_of catalog.now)) text.now told ⊎ (told ≡ refusals.Full)))) }
     ensures full { (db : Database) (kept : DeskContent) → IsOfCatalogue db → InForce db volatile.old.version catalog.now → Fits db kept (volatile_of volatile.old) → result ≡ Err refusals.Full
         → StatesPastLimits db (volatile_of volatile.old) txn text.now }

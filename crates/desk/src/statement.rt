@@ -10,7 +10,7 @@ ghost use Rattle.desk.specs.declared.transaction.Stage.TheVariants as stages;
 ghost use Rattle.desk.specs.Database.{Database, language};
 ghost use Rattle.desk.specs.Frame.{SendsOrStays};
 ghost use Rattle.desk.specs.Opening.{HaveParticipants, opens, visits};
-ghost use Rattle.desk.specs.Planned.{IsOfPlan};
+ghost use Rattle.desk.specs.Planned.{AreUnsentBy, AreUnsentFrom, IsOfPlan, unsent_by, unsent_from};
 ghost use Rattle.desk.specs.Send.{AreShort, AsksAtHome, IsPast, asks_go, writes_go, UnsentAtHome};
 ghost use Rattle.desk.specs.Participants.{sites_of, changed_at, is_at, with_ticket};
 ghost use Rattle.desk.specs.Transaction.{ask_of, undecided_of, stage_of, write_of};
@@ -18,29 +18,47 @@ ghost use Rattle.desk.specs.State.{IsIn};
 ghost use Rattle.desk.specs.Statement.{ask_sites, write_sites};
 ghost use Rattle.desk.specs.Stepped.{IsProgress, goes_to, ticketed};
 ghost use Rattle.desk.specs.Transition.{AreParticipants};
-ghost use Rattle.std.specs.List.{list_any};
+ghost use Rattle.std.specs.List.{AllByRecursion, Contains, list_any};
+ghost use Rattle.std.specs.Option.{option_copied};
 ghost use Rattle.meaning.specs.declared.answer.Answer.{Answer as AnswerNow};
 ghost use Rattle.desk.specs.declared.reply.Reply.TheVariants.{Answer as Answers};
 ghost use Rattle.protocol.specs.Language.{Name};
 ghost use Rattle.protocol.specs.Serial.{Explained};
 ghost use Rattle.desk.specs.declared.participant.Participant.{Participant};
-ghost use Rattle.desk.specs.OfCatalogue.{InForce, IsOfCatalogue};
+ghost use Rattle.desk.specs.OfCatalogue.{InForce, IsNextOf, IsOfCatalogue};
+ghost use Rattle.catalog.specs.FragmentLeaf.{schemas_of};
+ghost use Rattle.catalog.specs.Relation.{catalogue_of};
+ghost use Rattle.meaning.specs.declared.statement.Statement.TheVariants as statements;
+ghost use Rattle.meaning.specs.Meaning.{meaning};
+ghost use Rattle.meaning.specs.Statement.{IsStatementOf};
+ghost use Rattle.meaning.specs.Whole.{FitsSchema, Relations, rows_of};
+ghost use Rattle.plan.specs.Given.{AreBrought};
+ghost use Rattle.plan.specs.Reduced.{FindsAll};
+ghost use Rattle.plan.specs.Shape.{shape};
+ghost use Rattle.plan.specs.Stated.{AreFetchesOf};
+ghost use Rattle.plan.specs.Uniform.{EachRead, IsUniform};
+ghost use Rattle.answers.specs.Moves.{moves_between};
+ghost use Rattle.answers.specs.Table.{AreParts, given};
+ghost use Rattle.answers.specs.Writes.{writes_between};
 ghost use Rattle.meaning.specs.declared.statement.Statement.{Statement};
 ghost use Rattle.desk.specs.declared.transaction.Unsent.{Unsent as UnsentNow};
 
-use crate::fetches::{Ask, brought, unsent_of};
+use crate::fetches::{Ask, brought, unsent_by, unsent_of};
 use crate::participant::{Participant, with_ticket};
 use crate::refusal::Refusal;
 use crate::reply::Reply;
 use crate::send;
 use crate::send::{SentOut, asks_step, writes_step};
 use crate::transaction::{Planned, Reading, Stage, Undecided, Unsent, Writing};
-use answers::table::are_all_parts;
+use answers::table::{FetchRows, are_all_parts};
+use answers::work;
 use answers::work::work;
 use catalog::catalogue::Catalog;
 use catalog::laws::leaf_names_are_unique;
 use meaning::answer::Answer;
-use meaning::statement::Statement;
+use meaning::statement::{Refragment, Statement};
+use plan::fetch::Fetch;
+use plan::plan::Plan;
 use std::alloc::Global;
 use store::letter::Letter;
 use store::name::{Ticket, Txn};
@@ -86,6 +104,7 @@ fn asks_begin(
 fn reading(undecided: &mut Undecided, participants: Vec<Participant>, reading: Reading)
     ensures participants { undecided.new.participants ≡ participants.items }
     ensures stage { undecided.new.stage ≡ stages.Reading reading }
+    ensures moves { undecided.new.moves ≡ undecided.old.moves }
 {
     undecided.participants = Seq::new(participants);
     undecided.stage = Stage::Reading(reading);
@@ -105,6 +124,7 @@ pub(crate) fn reads(
         → IfOk result (λ step. IsProgress db txn undecided.new step (states (txn_name txn) (undecided_of db undecided.old) (version, statement) (map (ask_of db) asks.items) choice)) }
     ensures within { (db : Database) → sites_of undecided.old.participants ≡ db.sites → AsksAtHome db asks.items → IsOfPlan db version statement plan asks.items → OnOk result (IsIn db version (standings.Undecided undecided.new)) }
     ensures sends { SendsOrStays undecided.old undecided.new (asks_go txn asks.items (visits (ask_sites asks.items) undecided.old.participants)).participants result }
+    ensures moves { undecided.new.moves ≡ undecided.old.moves }
 {
     let mut asks = asks;
     let going = asks_begin(alloc, txn, undecided.participants.as_slice(), &mut asks)?;
@@ -153,6 +173,7 @@ pub(crate) fn no_progress(alloc: Global) -> Progress
 fn set_participants(undecided: &mut Undecided, participants: Vec<Participant>)
     ensures participants { undecided.new.participants ≡ participants.items }
     ensures stage { undecided.new.stage ≡ undecided.old.stage }
+    ensures moves { undecided.new.moves ≡ undecided.old.moves }
 {
     undecided.participants = Seq::new(participants);
 }
@@ -161,6 +182,7 @@ fn set_participants(undecided: &mut Undecided, participants: Vec<Participant>)
 fn idles(undecided: &mut Undecided)
     ensures participants { undecided.new.participants ≡ undecided.old.participants }
     ensures stage { undecided.new.stage ≡ stages.Idle }
+    ensures moves { undecided.new.moves ≡ undecided.old.moves }
 {
     undecided.stage = Stage::Idle;
 }
@@ -195,6 +217,7 @@ fn writing_goes(
 fn wrote(undecided: &mut Undecided, written: Written) -> Progress
     ensures participants { undecided.new.participants ≡ written.going.participants.items }
     ensures letters { result.letters ≡ written.going.letters }
+    ensures moves { undecided.new.moves ≡ undecided.old.moves }
     ensures waits { written.answer ≡ None → (undecided.new.stage ≡ undecided.old.stage) × (result.reply ≡ None) }
     ensures answered { (answer : AnswerNow) → written.answer ≡ Some answer → (undecided.new.stage ≡ stages.Idle) × (result.reply ≡ Some (Answers answer)) }
 {
@@ -261,17 +284,18 @@ pub(crate) struct Worked {
     pub(crate) unsent: Vec<Unsent>,
 }
 
-/// A statement is evaluated, by its plan and by the rows that its fetches brought.
+/// A statement is evaluated, by its plan and by the rows that its fetches brought. `next` is the catalogue that comes next, if one does.
 pub(crate) fn evaluate(
     alloc: Global,
     catalog: &Catalog,
+    next: Option<&Catalog>,
     statement: &Statement,
     plan: &Planned,
     asks: &[Ask],
 ) -> Result<Worked, Memory>
-    ensures home { (db : Database) (n : ℕ) → IsOfCatalogue db → InForce db n catalog.now → IfOk result (λ worked. UnsentAtHome db worked.unsent.items) }
-    ensures participants { (db : Database) (n : ℕ) (participants : List Participant) → IsOfCatalogue db → InForce db n catalog.now → sites_of participants ≡ db.sites → IfOk result (λ worked. HaveParticipants participants (write_sites worked.unsent.items)) }
-    ensures explained { (db : Database) (n : ℕ) (t : Name) → IsOfCatalogue db → InForce db n catalog.now → IsOfPlan db n statement.now plan.now asks.now
+    ensures home { (db : Database) (n : ℕ) → IsOfCatalogue db → InForce db n catalog.now → IsNextOf db n (option_copied next.entry) → IfOk result (λ worked. UnsentAtHome db worked.unsent.items) }
+    ensures participants { (db : Database) (n : ℕ) (participants : List Participant) → IsOfCatalogue db → InForce db n catalog.now → IsNextOf db n (option_copied next.entry) → sites_of participants ≡ db.sites → IfOk result (λ worked. HaveParticipants participants (write_sites worked.unsent.items)) }
+    ensures explained { (db : Database) (n : ℕ) (t : Name) → IsOfCatalogue db → InForce db n catalog.now → IsNextOf db n (option_copied next.entry) → IsOfPlan db n statement.now plan.now asks.now
         → IfOk result (λ worked. Explained {L = language db} (WorkedDeed t (n, statement.now) (map (ask_of db) asks.now) (worked.answer, map write_of worked.unsent.items))) }
 {
     leaf_names_are_unique();
@@ -283,10 +307,67 @@ pub(crate) fn evaluate(
         return Err(Memory);
     }
     let plan = plan.plan(alloc)?;
-    let outcome = work(alloc, catalog, statement, &plan, fetches, fetched)?;
+    if !statement.is_refragment() {
+        return outcome_of(alloc, catalog, statement, &plan, fetches, fetched);
+    }
+    // No relation gets another split where no catalogue comes next, so nothing is turned away here.
+    let (Statement::Refragment(refragment), Some(next)) = (statement, next) else {
+        return Err(Memory);
+    };
+    moves_of(alloc, catalog, next, refragment, &plan, fetches, fetched)
+}
+
+/// So a statement that leaves the split of each relation as it is.
+fn outcome_of(
+    alloc: Global,
+    catalog: &Catalog,
+    statement: &Statement,
+    plan: &Plan,
+    fetches: &[Fetch],
+    fetched: &[FetchRows],
+) -> Result<Worked, Memory>
+    requires fetched { EachRead (λ read. Contains fetches.now read) (shape plan.now) }
+    requires uniform { IsUniform (shape plan.now) }
+    requires parts { AllByRecursion (λ read. AreParts read.columns (given fetched.now read.leaf)) fetches.now }
+    ensures answer { IsStatementOf (schemas_of (catalogue_of catalog.now)) statement.now → AreFetchesOf (catalogue_of catalog.now) statement.now fetches.now → FindsAll (catalogue_of catalog.now) statement.now fetches.now (shape plan.now)
+        → IfOk result (λ worked. (whole : Relations) → FitsSchema (schemas_of (catalogue_of catalog.now)) whole → AreBrought (catalogue_of catalog.now) whole fetches.now (given fetched.now) → worked.answer ≡ (meaning statement.now whole).0) }
+    ensures writes { IsStatementOf (schemas_of (catalogue_of catalog.now)) statement.now → AreFetchesOf (catalogue_of catalog.now) statement.now fetches.now → FindsAll (catalogue_of catalog.now) statement.now fetches.now (shape plan.now)
+        → IfOk result (λ worked. (whole : Relations) → FitsSchema (schemas_of (catalogue_of catalog.now)) whole → AreBrought (catalogue_of catalog.now) whole fetches.now (given fetched.now)
+        → worked.unsent.items ≡ map (unsent_from (catalogue_of catalog.now)) (writes_between (catalogue_of catalog.now) whole (meaning statement.now whole).1)) }
+    ensures leaves { IfOk result (λ worked. AreUnsentFrom (catalogue_of catalog.now) worked.unsent.items) }
+{
+    let outcome = work(alloc, catalog, statement, plan, fetches, fetched)?;
     let unsent = unsent_of(alloc, catalog, outcome.writes.as_slice())?;
     Ok(Worked {
         answer: outcome.answer,
+        unsent,
+    })
+}
+
+/// So a REFRAGMENT: its writes are the moves to the next catalogue's split.
+fn moves_of(
+    alloc: Global,
+    catalog: &Catalog,
+    next: &Catalog,
+    refragment: &Refragment,
+    plan: &Plan,
+    fetches: &[Fetch],
+    fetched: &[FetchRows],
+) -> Result<Worked, Memory>
+    requires fetched { EachRead (λ read. Contains fetches.now read) (shape plan.now) }
+    requires uniform { IsUniform (shape plan.now) }
+    requires parts { AllByRecursion (λ read. AreParts read.columns (given fetched.now read.leaf)) fetches.now }
+    ensures answer { IsStatementOf (schemas_of (catalogue_of catalog.now)) (statements.Refragment refragment.now) → AreFetchesOf (catalogue_of catalog.now) (statements.Refragment refragment.now) fetches.now → FindsAll (catalogue_of catalog.now) (statements.Refragment refragment.now) fetches.now (shape plan.now)
+        → IfOk result (λ worked. (whole : Relations) → FitsSchema (schemas_of (catalogue_of catalog.now)) whole → AreBrought (catalogue_of catalog.now) whole fetches.now (given fetched.now) → worked.answer ≡ (meaning (statements.Refragment refragment.now) whole).0) }
+    ensures moves { IsStatementOf (schemas_of (catalogue_of catalog.now)) (statements.Refragment refragment.now) → AreFetchesOf (catalogue_of catalog.now) (statements.Refragment refragment.now) fetches.now → FindsAll (catalogue_of catalog.now) (statements.Refragment refragment.now) fetches.now (shape plan.now)
+        → IfOk result (λ worked. (whole : Relations) → FitsSchema (schemas_of (catalogue_of catalog.now)) whole → AreBrought (catalogue_of catalog.now) whole fetches.now (given fetched.now)
+        → worked.unsent.items ≡ map unsent_by (moves_between (catalogue_of catalog.now) (catalogue_of next.now) refragment.now.relation.name (rows_of whole refragment.now.relation.name))) }
+    ensures leaves { IfOk result (λ worked. AreUnsentBy (catalogue_of catalog.now) (catalogue_of next.now) worked.unsent.items) }
+{
+    let made = work::refragment(alloc, catalog, next, refragment, plan, fetches, fetched)?;
+    let unsent = unsent_by(alloc, made.moves)?;
+    Ok(Worked {
+        answer: made.answer,
         unsent,
     })
 }
@@ -322,6 +403,7 @@ fn put_writes(
     unsent: Vec<Unsent>,
 ) -> Option<Reply>
     ensures participants { undecided.new.participants ≡ participants.items }
+    ensures moves { undecided.new.moves ≡ undecided.old.moves }
     ensures answered { unsent.items ≡ [] → (undecided.new.stage ≡ stages.Idle) × (result ≡ Some (Answers answer)) }
     ensures waits { (first : UnsentNow) (rest : List UnsentNow) → unsent.items ≡ first ∷ rest
         → (undecided.new.stage ≡ stages.Writing (record { answer = answer; unsent = unsent })) × (result ≡ None) }

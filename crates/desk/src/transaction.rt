@@ -73,6 +73,8 @@ pub(crate) enum Stage {
 pub(crate) struct Undecided {
     pub(crate) participants: Seq<Participant>,
     pub(crate) stage: Stage,
+    /// Whether it gives a relation another split.
+    pub(crate) moves: bool,
 }
 
 /// A reduced plan, as the list of its nodes, and its fetches. It reads its fetches alone, and both sides of each of its

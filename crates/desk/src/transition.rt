@@ -1,13 +1,13 @@
 //! What becomes of a transaction, and how a step is made.
 
-ghost use Rattle.std.specs.Prelude.{◌≡◌, [], ◌∷◌, Option, Some, true, IfOk, ◌<◌, ◌-◌, ◌&&◌, if◌then◌else◌, vec_len};
+ghost use Rattle.std.specs.Prelude.{◌≡◌, [], ◌∷◌, Option, None, Some, true, false, suc, IfOk, ◌<◌, ◌+◌, ◌-◌, ◌^◌, ◌&&◌, if◌then◌else◌, vec_len};
 ghost use Rattle.protocol.specs.Desk.{stays};
 ghost use Rattle.desk.specs.declared.transition.After.TheVariants as after;
 ghost use Rattle.desk.specs.Database.{Database, sent};
 ghost use Rattle.desk.specs.Frame.{LeavesStanding};
 ghost use Rattle.desk.specs.Orders.{ordered};
 ghost use Rattle.desk.specs.Transaction.{txn_of};
-ghost use Rattle.desk.specs.Transition.{IsTransition};
+ghost use Rattle.desk.specs.Transition.{IsTransition, raises, says_committed};
 ghost use Rattle.std.specs.BTreeMap.{IsOrdered};
 ghost use Rattle.std.specs.Vec.{vec_capacity};
 ghost use Rattle.store.specs.Name.{txn_cmp};
@@ -53,6 +53,7 @@ pub(crate) fn stays(alloc: Global, kept: bool) -> Transition
     ensures turn { (db : Database) (txn : Txn) (old : Option TxnState) → IsTransition db txn old result (stays (txn_of db old)) }
     ensures kept { result.kept ≡ kept }
     ensures after { result.after ≡ after.Stays }
+    ensures reply { result.reply ≡ None }
 {
     Transition {
         after: After::Stays,
@@ -67,6 +68,7 @@ pub(crate) fn becomes(alloc: Global, standing: TxnState) -> Transition
     ensures turn { (db : Database) (txn : Txn) (old : Option TxnState) → IsTransition db txn old result (stays (txn_of db (Some standing))) }
     ensures after { result.after ≡ after.Becomes standing }
     ensures kept { result.kept ≡ true }
+    ensures reply { result.reply ≡ None }
 {
     Transition {
         after: After::Becomes(standing),
@@ -120,15 +122,24 @@ pub(crate) fn noticed(room: Vec<Notice>, txn: Txn, reply: Option<Reply>) -> Vec<
     notices
 }
 
-/// A transaction makes a step. There is room for its reply.
+/// Whether a client hears that its transaction is committed.
+fn says_committed(reply: &Option<Reply>) -> bool
+    ensures { result ≡ says_committed reply.now }
+{
+    matches!(reply, Some(Reply::Committed))
+}
+
+/// A transaction makes a step. There is room for its reply. Where the step commits one that gives a relation another split,
+/// the next catalogue is in force.
 pub(crate) fn make(volatile: &mut Volatile, txn: Txn, turn: Transition, room: Vec<Notice>) -> Out
     requires { vec_len room < vec_capacity room }
     ensures letters { result.letters ≡ turn.letters.items }
     ensures replies { room.items ≡ [] → result.replies ≡ notices txn turn.reply }
     ensures kept { result.kept ≡ turn.kept }
-    ensures settled { (now : TxnStateNow) → (volatile_of volatile.old).standing txn ≡ Some now
-        → volatile_of volatile.new ≡ volatile_from (settled txn turn.after volatile.old.standings.entries) (if is_open (Some now) && closes turn.after then volatile.old.undecided - 1 else volatile.old.undecided) volatile.old.life volatile.old.number volatile.old.version }
-    ensures still { turn.after ≡ after.Stays → volatile_of volatile.new ≡ volatile_of volatile.old }
+    ensures settled { (now : TxnStateNow) → (volatile_of volatile.old).standing txn ≡ Some now → (raises (Some now) turn.reply ≡ true → volatile.old.version + 1 < 2 ^ 64)
+        → volatile_of volatile.new ≡ volatile_from (settled txn turn.after volatile.old.standings.entries) (if is_open (Some now) && closes turn.after then volatile.old.undecided - 1 else volatile.old.undecided) volatile.old.life volatile.old.number
+        (if raises (Some now) turn.reply then suc volatile.old.version else volatile.old.version) }
+    ensures still { turn.after ≡ after.Stays → raises ((volatile_of volatile.old).standing txn) turn.reply ≡ false → volatile_of volatile.new ≡ volatile_of volatile.old }
     ensures ordered { IsOrdered txn_cmp volatile.old.standings }
 {
     let Transition {
@@ -137,7 +148,9 @@ pub(crate) fn make(volatile: &mut Volatile, txn: Txn, turn: Transition, room: Ve
         reply,
         kept,
     } = turn;
+    let raises = volatile.is_moving(&txn) && says_committed(&reply);
     volatile.settle(&txn, after);
+    volatile.raise(raises);
     Out {
         letters: Seq::new(letters),
         replies: Seq::new(noticed(room, txn, reply)),

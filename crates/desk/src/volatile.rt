@@ -1,6 +1,6 @@
 //! What the coordinator has in memory, and a restart loses.
 
-ghost use Rattle.std.specs.Prelude.{◌≡◌, ◌+◌, ◌-◌, ◌^◌, ◌≤◌, ◌⊎◌, ◌&&◌, Some, IfOk, IfErr, OnOk, OnErr, if◌then◌else◌, map};
+ghost use Rattle.std.specs.Prelude.{◌≡◌, ◌≢◌, ◌+◌, ◌-◌, ◌^◌, ◌<◌, ◌≤◌, suc, true, false, [], ◌⊎◌, ◌&&◌, Some, IfOk, IfErr, OnOk, OnErr, if◌then◌else◌, map};
 ghost use Rattle.std.specs.BTreeMap as tree;
 ghost use Rattle.std.specs.BTreeMap.{insert_entry, is_at, IsOrdered};
 ghost use Rattle.std.specs.Map.{set_value, remove_entry};
@@ -12,6 +12,8 @@ ghost use Rattle.desk.specs.declared.transaction.TxnState.{TxnState as TxnStateN
 ghost use Rattle.desk.specs.declared.transition.After.TheVariants as afters;
 ghost use Rattle.desk.specs.State.{closes, is_open, settled, volatile_from, volatile_of};
 ghost use Rattle.desk.specs.Begun.{first_of, next_of};
+ghost use Rattle.desk.specs.Transition.{is_moving};
+ghost use Rattle.std.specs.List.{list_any};
 
 use crate::participant::Participant;
 use crate::refusal::Refusal;
@@ -48,6 +50,16 @@ fn is_open(standing: &TxnState) -> bool
 {
     match standing {
         TxnState::Undecided(_) => true,
+        TxnState::Committed(_) => false,
+    }
+}
+
+/// Whether an undecided transaction stands there that gives a relation another split.
+fn is_moving(standing: &TxnState) -> bool
+    ensures { result ≡ is_moving (Some standing.now) }
+{
+    match standing {
+        TxnState::Undecided(undecided) => undecided.moves,
         TxnState::Committed(_) => false,
     }
 }
@@ -112,28 +124,81 @@ impl Volatile {
         }
     }
 
-    /// A transaction begins, with these participants: the next one of this life.
-    pub(crate) fn begin(&mut self, participants: Vec<Participant>) -> Result<Txn, Refusal>
+    /// The name of the next transaction of this life, where the limits allow one more.
+    pub(crate) fn next(&self) -> Result<Txn, Refusal>
+        ensures txn { IfOk result (λ txn. txn ≡ next_of (volatile_of self.now)) }
+        ensures few { OnOk result (self.now.undecided + 1 ≤ 256) }
+        ensures low { OnOk result (self.now.number + 2 ≤ 2 ^ 63) }
+        ensures full { IfErr result (λ refusal. (refusal ≡ refusals.Full) × ((256 ≤ self.now.undecided) ⊎ (2 ^ 63 ≤ self.now.number + 1))) }
+    {
+        if self.undecided >= UNDECIDED || self.number >= LAST {
+            return Err(Refusal::Full);
+        }
+        Ok(Txn {
+            life: self.life,
+            number: self.number + 1,
+        })
+    }
+
+    /// A transaction begins, and this stands behind it: it is the next one of this life.
+    pub(crate) fn begin(&mut self, standing: TxnState) -> Result<Txn, Refusal>
         ensures txn { IfOk result (λ txn. txn ≡ next_of (volatile_of self.old)) }
-        ensures ok { OnOk result (volatile_of self.new ≡ volatile_from (insert_entry txn_cmp self.old.standings.entries (next_of (volatile_of self.old)) (first_of participants.items)) (self.old.undecided + 1) self.old.life (self.old.number + 1) self.old.version) }
-        ensures limits { OnOk result (self.old.undecided + 1 ≤ 256) }
-        ensures last { OnOk result (self.old.number + 2 ≤ 2 ^ 63) }
+        ensures ok { OnOk result (volatile_of self.new ≡ volatile_from (insert_entry txn_cmp self.old.standings.entries (next_of (volatile_of self.old)) standing) (self.old.undecided + 1) self.old.life (self.old.number + 1) self.old.version) }
+        ensures few { OnOk result (self.old.undecided + 1 ≤ 256) }
+        ensures low { OnOk result (self.old.number + 2 ≤ 2 ^ 63) }
         ensures err { OnErr result (volatile_of self.new ≡ volatile_of self.old) }
         ensures ordered { IsOrdered txn_cmp self.old.standings }
         ensures refusal { IfErr result (λ refusal. (refusal ≡ refusals.Memory) ⊎ ((refusal ≡ refusals.Full) × ((256 ≤ self.old.undecided) ⊎ (2 ^ 63 ≤ self.old.number + 1)))) }
     {
         let _count = self.standings.len();
-        if self.undecided >= UNDECIDED || self.number >= LAST {
-            return Err(Refusal::Full);
-        }
-        let txn = Txn {
-            life: self.life,
-            number: self.number + 1,
-        };
-        add(&mut self.standings, txn, begun(participants))?;
+        let txn = self.next()?;
+        add(&mut self.standings, txn, standing)?;
         self.undecided += 1;
         self.number += 1;
         Ok(txn)
+    }
+
+    /// Whether nothing stands: no transaction is undecided, and there is no commit row.
+    pub(crate) fn is_alone(&self) -> bool
+        ensures yes { result ≡ true → self.now.standings.entries ≡ [] }
+        ensures no { result ≡ false → self.now.standings.entries ≢ [] }
+    {
+        self.standings.is_empty()
+    }
+
+    /// Whether an undecided transaction gives a relation another split.
+    pub(crate) fn moves(&self) -> bool
+        ensures moves { result ≡ list_any (λ entry. is_moving (Some entry.1)) self.now.standings.entries }
+        ensures ordered { IsOrdered txn_cmp self.now.standings }
+    {
+        let _count = self.standings.len();
+        let mut moves = false;
+        for (txn, standing) in &self.standings {
+            let _name = txn;
+            moves = moves || is_moving(standing);
+        }
+        moves
+    }
+
+    /// With the commit of a transaction that gives a relation another split the next catalogue is in force.
+    pub(crate) fn raise(&mut self, raises: bool)
+        ensures raised { (raises ≡ true → self.old.version + 1 < 2 ^ 64) → volatile_of self.new ≡ volatile_from self.old.standings.entries self.old.undecided self.old.life self.old.number (if raises then suc self.old.version else self.old.version) }
+        ensures ordered { IsOrdered txn_cmp self.old.standings }
+    {
+        let _count = self.standings.len();
+        if raises {
+            self.version = self.version.saturating_add(1);
+        }
+    }
+
+    /// Whether the transaction is undecided, and gives a relation another split.
+    pub(crate) fn is_moving(&self, txn: &Txn) -> bool
+        ensures { result ≡ is_moving ((volatile_of self.now).standing txn.now) }
+    {
+        match self.standing(txn) {
+            Some(standing) => is_moving(standing),
+            None => false,
+        }
     }
 
     /// A transaction has made a step.
@@ -168,12 +233,13 @@ impl Volatile {
     }
 }
 
-/// What stands behind a transaction that begins.
-fn begun(participants: Vec<Participant>) -> TxnState
-    ensures { result ≡ first_of participants.items }
+/// What stands behind a transaction that begins; `moves`: whether it is to give a relation another split.
+pub(crate) fn begun(participants: Vec<Participant>, moves: bool) -> Undecided
+    ensures { standing.Undecided result ≡ first_of moves participants.items }
 {
-    TxnState::Undecided(Undecided {
+    Undecided {
         participants: Seq::new(participants),
         stage: Stage::Idle,
-    })
+        moves,
+    }
 }

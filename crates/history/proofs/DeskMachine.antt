@@ -75,7 +75,7 @@ module _ (db : Database) (before after : DeskState) (result : Result Out Refusal
   AreKept = IfOk result (λ out. out.kept ≡ true)
 
   -- ---- what clients ask for
-  pub begin_accepts : (asked : calls.Call) → asked ≡ call.Begin → IfOk result (λ out. Begins db before.table after.content after.table out.letters out.replies) → AreKept → AcceptsAll (input.Call asked)
+  pub begin_accepts : (asked : calls.Call) → asked ≡ call.Begin → IfOk result (λ out. Begins db false before.table after.content after.table out.letters out.replies) → AreKept → AcceptsAll (input.Call asked)
   begin_accepts asked is begins kept = subst (λ asked. AcceptsAll (input.Call asked)) (sym is)
       (if_both result (λ out begun kept number. record { fit = record { fits = begun.fits; within = begun.within }; does = begun; kept = λ silent. kept }) begins kept)
 

@@ -81,7 +81,7 @@ module _ (db : Database) (whole : Relations) (before after : DeskState) (seats :
   desk_goes : (asked : inputs.Input) → DeskDoes db asked before entry after → IsBroughtAt db.sites (letters_in entries) n zero asked → Goes db whole desk_new entries past entry (happened_as entry (event_of db.sites n zero asked entry.kept))
   desk_goes (input.Call call.Begin) did brought =
       let w = world_of db desk_old (map (sent db) (letters_in entries)) past in
-      let may = begins_in_force db desk_old (map (sent db) (letters_in entries)) past in
+      let may = begins_in_force db desk_old so.fit.still (map (sent db) (letters_in entries)) past in
       let leads = begin_leads db desk_old after.content after.table entry.letters entry.replies so.fit did in
       steps db whole desk_old entries past entry so desk_new (event.Call call.Begin) (runs_on db whole desk_old desk_new entries past (event.Call call.Begin) out begins Begin so leads (if_true (may_begin w) (begins w) w may) refl (may, ap is_desk_within (sym did.state) ∙ did.within)
       (silent_step db desk_old desk_new entry.letters entry.replies (event.Call call.Begin) begins leads refl refl (begins_silent (world_of db desk_old [] []) refl)))

@@ -61,7 +61,7 @@ module _ (db : Database) where
 
   -- what the coordinator makes of what it is called for; visits and inquiries are the sites'
   abbrev pub DeskDoes : inputs.Input → DeskState → Entry → DeskState → Type 0
-  DeskDoes (input.Call call.Begin) before entry after = Begins db before.table after.content after.table entry.letters entry.replies
+  DeskDoes (input.Call call.Begin) before entry after = Begins db false before.table after.content after.table entry.letters entry.replies
   DeskDoes (input.Call (call.State txn text)) before entry after = AsksStatement before txn text entry after
   DeskDoes (input.Call (call.Commit txn)) before entry after = Asks before txn protocol.Commit_call entry after
   DeskDoes (input.Call (call.Rollback txn)) before entry after = Asks before txn protocol.Rollback entry after

@@ -40,4 +40,6 @@ refused_text-other (refusal.Read fault) not_read = absurd (not_read fault refl)
 refused_text-other (refusal.Aborted why) not_read = refl
 refused_text-other refusal.Memory not_read = refl
 refused_text-other (refusal.Store fault) not_read = refl
+refused_text-other refusal.NotAlone not_read = refl
 refused_text-other refusal.NoNext not_read = refl
+refused_text-other refusal.Chain not_read = refl

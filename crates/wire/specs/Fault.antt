@@ -10,7 +10,7 @@ use Rattle.desk.specs.declared.refusal.Refusal.TheVariants as refusal
 use Rattle.world.specs.declared.fault.Fault as machine_faults
 use Rattle.world.specs.declared.fault.Fault.TheVariants as machine
 use Rattle.wire.specs.declared.fault.CallFault as faults
-use Rattle.wire.specs.declared.fault.CallFault.TheVariants.{NoTransaction, Busy, Ended, Full, Read, Aborted, Memory, Store, Closed, NoNext}
+use Rattle.wire.specs.declared.fault.CallFault.TheVariants.{NoTransaction, Busy, Ended, Full, Read, Aborted, Memory, Store, Closed, NotAlone, NoNext, Chain}
 
 abbrev pub call_name : faults.CallFault → List ℕ
 call_name NoTransaction = codes "NoTransaction"
@@ -22,7 +22,9 @@ call_name (Aborted why) = codes "Aborted"
 call_name Memory = codes "Memory"
 call_name (Store fault) = codes "Store"
 call_name Closed = codes "Closed"
+call_name NotAlone = codes "NotAlone"
 call_name NoNext = codes "NoNext"
+call_name Chain = codes "Chain"
 
 abbrev pub call_number : faults.CallFault → ℕ
 call_number NoTransaction = 1
@@ -34,7 +36,9 @@ call_number (Aborted why) = 6
 call_number Memory = 7
 call_number (Store fault) = 8
 call_number Closed = 9
-call_number NoNext = 10
+call_number NotAlone = 10
+call_number NoNext = 11
+call_number Chain = 12
 
 -- a refusal of the coordinator as a session's fault
 abbrev pub refused_call : refusals.Refusal → faults.CallFault
@@ -46,7 +50,9 @@ refused_call (refusal.Read fault) = Read fault
 refused_call (refusal.Aborted why) = Aborted why
 refused_call refusal.Memory = Memory
 refused_call (refusal.Store fault) = Store fault
+refused_call refusal.NotAlone = NotAlone
 refused_call refusal.NoNext = NoNext
+refused_call refusal.Chain = Chain
 
 -- what an entry of the coordinator was refused for, as a session's fault
 abbrev pub told_call : machine_faults.Fault → faults.CallFault

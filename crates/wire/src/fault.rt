@@ -34,8 +34,12 @@ pub enum CallFault {
     Store(StoreFault),
     /// A machine can't be had any more, or what it answers doesn't follow what was told.
     Closed,
-    /// No catalogue comes after the one in force.
+    /// A transaction that gives a relation another split is undecided, or it would not be alone.
+    NotAlone,
+    /// No catalogue comes after the one in force, or it splits another relation otherwise.
     NoNext,
+    /// The coordinator's store has the version of no catalogue in the list.
+    Chain,
 }
 
 impl CallFault {
@@ -53,7 +57,9 @@ impl CallFault {
             CallFault::Memory => 7,
             CallFault::Store(_) => 8,
             CallFault::Closed => 9,
-            CallFault::NoNext => 10,
+            CallFault::NotAlone => 10,
+            CallFault::NoNext => 11,
+            CallFault::Chain => 12,
         }
     }
 }
@@ -72,7 +78,9 @@ impl fmt::Display for CallFault {
             CallFault::Memory => f.write_str("Memory"),
             CallFault::Store(_) => f.write_str("Store"),
             CallFault::Closed => f.write_str("Closed"),
+            CallFault::NotAlone => f.write_str("NotAlone"),
             CallFault::NoNext => f.write_str("NoNext"),
+            CallFault::Chain => f.write_str("Chain"),
         }
     }
 }
@@ -95,7 +103,9 @@ impl From<Refusal> for CallFault {
             Refusal::Aborted(why) => CallFault::Aborted(why),
             Refusal::Memory => CallFault::Memory,
             Refusal::Store(fault) => CallFault::Store(fault),
+            Refusal::NotAlone => CallFault::NotAlone,
             Refusal::NoNext => CallFault::NoNext,
+            Refusal::Chain => CallFault::Chain,
         }
     }
 }

@@ -51,7 +51,9 @@ goes_for_any before after (told_as.Read fault) goes = tt
 goes_for_any before after (told_as.Aborted why) goes = tt
 goes_for_any before after Memory goes = tt
 goes_for_any before after (told_as.Store fault) goes = cc
+goes_for_any before after told_as.NotAlone goes = tt
 goes_for_any before after told_as.NoNext goes = tt
+goes_for_any before after told_as.Chain goes = tt
 
 -- which moves are made by a call with this answer
 abbrev pub Kind : Type 0 → Type 1

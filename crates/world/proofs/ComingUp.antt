@@ -11,12 +11,13 @@ use Rattle.site.specs.Recovery.{Begins}
 use Rattle.site.specs.Seat.{seat_from}
 use Rattle.desk.specs.Database.{Database}
 use Rattle.desk.specs.Recovery.{Rises}
-use Rattle.desk.specs.State.{IsMemory}
+use Rattle.desk.specs.State.{IsMemory, txn_at}
 use Rattle.world.specs.Machines.{AreFit, Machines}
 use Rattle.world.specs.Placed.{IsPlaced}
 use Rattle.world.specs.Recovery.{AllWake, AreKept, AreUp, AreUpAgain, ComeUp, HaveLeaves}
 use Rattle.world.specs.Seated.{seats_in}
 use Rattle.world.specs.Sites.{Seat}
+use Rattle.world.proofs.InForce.{nobody_rises}
 use Rattle.world.proofs.Openings.{all_so, has_its}
 use Rattle.world.proofs.Seating.{HasItsLeaves}
 
@@ -102,6 +103,7 @@ module _ {S : Type 0} (is_clean is_sound : S → Type 0) (kept : S → SiteConte
         desk = rises.fits;
         within = rises.within;
         sites = all_so machines.seats (λ seat begins. begins.fits) begin_all;
+        still = λ t. nobody_rises db machines.desk machines.table rises (txn_at t);
       }
 
       pub up_again : AreUpAgain db machines

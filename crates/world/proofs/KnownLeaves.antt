@@ -1,5 +1,5 @@
 -- The leaves that relations can have, put number by number; and each leaf of a formed catalogue is among them.
-use Rattle.std.proofs.Common.{◌≡◌, refl, sym, ap, ◌∙◌, subst, ℕ, zero, suc, ◌+◌, ◌<◌, ◌≤◌, Bool, true, List, [], ◌∷◌, ◌++◌, append-nil, append_assoc, flat_map, map, length, get_or, Some, inl, inr, arith}
+use Rattle.std.proofs.Common.{◌≡◌, sym, ap, ◌∙◌, subst, ℕ, zero, suc, ◌+◌, ◌<◌, ◌≤◌, true, List, [], ◌∷◌, ◌++◌, append-nil, append_assoc, flat_map, map, length, get_or, Some, inl, inr, arith}
 use Rattle.std.specs.List.{AllByRecursion, list_any, range_with_len}
 use Rattle.std.specs.Ordering.{is_eq}
 use Rattle.terms.specs.declared.leaf.Leaf.{Leaf}
@@ -18,7 +18,6 @@ use Rattle.protocol.proofs.Basics.{any_in, in_left, in_right}
 use Rattle.protocol.proofs.Ranks.{in_map}
 use Rattle.site.proofs.TicketOrder.{leaf_is, leaf_self}
 use Rattle.desk.proofs.AtHomes.{found_so}
-use Rattle.world.specs.Filling.{is_leaf}
 use Rattle.world.specs.Leaves.{known_leaves, leaves_numbered}
 use Rattle.world.proofs.FilledLeaves.{same_test}
 

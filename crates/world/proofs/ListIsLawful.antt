@@ -26,7 +26,7 @@ use Rattle.catalog.specs.declared.fragment_leaf.FragmentLeaf.{FragmentLeaf}
 use Rattle.catalog.specs.declared.path.Path.{Path}
 use Rattle.catalog.specs.declared.relation.SplitRelation as code
 use Rattle.catalog.specs.Catalogue.{Catalogue, SplitRelation}
-use Rattle.catalog.specs.Chain.{DifferIn, Follow, IsNext}
+use Rattle.catalog.specs.Chain.{Follow, IsNext}
 use Rattle.catalog.specs.Formed.{IsFormed, names_in}
 use Rattle.catalog.specs.Fragment.{content}
 use Rattle.catalog.specs.FragmentLeaf.{catalogue_leaves, is_name_of, leaf_named, leaves_from, leaves_of, schemas_of, unnamed}
@@ -37,7 +37,7 @@ use Rattle.meaning.specs.Schema.{kinds_of}
 use Rattle.plan.specs.Contents.{ContentsAscend}
 use Rattle.plan.specs.Reduced.{same_leaf}
 use Rattle.answers.specs.declared.moves.Move.{Move}
-use Rattle.answers.specs.Moves.{MovesLead, MovesStay, at_site, content_of, is_moved, is_site, is_there, leaf_numbered, leaf_there, moves_between, numbers, part_there, place_moves, writes_at}
+use Rattle.answers.specs.Moves.{MovesLead, MovesStay, at_site, content_of, is_moved, is_site, leaf_numbered, leaf_there, moves_between, numbers, part_there, writes_at}
 use Rattle.answers.specs.Writes.{WritesLead, applied, key_written, leaf_of, leaf_writes, part_written, write_between, writes_between}
 use Rattle.answers.proofs.WritesLaw.{none_between}
 use Rattle.store.specs.Content.{Content, set_at}

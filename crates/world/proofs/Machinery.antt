@@ -14,7 +14,7 @@ use Rattle.desk.specs.Does.{Takes}
 use Rattle.desk.specs.Recovery.{Restarts}
 use Rattle.protocol.specs.Language.{Name, same}
 use Rattle.protocol.specs.StatementCourse.{passes, passes_to}
-use Rattle.protocol.specs.Desk.{Began, Choice, Desk, Known, Row, Txn, Unknown, desk_restarted, next_txn, txn_restarted, Deed, Request, Transition, desk_after, desk_began, is_desk_within, on_desk_letter, on_request, refusal}
+use Rattle.protocol.specs.Desk.{is_moving, Began, Choice, Desk, Known, Row, Txn, Unknown, desk_restarted, next_txn, txn_restarted, Deed, Request, Transition, desk_after, desk_began, is_desk_within, on_desk_letter, on_request, refusal}
 use Rattle.protocol.specs.Letter.{Letter}
 use Rattle.protocol.specs.Letters.{body_of, kept_in, letter_of, name_of, txn_name}
 use Rattle.protocol.specs.Serial.{AllExplained}
@@ -36,7 +36,8 @@ use Rattle.world.specs.Seated.{SomeSeatDoes}
 use Rattle.world.specs.declared.sites.SiteAction as doing
 use Rattle.world.specs.declared.sites.SiteAction.TheVariants.{GiveUp, Inquire, Restart, Take}
 use Rattle.world.specs.Sites.{Moves, Seat, state_at, states_of}
-use Rattle.world.proofs.InForce.{stays_in_force}
+use Rattle.desk.proofs.Raised.{TurnKeeps, letter_keeps, request_keeps}
+use Rattle.world.proofs.InForce.{nobody_after, nobody_begins, nobody_restarts, stays_in_force}
 use Rattle.world.proofs.Placed.{stands_placed}
 use Rattle.world.proofs.Reasoned.{order_is, passes_is}
 use Rattle.world.proofs.Seating.{leaves_after, letter_said, letter_state, names_after, reseated_same, seat_named, seated_after, state_there, states_after}
@@ -47,15 +48,25 @@ abbrev pub with_desk : Machines → DeskContent → VolatileState → Machines
 with_desk machines desk table = record { desk = desk; table = table; seats = machines.seats; refused = machines.refused }
 
 -- a turn of the coordinator
-module _ (db : Database) (before : Machines) (kept : DeskContent) (after : VolatileState) (txn : names.Txn) (wanted : Transition (language db)) (out : List letters.Letter) (notices : List Notice) (fit : AreFit db before) (steps : Steps db before.table kept after txn wanted out notices) where
+module _ (db : Database) (before : Machines) (kept : DeskContent) (after : VolatileState) (txn : names.Txn) (wanted : Transition (language db)) (out : List letters.Letter) (notices : List Notice) (fit : AreFit db before) (steps : Steps db before.table kept after txn wanted out notices) (keeps : TurnKeeps (language db) (txn_name txn) (txn_in db before.table txn) wanted) where
+  same_version : after.version ≡ before.table.version
+  same_version = steps.version ∙ stays_in_force db before fit.still [] [] (txn_name txn) wanted
+
   turn_is : (waiting : List (Letter (language db))) (past : List (Deed (language db))) → turns (world_of db before waiting past) (txn_name txn) wanted ≡ world_of db (with_desk before kept after) (waiting ++ map (sent db) out) (past ++ wanted.deeds)
   turn_is waiting past =
       let w = world_of db before waiting past in
       if_true (is_desk_within (desk_after w.desk (txn_name txn) wanted.txn)) (turned w (txn_name txn) wanted) w (ap is_desk_within (sym steps.state) ∙ steps.within) ∙
-      (λ i. record { desk = sym steps.state i; sites = (world_of db before waiting past).sites; letters = waiting ++ sym steps.letters i; past = past ++ wanted.deeds; version = (stays_in_force db before waiting past (txn_name txn) wanted ∙ sym steps.version) i })
+      (λ i. record { desk = sym steps.state i; sites = (world_of db before waiting past).sites; letters = waiting ++ sym steps.letters i; past = past ++ wanted.deeds; version = sym steps.version i })
 
   still_fit : AreFit db (with_desk before kept after)
-  still_fit = record { names = fit.names; leaves = fit.leaves; desk = steps.fits; within = steps.within; sites = fit.sites }
+  still_fit = record {
+    names = fit.names;
+    leaves = fit.leaves;
+    desk = steps.fits;
+    within = steps.within;
+    sites = fit.sites;
+    still = λ t. ap (λ (d : Desk (language db)). is_moving (d.txn t)) steps.state ∙ nobody_after db (desk_of db before.table) (txn_name txn) wanted fit.still keeps t;
+  }
 
   pub turn_leads : (step : World (language db) → World (language db)) → ((waiting : List (Letter (language db))) (past : List (Deed (language db))) → step (world_of db before waiting past) ≡ turns (world_of db before waiting past) (txn_name txn) wanted) → AreHomed (language db) (IsPlace db) wanted.letters → AllExplained wanted.deeds →
       Leads db step before (with_desk before kept after) out notices
@@ -63,7 +74,7 @@ module _ (db : Database) (before : Machines) (kept : DeskContent) (after : Volat
     deeds = wanted.deeds;
     fit = still_fit;
     is = λ waiting past. is waiting past ∙ turn_is waiting past;
-    version = steps.version;
+    version = same_version;
     placed = subst (AreHomed (language db) (IsPlace db)) (sym steps.letters) placed;
     explained = explained;
     replies = steps.replies;
@@ -80,7 +91,7 @@ pub asked_leads : (db : Database) (before : Machines) (kept : DeskContent) (afte
     Asked db txn choice request before (with_desk before kept after) out notices
 unfolding turn_leads
 asked_leads db before kept after txn choice request out notices fit steps chosen explained accepted = record {
-  leads = turn_leads db before kept after txn (on_request (txn_name txn) choice request (txn_in db before.table txn)) out notices fit steps (λ w. called w (txn_name txn) choice request) (λ waiting past. refl)
+  leads = turn_leads db before kept after txn (on_request (txn_name txn) choice request (txn_in db before.table txn)) out notices fit steps (request_keeps (txn_name txn) choice request (txn_in db before.table txn)) (λ w. called w (txn_name txn) choice request) (λ waiting past. refl)
       (request_homed (language db) (IsPlace db) (txn_name txn) choice request (txn_in db before.table txn) chosen (stands_placed db before.desk before.table fit.desk (txn_name txn))
       (placed_after db before.table kept after txn (on_request (txn_name txn) choice request (txn_in db before.table txn)) out notices steps)) explained;
   accepted = accepted;
@@ -89,11 +100,11 @@ asked_leads db before kept after txn choice request out notices fit steps chosen
 }
 
 -- a transaction begins
-module _ (db : Database) (before : Machines) (kept : DeskContent) (after : VolatileState) (out : List letters.Letter) (notices : List Notice) (fit : AreFit db before) (begun_so : Begins db before.table kept after out notices) where
+module _ (db : Database) (before : Machines) (kept : DeskContent) (after : VolatileState) (out : List letters.Letter) (notices : List Notice) (fit : AreFit db before) (begun_so : Begins db false before.table kept after out notices) where
   pub begin_leads : Leads db begins before (with_desk before kept after) out notices
   begin_leads = record {
     deeds = Began (next_txn (desk_of db before.table)) ∷ [];
-    fit = record { names = fit.names; leaves = fit.leaves; desk = begun_so.fits; within = begun_so.within; sites = fit.sites };
+    fit = record { names = fit.names; leaves = fit.leaves; desk = begun_so.fits; within = begun_so.within; sites = fit.sites; still = λ t. ap (λ (d : Desk (language db)). is_moving (d.txn t)) begun_so.state ∙ nobody_begins db (desk_of db before.table) fit.still t };
     is = λ waiting past.
         let w = world_of db before waiting past in
         if_true (is_desk_within (desk_began w.desk)) (begun false w) w (ap is_desk_within (sym begun_so.state) ∙ begun_so.within) ∙
@@ -120,7 +131,7 @@ module _ (db : Database) (before : Machines) (kept : DeskContent) (after : Volat
       let d = desk_of db before.table in
       record {
         deeds = flat_map (λ t. (txn_restarted t (d.txn t)).deeds) d.known;
-        fit = record { names = fit.names; leaves = fit.leaves; desk = restarted.fits; within = restarted.within; sites = fit.sites };
+        fit = record { names = fit.names; leaves = fit.leaves; desk = restarted.fits; within = restarted.within; sites = fit.sites; still = λ t. ap (λ (d : Desk (language db)). is_moving (d.txn t)) restarted.state ∙ nobody_restarts db (desk_of db before.table) t };
         is = λ waiting past.
             let w = world_of db before waiting past in
             if_true (is_desk_within (desk_restarted w.desk)) (desk_lives w) w (ap is_desk_within (sym restarted.state) ∙ restarted.within) ∙
@@ -157,6 +168,7 @@ reply_leads db before kept after letter reply is keeps out notices fit takes = r
   choice = takes.choice;
   within = passes_is db before letter reply is keeps takes.choice ∙ (ap is_desk_within (sym takes.steps.state) ∙ takes.steps.within);
   leads = turn_leads db before kept after letter.txn (on_desk_letter (txn_name letter.txn) letter.site keeps takes.choice (replied db letter.site reply) (txn_in db before.table letter.txn)) out notices fit takes.steps
+      (letter_keeps (txn_name letter.txn) takes.choice letter.site keeps (replied db letter.site reply) (txn_in db before.table letter.txn))
       (λ w. comes w keeps takes.choice (sent db letter)) (λ waiting past. comes_is db letter reply is keeps takes.choice (world_of db before waiting past))
       (turn_homed (language db) (IsPlace db) (txn_name letter.txn) takes.choice letter.site keeps (replied db letter.site reply) (txn_in db before.table letter.txn) takes.placed (stands_placed db before.desk before.table fit.desk (txn_name letter.txn))
       (placed_after db before.table kept after letter.txn (on_desk_letter (txn_name letter.txn) letter.site keeps takes.choice (replied db letter.site reply) (txn_in db before.table letter.txn)) out notices takes.steps)) takes.explained;
@@ -177,7 +189,7 @@ module _ (db : Database) (before : Machines) (seat : Seat) (after : List Seat) (
         (λ i. record { desk = w.desk; sites = sym (states_after S name seat new before.seats after moves) i; letters = waiting ++ put; past = sym (append-nil past) i; version = before.table.version })
 
     now_fit : AreFit db (with_seats before after)
-    now_fit = record { names = names_after name seat new before.seats after moves ∙ fit.names; leaves = leaves_after db name seat new before.seats after moves fit.leaves; desk = fit.desk; within = fit.within; sites = seated_after name seat new before.seats after moves fit.sites }
+    now_fit = record { names = names_after name seat new before.seats after moves ∙ fit.names; leaves = leaves_after db name seat new before.seats after moves fit.leaves; desk = fit.desk; within = fit.within; sites = seated_after name seat new before.seats after moves fit.sites; still = fit.still }
 
     -- so where the step is such a one
     pub site_leads : (step : World (language db) → World (language db)) (of : SiteState (language db) → SiteState (language db)) (said_by : SiteState (language db) → List (Letter (language db))) →

@@ -1,10 +1,10 @@
 -- The world of machines that have just started is an opening of the protocol.
-use Rattle.std.proofs.Common.{◌≡◌, ◌≢◌, refl, sym, ap, ◌∙◌, subst, ℕ, zero, suc, ◌+◌, ◌==◌, ◌||◌, nat_eq, Bool, true, false, List, [], ◌∷◌, map, Option, Some, None, is_some, slice_get, if◌then◌else◌, inl, arith}
+use Rattle.std.proofs.Common.{◌≡◌, ◌≢◌, refl, sym, ap, ◌∙◌, subst, ℕ, zero, suc, ◌+◌, ◌==◌, nat_eq, Bool, true, false, List, [], ◌∷◌, map, Option, Some, None, is_some, slice_get, if◌then◌else◌, inl, arith}
 use Rattle.std.specs.FinMap as fin
 use Rattle.std.specs.Cmp.Lexicographic.{pointwise}
 use Rattle.std.specs.List.{AllByRecursion, list_any}
 use Rattle.std.specs.Ordering.{is_eq}
-use Rattle.std.proofs.lemmas.Bool.{eq-eqb, eqb-true}
+use Rattle.std.proofs.lemmas.Bool.{eqb-true}
 use Rattle.terms.specs.declared.leaf.Leaf.{Leaf}
 use Rattle.terms.specs.Leaf.{leaf_cmp}
 use Rattle.meaning.specs.Whole.{FitsSchema, Relations}
@@ -27,7 +27,7 @@ use Rattle.protocol.proofs.Basics.{clash, some_is}
 use Rattle.protocol.proofs.Placing.{kept_here}
 use Rattle.desk.specs.Database.{Database, language, statements}
 use Rattle.desk.specs.CatalogueDatabase.{is_site}
-use Rattle.desk.specs.Place.{Place, home_in, site_in}
+use Rattle.desk.specs.Place.{Place, home_in}
 use Rattle.desk.specs.Transaction.{txn_of}
 use Rattle.desk.specs.Recovery as desk_starting
 use Rattle.desk.specs.State.{txn_at}
@@ -44,6 +44,7 @@ use Rattle.world.specs.Filling.{filled}
 use Rattle.world.specs.Leaves.{known_leaves}
 use Rattle.world.proofs.DatabasePlaces.{at_in, home_is, home_there}
 use Rattle.world.proofs.FilledLeaves.{leaf_elsewhere, leaf_filled, none_filled}
+use Rattle.world.proofs.InForce.{nobody_rises}
 use Rattle.world.proofs.KnownLeaves.{known_named}
 use Rattle.world.proofs.Seating.{HasItsLeaves, name_is, name_self, seat_named, state_there}
 
@@ -157,6 +158,7 @@ module _ (db : Database) (whole : Relations) (machines : Machines) (is_whole : F
     desk = rises.fits;
     within = rises.within;
     sites = all_so machines.seats (λ seat rests. rests.begins.fits) rest;
+    still = λ t. nobody_rises db machines.desk machines.table rises (txn_at t);
   }
 
   nothing_stands : (txn : txns.Txn) → machines.table.standing txn ≡ None

@@ -80,10 +80,10 @@ module _ {L : Lang} where
 -- ---- machines that serve
 module _ (db : Database) (law : ReachedLaw (language db)) (whole : Relations) where
   -- n: the number of the catalogue at the opening
-  pub asked_reached : (n : ℕ) (machines : Machines) (past : List (Deed (language db))) (ask : Ask (language db)) → AsksForNow db machines.table.version ask → IsReached (n, whole) (world_of db machines [] past) → AllExplained (asked ask (world_of db machines [] past)).past →
+  pub asked_reached : (n : ℕ) (machines : Machines) → AreFit db machines → (past : List (Deed (language db))) (ask : Ask (language db)) → AsksForNow db machines.table.version ask → IsReached (n, whole) (world_of db machines [] past) → AllExplained (asked ask (world_of db machines [] past)).past →
       IsReached (n, whole) (asked ask (world_of db machines [] past))
-  asked_reached n machines past To_begin now reached all = law.begun (n, whole) (world_of db machines [] past) reached (begins_in_force db machines [] past)
-  asked_reached n machines past (To_do t request choice) now reached all = law.asked (n, whole) (world_of db machines [] past) t choice request reached (asks_in_force db machines [] past t request now) all
+  asked_reached n machines fit past To_begin now reached all = law.begun (n, whole) (world_of db machines [] past) reached (begins_in_force db machines fit.still [] past)
+  asked_reached n machines fit past (To_do t request choice) now reached all = law.asked (n, whole) (world_of db machines [] past) t choice request reached (asks_in_force db machines fit.still [] past t request now) all
 
   -- a call, whatever letters have come since
   pub on_ask : (ask : Ask (language db)) (before after : Machines) (past deeds : List (Deed (language db))) (comings : List (Coming (language db))) (left : List (Letter (language db))) → AsksForNow db before.table.version ask → IsServed db whole before past → AllExplained deeds →
@@ -93,7 +93,7 @@ module _ (db : Database) (law : ReachedLaw (language db)) (whole : Relations) wh
       let w = world_of db before [] past in
       let all : AllExplained (past ++ deeds) = all_both Explained past deeds served.reached.explained explained in
       let all_here : AllExplained (all_come comings (asked ask w)).past = subst (λ (v : World (language db)). AllExplained v.past) (sym is) all in
-      let here : IsReached opened (asked ask w) = asked_reached served.version before past ask now served.reached (all_explained comings (asked ask w) all_here) in
+      let here : IsReached opened (asked ask w) = asked_reached served.version before served.fit past ask now served.reached (all_explained comings (asked ask w) all_here) in
       record {
         version = served.version;
         reached = emptied law opened (world_of db after left (past ++ deeds)) left refl (subst (IsReached opened) is (all_reached law opened comings (asked ask w) here all_here));

@@ -52,7 +52,7 @@ use Rattle.desk.specs.Planned.{IsOfPlan, asked}
 use Rattle.desk.specs.ReducedPlan.{ReducedPlan}
 use Rattle.desk.specs.Transaction.{ask_of}
 use Rattle.desk.proofs.AtHomes.{found_so}
-use Rattle.desk.proofs.Explaining.{are_brought}
+use Rattle.desk.proofs.Explaining.{are_brought, stated_plainly}
 use Rattle.desk.specs.CatalogueDatabase.{IsBase, content_at, database}
 use Rattle.world.specs.Machines.{AreFit, Machines}
 use Rattle.world.specs.Sites.{Seat, seat_of, states_of}
@@ -159,7 +159,7 @@ are_all_brought catalogue base unique n stated reduced whole of stays fetches fi
     let db = database catalogue in
     let asks = map (ghost_ask db n whole) reduced.fetches.items in
     let plan : ReducedPlan = record { nodes = postfix (shape reduced.plan); fetches = reduced.fetches.items } in
-    let planned : IsOfPlan db n stated plan asks = record { statement = record { of_schemas = of; stays = stays }; fetches = fetches; finds = subst (FindsAll catalogue stated reduced.fetches.items) (sym (plan_is (shape reduced.plan))) finds; in_order = in_order db n whole reduced.fetches.items } in
+    let planned : IsOfPlan db n stated plan asks = record { statement = stated_plainly db n stated (record { of_schemas = of; stays = stays }); fetches = fetches; finds = subst (FindsAll catalogue stated reduced.fetches.items) (sym (plan_is (shape reduced.plan))) finds; in_order = in_order db n whole reduced.fetches.items } in
     subst (λ rs. AreBrought catalogue whole reduced.fetches.items (given rs)) (all_brought db n whole reduced.fetches.items ∙ sym are)
     (are_brought db base.of_catalogue n unique stated plan asks planned whole fits (all_given db n whole reduced.fetches.items))
 

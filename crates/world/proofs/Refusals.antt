@@ -158,7 +158,9 @@ module _ (Sound : Type 0) (db : Database) (before after : Machines) (entries : L
       go refusals.Ended why = why
       go (refusals.Read unread) why = why
       go (refusals.Aborted by) why = why
+      go refusals.NotAlone why = why
       go refusals.NoNext why = why
+      go refusals.Chain why = why
 
   pub refused_soundly : (what : events.Event) (told : Fault) → Sound → IsRefusedFor Sound db before after entries what told → IsRefusedFor ⊤ db before after entries what told
   refused_soundly what told so (inl memory) = inl memory

@@ -1,5 +1,5 @@
 -- Why the coordinator refuses a statement doesn't hang on the statement.
-use Rattle.std.proofs.Common.{◌≡◌, refl, sym, ap, ◌∙◌, subst, ℕ, List, [], Some, None, Result, Ok, Err, IfErr, ◌⊎◌, inl, inr, ⊎_elim}
+use Rattle.std.proofs.Common.{◌≡◌, refl, sym, ap, ◌∙◌, subst, ℕ, false, List, [], None, Result, Ok, Err, IfErr, ◌⊎◌, inl, inr, ⊎_elim}
 use Rattle.std.specs.Option.{option_map}
 use Rattle.meaning.specs.declared.statement.Statement.{Statement}
 use Rattle.meaning.specs.declared.statement.Statement.TheVariants as statements
@@ -8,14 +8,17 @@ use Rattle.meaning.specs.declared.schema.RelationSchema.{RelationSchema}
 use Rattle.catalog.specs.FragmentLeaf.{schemas_of}
 use Rattle.catalog.specs.Relation.{catalogue_of}
 use Rattle.store.specs.declared.name.Txn as names
-use Rattle.protocol.specs.Desk.{Idle, Known, Reading, Row, Stage, State, Txn, Unknown, Voting, Writing, refusal, refusal_at}
-use Rattle.protocol.specs.Language.{Lang}
+use Rattle.protocol.specs.Letters.{txn_name}
+use Rattle.protocol.specs.Desk.{is_moving, Idle, Known, Reading, Row, Stage, State, Txn, Unknown, Voting, Writing, refusal, refusal_at}
+use Rattle.protocol.specs.Language.{Lang, Name}
 use Rattle.desk.specs.declared.refusal.Refusal.{Refusal}
 use Rattle.desk.specs.declared.refusal.Refusal.TheVariants.{Full, Memory}
-use Rattle.desk.specs.Request.{refused_as, txn_in}
+use Rattle.desk.specs.Request.{WhyNotStated, refused_as, txn_in}
+use Rattle.desk.proofs.Raised.{moving_is}
+use Rattle.protocol.proofs.Basics.{clash}
 use Rattle.desk.specs.Database.{Database}
 use Rattle.desk.specs.Does.{IsNoStatement, StatesPastLimits}
-use Rattle.desk.specs.State.{VolatileState}
+use Rattle.desk.specs.State.{VolatileState, desk_of}
 use Rattle.world.specs.declared.event.Call.TheVariants as call
 use Rattle.world.specs.Refused.{IsRefused}
 
@@ -40,17 +43,18 @@ some = statements.Insert (record { into = []; row = [] })
 
 -- why a statement is refused, as the coordinator's contract says it
 abbrev Told : (db : Database) → VolatileState → names.Txn → List ℕ → List (List ℕ) × List SplitRelation → Statement → Refusal → Type 0
-Told db table txn text catalog s told = (told ≡ Memory) ⊎ (option_map refused_as (refusal (State (table.version, s)) (txn_in db table txn)) ≡ Some told)
+Told db table txn text catalog s told = (told ≡ Memory) ⊎ WhyNotStated db table txn s told
     ⊎ ((refusal (State (table.version, s)) (txn_in db table txn) ≡ None) × (IsNoStatement (schemas_of (catalogue_of catalog)) text told ⊎ (told ≡ Full)))
 
 pub statement_refused : {T : Type 0} (db : Database) (table : VolatileState) (txn : names.Txn) (text : List ℕ) (catalog : List (List ℕ) × List SplitRelation) → db.schemas ≡ schemas_of (catalogue_of catalog) → (result : Result T Refusal) →
-    ((s : Statement) → IfErr result (Told db table txn text catalog s)) → (result ≡ Err Full → StatesPastLimits db table txn text) → IfErr result (λ told. (told ≡ Memory) ⊎ IsRefused db table (call.State txn text) told)
-statement_refused db table txn text catalog is (Ok out) all past = tt
-statement_refused {T} db table txn text catalog is (Err told) all past = go (all some)
+    ((t : Name) → is_moving ((desk_of db table).txn t) ≡ false) → ((s : Statement) → IfErr result (Told db table txn text catalog s)) → (result ≡ Err Full → StatesPastLimits db table txn text) → IfErr result (λ told. (told ≡ Memory) ⊎ IsRefused db table (call.State txn text) told)
+statement_refused db table txn text catalog is (Ok out) still all past = tt
+statement_refused {T} db table txn text catalog is (Err told) still all past = go (all some)
   where
     go : Told db table txn text catalog some told → (told ≡ Memory) ⊎ IsRefused db table (call.State txn text) told
     go (inl memory) = inl memory
-    go (inr (inl refused)) = inr (λ s. inl (ap (option_map refused_as) (same_refusal (table.version, s) (table.version, some) (txn_in db table txn)) ∙ refused))
+    go (inr (inl (inr moving))) = clash (moving_is db (table.standing txn) ∙ moving.0) (still (txn_name txn))
+    go (inr (inl (inl refused))) = inr (λ s. inl (ap (option_map refused_as) (same_refusal (table.version, s) (table.version, some) (txn_in db table txn)) ∙ refused))
     go (inr (inr late)) = inr (λ s. inr (
       same_refusal (table.version, s) (table.version, some) (txn_in db table txn) ∙ late.0,
       ⊎_elim

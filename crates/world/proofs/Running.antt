@@ -125,7 +125,7 @@ pub called_on : (db : Database) (whole : Relations) (before after : Machines) (e
     IsRun db whole before entries past → (asked : Asked db txn choice request before after out.letters out.replies) → IsForNow db before.table.version request → IsEvent db before.table.version what out.kept (world.Call (txn_name txn) request choice) → Shows db what asked.leads.deeds → StepsOn db whole before after entries (entries ++ entry_of what out ∷ []) past
 called_on db whole before after entries past what out txn choice request so asked now is shows =
     let w = world_of db before (map (sent db) (letters_in entries)) past in
-    let may = asks_in_force db before (map (sent db) (letters_in entries)) past (txn_name txn) request now in
+    let may = asks_in_force db before so.fit.still (map (sent db) (letters_in entries)) past (txn_name txn) request now in
     runs_on db whole before after entries past what out (λ w. called w (txn_name txn) choice request) (world.Call (txn_name txn) request choice) so asked.leads
     (if_true (may_ask w (txn_name txn) request) (called w (txn_name txn) choice request) w may) is (may, asked.accepted, asked.within) shows
 

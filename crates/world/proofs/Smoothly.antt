@@ -131,7 +131,7 @@ module _ (db : Database) (fits : Place → Content → Bool) (law : IsLawful (la
       all_here = subst (λ (v : World (language db)). AllExplained v.past) (sym (serves.is past)) (all_both Explained past serves.deeds served.reached.explained serves.explained)
 
       pub asked_here : AsksForNow db n ask → IsReached opened (asked ask here)
-      asked_here now = asked_reached db (reached_law law) whole served.version before past ask now served.reached (all_explained serves.comings (asked ask here) all_here)
+      asked_here now = asked_reached db (reached_law law) whole served.version before served.fit past ask now served.reached (all_explained serves.comings (asked ask here) all_here)
 
       pub heard_of : (deeds : List (Deed (language db))) → past ++ serves.deeds ≡ past ++ deeds → map notice_of heard ≡ filter_map (told db) deeds
       heard_of deeds e = serves.replies ∙ ap (filter_map (told db)) (same_behind past serves.deeds deeds e)

@@ -10,7 +10,7 @@ use Rattle.protocol.proofs.Basics.{some_is}
 use Rattle.site.specs.declared.fault.SiteFault as site_faults
 use Rattle.site.specs.declared.fault.SiteFault.TheVariants as site_fault
 use Rattle.desk.specs.declared.refusal.Refusal.{Refusal}
-use Rattle.desk.specs.declared.refusal.Refusal.TheVariants.{Aborted, Busy, Ended, Full, Memory, NoNext, NoTransaction, Read, Store}
+use Rattle.desk.specs.declared.refusal.Refusal.TheVariants.{Aborted, Busy, Chain, Ended, Full, Memory, NoNext, NoTransaction, NotAlone, Read, Store}
 use Rattle.desk.specs.Request.{refused_as}
 use Rattle.desk.specs.Does.{IsNoStatement}
 use Rattle.desk.specs.declared.reply.Notice.{Notice}
@@ -33,7 +33,9 @@ stops_so a b c d to Full why = tt
 stops_so a b c d to (Read fault) why = tt
 stops_so a b c d to (Aborted reason) why = tt
 stops_so a b c d to Memory why = tt
+stops_so a b c d to NotAlone why = tt
 stops_so a b c d to NoNext why = tt
+stops_so a b c d to Chain why = tt
 stops_so a b c d to (Store faults.Refused) why = to why
 stops_so a b c d to (Store faults.Memory) why = absurd why
 stops_so a b c d to (Store faults.Damaged) why = absurd why
@@ -59,6 +61,9 @@ memory_stops before after told is = subst (StopsFor before after) (sym is) tt
 full_stops : (before after : List ℕ) (told : Refusal) → told ≡ Full → StopsFor before after told
 full_stops before after told is = subst (StopsFor before after) (sym is) tt
 
+pub begin_stops : (before after : List ℕ) (told : Refusal) → (told ≡ Memory) ⊎ (told ≡ Full) ⊎ (told ≡ NotAlone) → StopsFor before after told
+begin_stops before after told = ⊎_elim (memory_stops before after told) (⊎_elim (full_stops before after told) (λ is. subst (StopsFor before after) (sym is) tt))
+
 pub limit_stops : (before after : List ℕ) (told : Refusal) → (told ≡ Memory) ⊎ (told ≡ Full) → StopsFor before after told
 limit_stops before after told = ⊎_elim (memory_stops before after told) (full_stops before after told)
 
@@ -72,11 +77,11 @@ protocol_stops before after told (Some protocol.Ended) is = subst (StopsFor befo
 pub refused_stops : (before after : List ℕ) (told : Refusal) (why : Option protocol.Refusal) → (told ≡ Memory) ⊎ (option_map refused_as why ≡ Some told) → StopsFor before after told
 refused_stops before after told why = ⊎_elim (memory_stops before after told) (protocol_stops before after told why)
 
-pub statement_stops : (before after : List ℕ) (told : Refusal) (why : Option protocol.Refusal) (schemas : List RelationSchema) (text : List ℕ) →
-    (told ≡ Memory) ⊎ (option_map refused_as why ≡ Some told) ⊎ ((why ≡ None) × (IsNoStatement schemas text told ⊎ (told ≡ Full))) → StopsFor before after told
-statement_stops before after told why schemas text (inl memory) = memory_stops before after told memory
-statement_stops before after told why schemas text (inr (inl refused)) = protocol_stops before after told why refused
-statement_stops before after told why schemas text (inr (inr late)) = ⊎_elim (⊎_elim (λ unread. subst (StopsFor before after) (sym unread.is) tt) (λ refragment. subst (StopsFor before after) (sym refragment.is) tt)) (full_stops before after told) late.1
+pub statement_stops : (before after : List ℕ) (told : Refusal) (why : Option protocol.Refusal) (Moving : Type 0) (schemas : List RelationSchema) (text : List ℕ) →
+    (told ≡ Memory) ⊎ ((option_map refused_as why ≡ Some told) ⊎ (Moving × (told ≡ Busy))) ⊎ ((why ≡ None) × (IsNoStatement schemas text told ⊎ (told ≡ Full))) → StopsFor before after told
+statement_stops before after told why Moving schemas text (inl memory) = memory_stops before after told memory
+statement_stops before after told why Moving schemas text (inr (inl refused)) = ⊎_elim (protocol_stops before after told why) (λ moving. subst (StopsFor before after) (sym moving.1) tt) refused
+statement_stops before after told why Moving schemas text (inr (inr late)) = ⊎_elim (⊎_elim (λ unread. subst (StopsFor before after) (sym unread.is) tt) (λ refragment. subst (StopsFor before after) (sym refragment.is) tt)) (full_stops before after told) late.1
 
 -- a text that isn't read
 pub unreadable_stops : (before after : List ℕ) (told : Refusal) (schemas : List RelationSchema) (text : List ℕ) → IsUnreadable schemas text told → StopsFor before after told

@@ -97,6 +97,7 @@ module _ (db : Database) (kept : DeskContent) (none : (txn : txns.Txn) → kept.
     lives = λ txn here. absurd here;
     begun = λ txn e. absurd (let no : false ≡ true = e in cc);
     sites = λ txn standing e. absurd cc;
+    moving = λ txn e. absurd (let no : false ≡ true = e in cc);
     counted = refl;
     short = λ txn. refl;
     few = omega arith;

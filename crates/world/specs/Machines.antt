@@ -15,8 +15,9 @@ use Rattle.store.specs.declared.letter.Letter as letters
 use Rattle.store.specs.declared.name.Txn.{Txn}
 use Rattle.store.specs.DeskContent.{DeskContent}
 use Rattle.protocol.specs.StatementCourse.{passes}
-use Rattle.protocol.specs.Desk.{Choice, Commit_call, Deed, Give_up, Request, Rollback, State, desk_after, is_desk_within, on_request, refusal}
+use Rattle.protocol.specs.Desk.{Choice, Commit_call, Deed, Give_up, Request, Rollback, State, desk_after, is_desk_within, on_request, refusal, is_moving}
 use Rattle.protocol.specs.Home.{AreHomed}
+use Rattle.protocol.specs.Language.{Name}
 use Rattle.protocol.specs.Letter.{Letter}
 use Rattle.protocol.specs.Serial.{AllExplained}
 use Rattle.protocol.specs.Letters.{name_of, txn_name}
@@ -49,6 +50,8 @@ pub record AreFit (db : Database) (machines : Machines) : Type 0 where
   pub desk : Fits db machines.desk machines.table
   pub within : is_desk_within (desk_of db machines.table) ≡ true
   pub sites : AllByRecursion IsSeated machines.seats
+  -- nobody gives a relation another split
+  pub still : (t : Name) → is_moving ((desk_of db machines.table).txn t) ≡ false
 
 -- operations that are sent are of leaves at their sites
 abbrev pub AreOfPlaces : (db : Database) → List letters.Letter → Type 0

@@ -2,7 +2,7 @@
 use Rattle.std.specs.Prelude.{◌≡◌, ⊤, ℕ, Bool, true, false, List, Option, Some, None, Result, Ok, Err, if◌then◌else◌}
 use Rattle.store.specs.declared.fault.StoreFault.TheVariants as faults
 use Rattle.desk.specs.declared.refusal.Refusal.{Refusal}
-use Rattle.desk.specs.declared.refusal.Refusal.TheVariants.{Aborted, Busy, Ended, Full, Memory, NoNext, NoTransaction, Read, Store}
+use Rattle.desk.specs.declared.refusal.Refusal.TheVariants.{Aborted, Busy, Chain, Ended, Full, Memory, NoNext, NoTransaction, NotAlone, Read, Store}
 use Rattle.world.specs.declared.machines.Machines as code
 use Rattle.world.specs.Counted.{HaveRefused, counts}
 
@@ -16,7 +16,9 @@ is_stop (Read fault) = false
 is_stop (Aborted why) = false
 is_stop Memory = true
 is_stop (Store fault) = true
+is_stop NotAlone = false
 is_stop NoNext = false
+is_stop Chain = false
 
 -- why a refusal stops it: memory ran out, or the medium of one of its stores has refused meanwhile; one that doesn't stop it needs no reason. before, after: how often the media have refused
 abbrev pub StopsFor : (before after : List ℕ) → Refusal → Type 0
@@ -27,7 +29,9 @@ StopsFor before after Full = ⊤
 StopsFor before after (Read fault) = ⊤
 StopsFor before after (Aborted why) = ⊤
 StopsFor before after Memory = ⊤
+StopsFor before after NotAlone = ⊤
 StopsFor before after NoNext = ⊤
+StopsFor before after Chain = ⊤
 StopsFor before after (Store faults.Refused) = HaveRefused before after
 StopsFor before after (Store faults.Memory) = ⊥
 StopsFor before after (Store faults.Damaged) = ⊥

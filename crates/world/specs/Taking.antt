@@ -28,7 +28,9 @@ stop_of (Desk (refusals.Read fault)) = None
 stop_of (Desk (refusals.Aborted why)) = None
 stop_of (Desk refusals.Memory) = Some refusals.Memory
 stop_of (Desk (refusals.Store fault)) = Some (refusals.Store fault)
+stop_of (Desk refusals.NotAlone) = None
 stop_of (Desk refusals.NoNext) = None
+stop_of (Desk refusals.Chain) = None
 stop_of (Site site_faults.Memory) = Some refusals.Memory
 stop_of (Site (site_faults.Store fault)) = Some (refusals.Store fault)
 stop_of (Site site_faults.Full) = None
@@ -61,7 +63,9 @@ is_full_desk (refusals.Read fault) = false
 is_full_desk (refusals.Aborted why) = false
 is_full_desk refusals.Memory = false
 is_full_desk (refusals.Store fault) = false
+is_full_desk refusals.NotAlone = false
 is_full_desk refusals.NoNext = false
+is_full_desk refusals.Chain = false
 
 abbrev pub turns_away : Fault → Bool
 turns_away (Desk refusal) = is_full_desk refusal

@@ -6,7 +6,9 @@ use Rattle.desk.specs.declared.transaction.TxnState.TheVariants as standing
 use Rattle.desk.specs.Orders.{broadcast_letters}
 use Rattle.desk.specs.Participants.{is_in, sites_of, with_vote}
 use Rattle.desk.proofs.Changed.{same_sites}
+use Rattle.desk.proofs.Raised.{never}
 use Rattle.desk.proofs.Phases.{commit_alone, commit_asks, commit_refused}
+use Rattle.desk.proofs.Leaving.{leaves_still}
 use Rattle.desk.proofs.commit.commit.Goals as goal
 
 pub returns-then-not-is_idle-clause-turn : goal.returns-then-not-is_idle-clause-turn
@@ -31,4 +33,8 @@ returns-clause-leaves c = record {
   );
   keeps = refl;
   kept = refl;
+  quiet = never c.args.undecided.now.moves;
 }
+
+pub returns-then-not-is_idle-clause-leaves : goal.returns-then-not-is_idle-clause-leaves
+returns-then-not-is_idle-clause-leaves c = leaves_still c.args.undecided.now c.stays.result c.stays.ensures.after c.stays.ensures.kept c.stays.ensures.reply

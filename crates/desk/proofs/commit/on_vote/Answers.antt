@@ -1,5 +1,5 @@
 -- Why `on_vote` meets its contract.
-use Rattle.std.proofs.Common.{Some, sym, ◌∙◌, ◌≡◌, map, refl, subst, true}
+use Rattle.std.proofs.Common.{Some, None, sym, ap, ◌∙◌, ◌≡◌, map, refl, subst, true}
 use Rattle.reader.specs.Printable.{AreDistinct}
 use Rattle.protocol.specs.Desk.{Aborted, By_vote}
 use Rattle.protocol.specs.Letters.{txn_name}
@@ -7,10 +7,16 @@ use Rattle.desk.specs.declared.transaction.TxnState.TheVariants as standing
 use Rattle.desk.specs.declared.transaction.Stage.TheVariants.{Voting}
 use Rattle.desk.specs.Commit.{counts_vote}
 use Rattle.desk.specs.Participants.{changed_at, sites_of, with_vote}
-use Rattle.desk.proofs.Acknowledged.{turn_as, unchanged}
+use Rattle.desk.proofs.Acknowledged.{keeps_same, turn_as, unchanged}
 use Rattle.desk.proofs.Called.{steps_as, vote_calls}
 use Rattle.desk.proofs.Counted.{at_same, copied_vote, no_turn, vote_lost, vote_turn, voted_are, voted_sites}
 use Rattle.desk.proofs.Decisions.{ended_keeps}
+use Rattle.desk.proofs.Raised.{low_by, quiet_by, quiet_is}
+use Rattle.protocol.proofs.Basics.{clash}
+use Rattle.desk.specs.Acknowledge.{Keeps, kept_voters}
+use Rattle.desk.specs.Transition.{after_of, raises, says_committed}
+use Rattle.desk.specs.declared.reply.Reply.TheVariants.{Aborted as Aborted_reply}
+use Rattle.desk.specs.declared.reply.Why.TheVariants.{Vote as Vote_why}
 use Rattle.desk.proofs.commit.on_vote.Goals as goal
 
 pub returns-then-not-counts-clause-turn : goal.returns-then-not-counts-clause-turn
@@ -27,13 +33,31 @@ returns-then-is_no-clause-turn g c = λ db choice are.
     let counts : counts_vote u c.args.site.now c.args.voted.ticket ≡ true = sym c.counts.ensures ∙ c.if-not-counts.false in
     let same : c.deref.result.now ≡ map (changed_at c.args.site.now (with_vote (Some c.args.voted.vote))) u.participants = copied_vote c.args.site.now c.args.voted.vote c.deref.result.now c.in_ok-participants.participants.items c.as_slice.result.now u.participants c.deref.ensures.value c.in_ok-participants.ensures c.as_slice.ensures in
     no_turn db c.args.txn u c.args.site.now c.args.voted.ticket c.args.voted.vote choice are counts c.deref.result.now same here c.ends.result (sym c.is_no.ensures ∙ c.if-is_no.true)
-    (c.ends.ensures.turn db here Voting (Aborted (txn_name c.args.txn) By_vote)
+    (c.ends.ensures.turn db here Voting u.moves (Aborted (txn_name c.args.txn) By_vote)
     (voted_are db u.participants c.args.site.now c.args.voted.vote are c.deref.result.now same) refl refl)
 
 pub returns-then-is_no-clause-keeps : goal.returns-then-is_no-clause-keeps
 returns-then-is_no-clause-keeps g c = λ db are clean sound none remembered.
     let kept = g.S.DeskStore.kept c.args.store.now in
-    ended_keeps c.args.txn (Some (standing.Undecided c.args.undecided.now)) kept kept none (unchanged kept) c.ends.result c.ends.ensures.after
+    ended_keeps c.args.txn (Some (standing.Undecided c.args.undecided.now)) kept kept none (unchanged kept) c.ends.result c.ends.ensures.after (quiet_by (Some (standing.Undecided c.args.undecided.now)) (Some (Aborted_reply Vote_why)) c.ends.result refl c.ends.ensures.reply)
+
+pub returns-then-is_no-clause-below : goal.returns-then-is_no-clause-below
+returns-then-is_no-clause-below g c =
+    let here = Some (standing.Undecided c.args.undecided.now) in
+    low_by here c.args.version c.ends.result (quiet_by here (Some (Aborted_reply Vote_why)) c.ends.result refl c.ends.ensures.reply)
+
+pub returns-then-not-counts-clause-below : goal.returns-then-not-counts-clause-below
+returns-then-not-counts-clause-below g c = λ up. clash up (quiet_is (Some (standing.Undecided c.args.undecided.now)) c.stays.result.reply (ap says_committed c.stays.ensures.reply))
+
+pub returns-then-not-counts-clause-keeps : goal.returns-then-not-counts-clause-keeps
+returns-then-not-counts-clause-keeps g c = λ db are clean sound none remembered.
+    let kept = g.S.DeskStore.kept c.args.store.now in
+    let here = Some (standing.Undecided c.args.undecided.now) in
+    subst (λ a. Keeps c.args.txn (kept_voters (after_of here a)) (raises here c.stays.result.reply) kept kept) (sym c.stays.ensures.after)
+    (keeps_same c.args.txn None (raises here c.stays.result.reply) kept kept (quiet_is here c.stays.result.reply (ap says_committed c.stays.ensures.reply)) none (unchanged kept))
+
+pub returns-clause-below : goal.returns-clause-below
+returns-clause-below g c = c.votes_go.ensures.below c.args.undecided.now refl
 
 pub returns-clause-turn : goal.returns-clause-turn
 returns-clause-turn g c = λ db choice are.
@@ -48,7 +72,7 @@ pub returns-clause-keeps : goal.returns-clause-keeps
 returns-clause-keeps g c = λ db are clean sound none remembered.
     let u = c.args.undecided.now in
     let same : c.in_ok-participants.participants.items ≡ map (changed_at c.args.site.now (with_vote (Some c.args.voted.vote))) u.participants = copied_vote c.args.site.now c.args.voted.vote c.in_ok-participants.participants.items c.in_ok-participants.participants.items c.as_slice.result.now c.args.undecided.now.participants refl c.in_ok-participants.ensures c.as_slice.ensures in
-    c.votes_go.ensures.keeps db (Some (standing.Undecided u))
+    c.votes_go.ensures.keeps db u
     (voted_are db u.participants c.args.site.now c.args.voted.vote are c.in_ok-participants.participants.items same)
     refl clean sound none remembered
 

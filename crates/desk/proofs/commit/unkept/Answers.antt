@@ -6,4 +6,4 @@ use Rattle.desk.specs.declared.transaction.Stage.TheVariants.{Voting}
 use Rattle.desk.proofs.commit.unkept.Goals as goal
 
 pub returns-clause-turn : goal.returns-clause-turn
-returns-clause-turn c = λ db old are. c.ends.ensures.turn db old Voting (Aborted (txn_name c.args.txn) By_store) are refl refl
+returns-clause-turn c = λ db old moves are. c.ends.ensures.turn db old Voting moves (Aborted (txn_name c.args.txn) By_store) are refl refl

@@ -15,17 +15,17 @@ use Rattle.desk.proofs.Doing.{undecided_is}
 use Rattle.desk.proofs.receive.resume_in.Goals as goal
 
 pub returns-in-Undecided-clause-does : goal.returns-in-Undecided-clause-does
-returns-in-Undecided-clause-does c = λ db n old of same here at are known.
+returns-in-Undecided-clause-does c = λ db n old of same next here at are known.
     let now = c.in-Undecided.undecided in
     let there : c.args.standing.now ≡ standing.Undecided now = search rules in
     let is : old ≡ now = undecided_is (sym here ∙ there) in
     subst (λ (x : Undecided). IfOk c.resume_on.result (λ step. Does db n c.args.txn c.resume_on.new.undecided step (λ choice. on_known (txn_name c.args.txn) (undecided_of db x) c.args.site.now true choice (replied db c.args.site.now c.args.reply.now)))) (sym is)
-    (c.resume_on.ensures.does db n of same (subst (λ (x : Undecided). list_any (is_at c.args.site.now) x.participants ≡ true) is at) (subst (λ (x : Undecided). AreParticipants db x.participants) is are) (subst (λ (x : Undecided). IsIn db n (standing.Undecided x)) is known))
+    (c.resume_on.ensures.does db n of same next (subst (λ (x : Undecided). list_any (is_at c.args.site.now) x.participants ≡ true) is at) (subst (λ (x : Undecided). AreParticipants db x.participants) is are) (subst (λ (x : Undecided). IsIn db n (standing.Undecided x)) is known))
 
 pub returns-in-Undecided-clause-full : goal.returns-in-Undecided-clause-full
-returns-in-Undecided-clause-full c = λ db n old of same here at are known full.
+returns-in-Undecided-clause-full c = λ db n old of same next here at are known full.
     let now = c.in-Undecided.undecided in
     let there : c.args.standing.now ≡ standing.Undecided now = search rules in
     let is : old ≡ now = undecided_is (sym here ∙ there) in
     subst (λ (x : Undecided). IsLong db (λ choice. on_known (txn_name c.args.txn) (undecided_of db x) c.args.site.now true choice (replied db c.args.site.now c.args.reply.now))) (sym is)
-    (c.resume_on.ensures.full db n of same (subst (λ (x : Undecided). list_any (is_at c.args.site.now) x.participants ≡ true) is at) (subst (λ (x : Undecided). AreParticipants db x.participants) is are) (subst (λ (x : Undecided). IsIn db n (standing.Undecided x)) is known) full)
+    (c.resume_on.ensures.full db n of same next (subst (λ (x : Undecided). list_any (is_at c.args.site.now) x.participants ≡ true) is at) (subst (λ (x : Undecided). AreParticipants db x.participants) is are) (subst (λ (x : Undecided). IsIn db n (standing.Undecided x)) is known) full)

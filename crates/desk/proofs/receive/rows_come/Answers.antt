@@ -15,22 +15,22 @@ use Rattle.desk.specs.Statement.{write_sites}
 use Rattle.desk.proofs.receive.rows_come.Goals as goal
 
 pub returns-then-not-gave_first-clause-does : goal.returns-then-not-gave_first-clause-does
-returns-then-not-gave_first-clause-does c = λ db n of same are known.
+returns-then-not-gave_first-clause-does c = λ db n of same next are known.
     let u = c.args.undecided.now in
     let other : is_first c.args.rows.now.ticket (participant_in c.args.site.now u.participants).ticket ≡ false = search rules in
     rows_strange db n c.args.txn u c.args.site.now c.args.rows.now u c.no_progress.result other (λ i. u) (search rules) (search rules) known
 
 pub returns-in_default : goal.returns-in_default
 returns-in_default c = record {
-  does = λ db n of same are known.
+  does = λ db n of same next are known.
       let u = c.args.undecided.now in
       rows_unread db n c.args.txn u c.args.site.now c.args.rows.now u c.no_progress-in_default.result (search rules) (λ i. u) (search rules) (search rules) known;
   goes = record { short = λ short. short; same = tt };
-  full = λ db n of same are known full. cc;
+  full = λ db n of same next are known full. cc;
 }
 
 pub returns-then-not-are_in_with-clause-does : goal.returns-then-not-are_in_with-clause-does
-returns-then-not-are_in_with-clause-does c = λ db n of same are known.
+returns-then-not-are_in_with-clause-does c = λ db n of same next are known.
     let u = c.args.undecided.now in
     let reading = c.in-Reading.reading in
     let here : u.stage ≡ stages.Reading reading = search rules in
@@ -38,10 +38,10 @@ returns-then-not-are_in_with-clause-does c = λ db n of same are known.
     let list = map (with_rows (catalogue_of c.args.catalog.now) c.args.site.now c.args.rows.now.op c.args.rows.now.parts) reading.asks.items in
     let less : are_in_with (catalogue_of c.args.catalog.now) c.args.site.now c.args.rows.now.op c.args.rows.now.parts reading.asks.items ≡ false = search rules in
     let more = sym (in_with (catalogue_of c.args.catalog.now) c.args.site.now c.args.rows.now.op c.args.rows.now.parts reading.asks.items) ∙ less in
-    rows_wait_by db n c.args.txn u _ c.args.site.now c.args.rows.now of c.leaf_names_are_unique.ensures reading here first known (catalogue_of c.args.catalog.now) same list refl more (record { version = reading.version; statement = reading.statement; plan = reading.plan; asks = c.bring.new.asks }) refl refl refl (search rules) (search rules) (search rules) c.no_progress-then-not-are_in_with.result (search rules) (search rules)
+    rows_wait_by db n c.args.txn u _ c.args.site.now c.args.rows.now of c.leaf_names_are_unique.ensures reading here first known (catalogue_of c.args.catalog.now) same list refl more (record { version = reading.version; statement = reading.statement; plan = reading.plan; asks = c.bring.new.asks }) refl refl refl (search rules) (search rules) (search rules) (search rules) c.no_progress-then-not-are_in_with.result (search rules) (search rules)
 
 pub returns-clause-does : goal.returns-clause-does
-returns-clause-does c = λ db n of same are known.
+returns-clause-does c = λ db n of same next are known.
     let u = c.args.undecided.now in
     let reading = c.in-Reading.reading in
     let worked = c.in_ok-worked.worked in
@@ -52,14 +52,14 @@ returns-clause-does c = λ db n of same are known.
     let all = ap are_in list ∙ sym (in_with (catalogue_of c.args.catalog.now) c.args.site.now c.args.rows.now.op c.args.rows.now.parts reading.asks.items) ∙ full_in in
     let here_list = list ∙ ap (λ cat. map (with_rows cat c.args.site.now c.args.rows.now.op c.args.rows.now.parts) reading.asks.items) (sym same) in
     let slice = c.as_slice-4.ensures.value ∙ here_list in
-    let home = c.in_ok-worked.ensures.home db n of same in
-    let have = c.in_ok-worked.ensures.participants db n u.participants of same are.sites in
+    let home = c.in_ok-worked.ensures.home db n of same next in
+    let have = c.in_ok-worked.ensures.participants db n u.participants of same next are.sites in
     let planned = planned_given_by db n c.args.txn u c.args.site.now c.args.rows.now of c.leaf_names_are_unique.ensures reading here first known c.as_slice-4.result.now slice in
     works_rows db n c.args.txn u c.works.new.undecided c.args.site.now c.args.rows.now of c.leaf_names_are_unique.ensures reading here first known c.as_slice-4.result.now slice (ap are_in c.as_slice-4.ensures.value ∙ all) worked.answer worked.unsent.items home
-    (c.in_ok-worked.ensures.explained db n (txn_name c.args.txn) of same planned) c.works.result (c.works.ensures.step db (n, reading.statement) _ are have) (c.works.ensures.within db n are.sites home)
+    (c.in_ok-worked.ensures.explained db n (txn_name c.args.txn) of same next planned) c.works.result (c.works.ensures.step db (n, reading.statement) _ are have) (c.works.ensures.within db n are.sites home)
 
 pub returns-clause-full : goal.returns-clause-full
-returns-clause-full c = λ db n of same are known full.
+returns-clause-full c = λ db n of same next are known full.
     let u = c.args.undecided.now in
     let reading = c.in-Reading.reading in
     let worked = c.in_ok-worked.worked in
@@ -72,5 +72,5 @@ returns-clause-full c = λ db n of same are known full.
     let slice = c.as_slice-4.ensures.value ∙ here_list in
     let planned = planned_given_by db n c.args.txn u c.args.site.now c.args.rows.now of c.leaf_names_are_unique.ensures reading here first known c.as_slice-4.result.now slice in
     rows_long db n c.args.txn u c.args.site.now c.args.rows.now of c.leaf_names_are_unique.ensures reading here first known c.as_slice-4.result.now slice (ap are_in c.as_slice-4.ensures.value ∙ all) worked.answer worked.unsent.items
-    (c.in_ok-worked.ensures.explained db n (txn_name c.args.txn) of same planned)
+    (c.in_ok-worked.ensures.explained db n (txn_name c.args.txn) of same next planned)
     (writes_past db c.args.txn u are.sites (write_sites worked.unsent.items) (n, reading.statement) (map (ask_of db) c.as_slice-4.result.now) worked.answer worked.unsent.items (c.works.ensures.sends.full full))

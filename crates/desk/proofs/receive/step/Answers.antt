@@ -1,5 +1,5 @@
 -- Why `step` meets its contract.
-use Rattle.std.proofs.Common.{◌≡◌, Some, sym, ap, ◌∙◌, subst, IfOk}
+use Rattle.std.proofs.Common.{◌≡◌, ◌+◌, ◌^◌, ◌<◌, true, Some, sym, ap, ◌∙◌, subst, IfOk}
 use Rattle.protocol.specs.Desk.{on_desk_letter}
 use Rattle.protocol.specs.Letters.{txn_name}
 use Rattle.desk.specs.declared.transaction.TxnState.TheVariants as standing
@@ -8,7 +8,7 @@ use Rattle.desk.specs.Request.{IsAt}
 use Rattle.desk.specs.Database.{Database, language, replied}
 use Rattle.desk.specs.Transaction.{txn_of}
 use Rattle.desk.specs.State.{volatile_of}
-use Rattle.desk.specs.Transition.{AreParticipants, AtSites, IsTransition, after_of}
+use Rattle.desk.specs.Transition.{AreParticipants, AtSites, IsTransition, after_of, raises}
 use Rattle.desk.specs.Acknowledge.{Keeps, kept_voters}
 use Rattle.desk.proofs.Called.{steps_as}
 use Rattle.desk.proofs.receive.step.Goals as goal
@@ -30,7 +30,7 @@ returns-in-Some-Undecided-clause-keeps g c = λ db.
     let o = (volatile_of c.args.volatile.now).standing c.args.txn in
     let kept = g.S.DeskStore.kept c.args.store.now in
     let is : Some (standing.Undecided c.in-Some-Undecided.undecided) ≡ o = ap Some (sym c.in-Some-Undecided.field-0-is) ∙ c.in-Some-Undecided.ensures in
-    subst (λ p. IsAt db p → g.S.DeskStore.is_clean c.on_open.new.store → g.S.DeskStore.is_sound c.args.store.now → kept.commits c.args.txn ≡ kept_voters p → c.args.volatile.now.version ≡ kept.version → IfOk c.on_open.result (λ turn. Keeps c.args.txn (kept_voters (after_of p turn.after)) kept (g.S.DeskStore.kept c.on_open.new.store)))
+    subst (λ p. IsAt db p → g.S.DeskStore.is_clean c.on_open.new.store → g.S.DeskStore.is_sound c.args.store.now → kept.commits c.args.txn ≡ kept_voters p → c.args.volatile.now.version ≡ kept.version → IfOk c.on_open.result (λ turn. Keeps c.args.txn (kept_voters (after_of p turn.after)) (raises p turn.reply) kept (g.S.DeskStore.kept c.on_open.new.store)))
     is (λ at clean sound none remembered. c.on_open.ensures.keeps db at clean sound none remembered)
 
 pub returns-in-Some-Committed-clause-turn : goal.returns-in-Some-Committed-clause-turn
@@ -64,3 +64,9 @@ returns-in-Some-Committed-clause-sites g c = λ db at.
     let o = (volatile_of c.args.volatile.now).standing c.args.txn in
     let is : Some (standing.Committed c.in-Some-Committed.committed) ≡ o = ap Some (sym c.in-Some-Committed.field-0-is) ∙ c.in-Some-Committed.ensures in
     c.on_row.ensures.sites db.sites (subst (λ p. IsAt db p) (sym is) at)
+
+pub returns-in-Some-Undecided-clause-below : goal.returns-in-Some-Undecided-clause-below
+returns-in-Some-Undecided-clause-below g c =
+    let o = (volatile_of c.args.volatile.now).standing c.args.txn in
+    let is : Some (standing.Undecided c.in-Some-Undecided.undecided) ≡ o = ap Some (sym c.in-Some-Undecided.field-0-is) ∙ c.in-Some-Undecided.ensures in
+    subst (λ p. IfOk c.on_open.result (λ turn. raises p turn.reply ≡ true → c.args.volatile.now.version + 1 < 2 ^ 64)) is c.on_open.ensures.below

@@ -7,7 +7,7 @@ use Rattle.desk.proofs.receive.take.Goals as goal
 pub returns-clause-ok : goal.returns-clause-ok
 returns-clause-ok g c = λ db choice distinct clean sound fits.
     takes db (g.S.DeskStore.kept c.args.store.now) (g.S.DeskStore.kept c.step.new.store) c.args.volatile.now c.make.ensures.ordered fits distinct c.args.txn choice c.args.site.now c.args.reply.now c.in_ok-turn.turn
-    c.requires (λ at. c.in_ok-turn.ensures.turn db choice at) (λ at. c.in_ok-turn.ensures.sites db at) (λ at rows. c.in_ok-turn.ensures.keeps db at clean sound rows fits.version) c.in_ok-turn.ensures.stands
+    c.requires (λ at. c.in_ok-turn.ensures.turn db choice at) (λ at. c.in_ok-turn.ensures.sites db at) (λ at rows. c.in_ok-turn.ensures.keeps db at clean sound rows fits.version) c.in_ok-turn.ensures.below c.in_ok-turn.ensures.stands
     (volatile_of c.make.new.volatile) (record { moved = c.make.ensures.settled; still = c.make.ensures.still })
     c.make.result.letters c.make.result.replies c.make.result.kept c.make.ensures.letters (c.make.ensures.replies c.in_ok-room.ensures.empty) c.make.ensures.kept
 

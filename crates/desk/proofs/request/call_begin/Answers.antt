@@ -1,19 +1,23 @@
 -- Why `call_begin` meets its contract.
-use Rattle.std.proofs.Common.{⊎_elim, inl, inr}
-use Rattle.desk.specs.State.{volatile_of}
-use Rattle.desk.proofs.Beginning.{begins, past_limit}
+use Rattle.std.proofs.Common.{rules, ◌≡◌, false, sym, ◌∙◌}
+use Rattle.desk.specs.State.{anyone_moves, volatile_of}
+use Rattle.desk.proofs.Beginning.{anyone_is, begins, calm_all, past_limit}
 use Rattle.desk.proofs.request.call_begin.Goals as goal
-
-pub returns-in-Err-clause-full : goal.returns-in-Err-clause-full
-returns-in-Err-clause-full c = λ db kept over fits.
-    let p = c.args.volatile.now in
-    ⊎_elim (λ memory. inl memory) (λ full. inr (full.0, past_limit db kept p.standings.entries p.undecided p.life p.number p.version fits c.args.sites.now over.sites full.1)) c.in-Err.ensures.refusal
 
 pub returns-in-Ok-clause-ok : goal.returns-in-Ok-clause-ok
 returns-in-Ok-clause-ok c = λ db kept over fits.
     let p = c.args.volatile.now in
-    begins db kept p.standings.entries p.undecided p.life p.number p.version fits c.args.sites.now over.sites (volatile_of c.begin.new.self) c.in_ok-participants.participants.items c.in-Ok.txn c.begun.result.letters c.begun.result.replies
-    c.in_ok-participants.ensures c.in-Ok.ensures.ok c.in-Ok.ensures.limits c.in-Ok.ensures.last c.in-Ok.ensures.txn c.begun.ensures.letters (c.begun.ensures.replies c.in_ok-room.ensures.empty)
+    let none : anyone_moves (volatile_of p) ≡ false = sym (anyone_is p.standings.entries c.moves.ensures.ordered) ∙ sym c.moves.ensures.moves ∙ c.if-moves.false in
+    begins db kept p.standings.entries p.undecided p.life p.number p.version fits c.args.sites.now over.sites false (calm_all db kept (volatile_of p) fits none) (λ moves. cc) (volatile_of c.begin.new.self) c.in_ok-participants.participants.items c.in-Ok.txn c.out_of_begin.result.letters c.out_of_begin.result.replies
+    c.in_ok-participants.ensures (search rules) c.in-Ok.ensures.few c.in-Ok.ensures.low c.in-Ok.ensures.txn c.out_of_begin.ensures.letters (c.out_of_begin.ensures.replies c.in_ok-room.ensures.empty)
 
-pub returns-in-Err-clause-steps : goal.returns-in-Err-clause-steps
-returns-in-Err-clause-steps c = record { kept = tt; err = c.in-Err.ensures.err; own = ⊎_elim (λ memory. inl memory) (λ full. inr full.0) c.in-Err.ensures.refusal }
+pub returns-in-Ok-clause-accepted : goal.returns-in-Ok-clause-accepted
+returns-in-Ok-clause-accepted c = sym (anyone_is c.args.volatile.now.standings.entries c.moves.ensures.ordered) ∙ sym c.moves.ensures.moves ∙ c.if-moves.false
+
+pub returns-then-moves-clause-alone : goal.returns-then-moves-clause-alone
+returns-then-moves-clause-alone c = λ alone. sym (anyone_is c.args.volatile.now.standings.entries c.moves.ensures.ordered) ∙ sym c.moves.ensures.moves ∙ c.if-moves.true
+
+pub returns-in_err-next-clause-full : goal.returns-in_err-next-clause-full
+returns-in_err-next-clause-full c = λ db kept over fits full.
+    let p = c.args.volatile.now in
+    past_limit db kept p.standings.entries p.undecided p.life p.number p.version fits c.args.sites.now over.sites false c.in_err-next.ensures.full.1

@@ -11,7 +11,7 @@ use Rattle.desk.proofs.request.call_give_up.Goals as goal
 pub returns-clause-ok : goal.returns-clause-ok
 returns-clause-ok c = λ db choice kept distinct fits.
     asks db kept c.args.volatile.now c.make.ensures.ordered fits distinct c.args.txn choice Give_up c.in_ok-turn.turn
-    (λ at. c.in_ok-turn.ensures.turn db choice at) (λ at. c.in_ok-turn.ensures.leaves.sites db at) c.in_ok-turn.ensures.leaves.keeps
+    (λ at. c.in_ok-turn.ensures.turn db choice at) (λ at. c.in_ok-turn.ensures.leaves.sites db at) c.in_ok-turn.ensures.leaves.keeps c.in_ok-turn.ensures.leaves.quiet
     (short_given_up (txn_name c.args.txn) choice (txn_of db ((volatile_of c.args.volatile.now).standing c.args.txn))) c.in_ok-turn.ensures.leaves.stands
     (volatile_of c.make.new.volatile) (record { moved = c.make.ensures.settled; still = c.make.ensures.still })
     c.make.result.letters c.make.result.replies c.make.ensures.letters (c.make.ensures.replies c.in_ok-room.ensures.empty)

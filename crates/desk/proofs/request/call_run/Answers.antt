@@ -10,6 +10,8 @@ use Rattle.desk.specs.Planned.{IsOfPlan, ask_from}
 use Rattle.desk.specs.State.{volatile_of}
 use Rattle.desk.proofs.Doing.{idle_there, plan_made, steps_on}
 use Rattle.desk.proofs.Unread.{told_by}
+use Rattle.desk.proofs.Raised.{request_keeps}
+use Rattle.protocol.proofs.Basics.{clash}
 use Rattle.desk.proofs.Full.{past_limits}
 use Rattle.desk.proofs.request.call_run.Goals as goal
 
@@ -22,13 +24,13 @@ returns-in-Ok-clause-ok c = λ db kept of same fits.
     let asks = c.in_ok-asks.asks.items in
     let list : asks ≡ map (ask_from catalogue) plan.fetches = search rules in
     let stands = idle_there ((volatile_of volatile).standing c.args.txn) c.in_ok-may_state.ensures.idle in
-    let planned = plan_made db of volatile.version catalogue same c.args.statement.now plan asks c.requires (sym c.is_refragment.ensures ∙ c.if-is_refragment.false) c.in_ok-plan.ensures.fetches c.in_ok-plan.ensures.finds list in
+    let planned = plan_made db of volatile.version catalogue same c.args.statement.now plan asks c.requires (λ refragment is. clash (ap is_refragment is) (sym c.is_refragment.ensures ∙ c.if-is_refragment.false)) c.in_ok-plan.ensures.fetches c.in_ok-plan.ensures.finds list in
     let goes = c.in-Ok.ensures.goes db kept stands.0 of same fits stands.1 stands.2 (subst (λ s. IsOfPlan db volatile.version s plan asks) (sym c.in_ok-copy.ensures) planned) (list ∙ ap (λ cat. map (ask_from cat) plan.fetches) (sym same)) in
     subst (λ s. Runs db (volatile_of volatile) kept (volatile_of c.start.new.volatile) c.args.txn s c.put_out.result.letters c.put_out.result.replies) c.in_ok-copy.ensures (record {
       ordinary = ap is_refragment c.in_ok-copy.ensures ∙ sym c.is_refragment.ensures ∙ c.if-is_refragment.false;
       choice = goes.does.choice;
       steps = steps_on db kept volatile c.start.ensures.ordered fits c.args.txn stands.0 stands.1 (λ choice. on_request (txn_name c.args.txn) choice (State (volatile.version, statement)) (txn_in db (volatile_of volatile) c.args.txn)) (volatile_of c.start.new.volatile) c.in-Ok.step goes
-          c.put_out.result.letters c.put_out.result.replies c.put_out.ensures.letters (c.put_out.ensures.replies c.in_ok-room.ensures.empty);
+          (λ choice. request_keeps (txn_name c.args.txn) choice (State (volatile.version, statement)) (txn_in db (volatile_of volatile) c.args.txn)) c.put_out.result.letters c.put_out.result.replies c.put_out.ensures.letters (c.put_out.ensures.replies c.in_ok-room.ensures.empty);
       explained = goes.does.explained;
       placed = goes.does.placed;
     })
@@ -47,7 +49,7 @@ returns-in-Err-clause-full c = λ db kept of same fits full.
     let asks = c.in_ok-asks.asks.items in
     let list : asks ≡ map (ask_from catalogue) plan.fetches = search rules in
     let stands = idle_there ((volatile_of volatile).standing c.args.txn) c.in_ok-may_state.ensures.idle in
-    let planned = plan_made db of volatile.version catalogue same c.args.statement.now plan asks c.requires (sym c.is_refragment.ensures ∙ c.if-is_refragment.false) c.in_ok-plan.ensures.fetches c.in_ok-plan.ensures.finds list in
+    let planned = plan_made db of volatile.version catalogue same c.args.statement.now plan asks c.requires (λ refragment is. clash (ap is_refragment is) (sym c.is_refragment.ensures ∙ c.if-is_refragment.false)) c.in_ok-plan.ensures.fetches c.in_ok-plan.ensures.finds list in
     subst (RunsPastLimits db (volatile_of volatile) c.args.txn) c.in_ok-copy.ensures
     (past_limits db kept volatile fits c.args.txn stands.0 stands.1 (λ choice. on_request (txn_name c.args.txn) choice (State (volatile.version, statement)) (txn_in db (volatile_of volatile) c.args.txn))
     (c.in-Err.ensures.full db kept stands.0 of same fits stands.1 stands.2 (subst (λ s. IsOfPlan db volatile.version s plan asks) (sym c.in_ok-copy.ensures) planned) (list ∙ ap (λ cat. map (ask_from cat) plan.fetches) (sym same)) (search rules)))

@@ -21,7 +21,7 @@ returns-clause-ok c = λ db kept of same fits.
 
 pub returns-clause-told : goal.returns-clause-told
 returns-clause-told c = λ db other.
-    ran_told c.call_run.result _ _ _ _ _ _ _ (c.in_ok-may_state.ensures.accepted db c.in_ok-statement.statement) (c.in_ok-may_state.ensures.accepted db other) c.in_ok-statement.ensures.ordinary (c.call_run.ensures.told db)
+    ran_told c.call_run.result _ _ _ _ _ _ _ _ (c.in_ok-may_state.ensures.accepted db c.in_ok-statement.statement) (c.in_ok-may_state.ensures.accepted db other) c.in_ok-statement.ensures.ordinary (c.call_run.ensures.told db)
 
 pub returns-in_err-may_state-clause-told : goal.returns-in_err-may_state-clause-told
 returns-in_err-may_state-clause-told c = λ db statement.

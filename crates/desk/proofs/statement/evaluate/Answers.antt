@@ -1,60 +1,57 @@
 -- Why `evaluate` meets its contract.
-use Rattle.std.proofs.Common.{rules, ◌≡◌, true, sym, ◌∙◌, subst, map, List}
-use Rattle.std.specs.List.{AllByRecursion, Contains}
-use Rattle.meaning.specs.Meaning.{meaning}
-use Rattle.meaning.specs.Statement.{IsStatementOf}
-use Rattle.meaning.specs.Whole.{FitsSchema, Relations}
-use Rattle.catalog.specs.FragmentLeaf.{catalogue_leaves, schemas_of}
+use Rattle.std.proofs.Common.{rules, ◌≡◌, suc, Some, sym, ◌∙◌, subst, List}
+use Rattle.std.specs.List.{Contains}
+use Rattle.std.specs.Option.{option_copied}
 use Rattle.catalog.specs.Relation.{catalogue_of}
 use Rattle.plan.specs.declared.fetch.Fetch.{Fetch}
-use Rattle.plan.specs.Given.{AreBrought}
-use Rattle.plan.specs.Reduced.{FindsAll}
-use Rattle.plan.specs.Shape.{Shape, shape}
-use Rattle.plan.specs.Stated.{AreFetchesOf}
+use Rattle.plan.specs.Shape.{shape}
 use Rattle.plan.specs.Uniform.{EachRead}
-use Rattle.answers.specs.Table.{given}
-use Rattle.answers.specs.Writes.{is_leaf_in, leaf_of, writes_between}
+use Rattle.meaning.specs.declared.statement.Statement.TheVariants as statements
 use Rattle.desk.specs.Fetches.{brought}
-use Rattle.desk.specs.Opening.{HaveParticipants}
-use Rattle.desk.specs.Planned.{unsent_from}
-use Rattle.desk.specs.ReducedPlan.{plan_in}
-use Rattle.desk.specs.Send.{UnsentAtHome}
-use Rattle.desk.specs.Statement.{write_sites}
-use Rattle.desk.proofs.AtHomes.{writes_home, writes_participants}
-use Rattle.desk.proofs.Explaining.{explained_of}
+use Rattle.desk.specs.OfCatalogue.{InForce, IsNextOf}
+use Rattle.desk.proofs.AtHomes.{by_home, by_participants, from_home, from_participants}
+use Rattle.desk.proofs.Explaining.{moved_ok, worked_ok}
+use Rattle.desk.proofs.Unread.{if_ok}
 use Rattle.desk.proofs.statement.evaluate.Goals as goal
 
-pub returns-clause-home : goal.returns-clause-home
-returns-clause-home c = λ db n of same.
-    let list = c.in_ok-outcome.outcome.writes in
-    let leaves : AllByRecursion (λ write. is_leaf_in (catalogue_leaves (db.catalogue n)) (leaf_of write) ≡ true) list = subst (λ cat. AllByRecursion (λ write. is_leaf_in (catalogue_leaves cat) (leaf_of write) ≡ true) list) (sym same) c.in_ok-outcome.ensures.leaves in
-    let is : c.in_ok-unsent.unsent.items ≡ map (unsent_from (catalogue_of c.args.catalog.now)) list = search rules in
-    subst (UnsentAtHome db) (sym is) (subst (λ cat. UnsentAtHome db (map (unsent_from cat) list)) same (writes_home db of n list leaves))
+pub returns-then-not-is_refragment-clause-home : goal.returns-then-not-is_refragment-clause-home
+returns-then-not-is_refragment-clause-home c = λ db n of same next. if_ok c.outcome_of.result (λ w from. from_home db of n (catalogue_of c.args.catalog.now) same w.unsent.items from) c.outcome_of.ensures.leaves
 
-pub returns-clause-participants : goal.returns-clause-participants
-returns-clause-participants c = λ db n participants of same those.
-    let list = c.in_ok-outcome.outcome.writes in
-    let leaves : AllByRecursion (λ write. is_leaf_in (catalogue_leaves (db.catalogue n)) (leaf_of write) ≡ true) list = subst (λ cat. AllByRecursion (λ write. is_leaf_in (catalogue_leaves cat) (leaf_of write) ≡ true) list) (sym same) c.in_ok-outcome.ensures.leaves in
-    let is : c.in_ok-unsent.unsent.items ≡ map (unsent_from (catalogue_of c.args.catalog.now)) list = search rules in
-    subst (λ us. HaveParticipants participants (write_sites us)) (sym is) (subst (λ cat. HaveParticipants participants (write_sites (map (unsent_from cat) list))) same (writes_participants db of n participants those list leaves))
+pub returns-then-not-is_refragment-clause-participants : goal.returns-then-not-is_refragment-clause-participants
+returns-then-not-is_refragment-clause-participants c = λ db n participants of same next those.
+    if_ok c.outcome_of.result (λ w from. from_participants db of n (catalogue_of c.args.catalog.now) same participants those w.unsent.items from) c.outcome_of.ensures.leaves
 
-pub work-requires-clause-fetched : goal.work-requires-clause-fetched
-work-requires-clause-fetched c =
+pub returns-then-not-is_refragment-clause-explained : goal.returns-then-not-is_refragment-clause-explained
+returns-then-not-is_refragment-clause-explained c = λ db n t of same next planned.
+    let rows : c.as_slice-fetched.result.now ≡ brought c.args.asks.now = c.as_slice-fetched.ensures.value ∙ c.in_ok-fetched.ensures in
+    worked_ok db of n c.leaf_names_are_unique.ensures c.args.statement.now c.args.plan.now c.args.asks.now planned t (catalogue_of c.args.catalog.now) same c.as_slice-fetched.result.now rows c.outcome_of.result
+    c.fetches-fetches.result.now c.fetches-fetches.ensures (shape c.in_ok-plan.plan) c.in_ok-plan.ensures.same (sym c.is_refragment.ensures ∙ c.if-not-is_refragment.true) c.outcome_of.ensures.answer c.outcome_of.ensures.writes
+
+pub outcome_of-requires-clause-fetched : goal.outcome_of-requires-clause-fetched
+outcome_of-requires-clause-fetched c =
     subst (λ (fetches : List Fetch). EachRead (λ read. Contains fetches read) (shape c.in_ok-plan.plan)) (sym c.fetches-fetches.ensures) c.in_ok-plan.ensures.fetched
 
+pub moves_of-requires-clause-fetched : goal.moves_of-requires-clause-fetched
+moves_of-requires-clause-fetched c =
+    subst (λ (fetches : List Fetch). EachRead (λ read. Contains fetches read) (shape c.in_ok-plan.plan)) (sym c.fetches-fetches.ensures) c.in_ok-plan.ensures.fetched
+
+pub returns-clause-home : goal.returns-clause-home
+returns-clause-home c = λ db n of same next.
+    let there : option_copied c.args.next ≡ Some c.in-Refragment-Some.next.now = search rules in
+    let coming : InForce db (suc n) c.in-Refragment-Some.next.now = subst (IsNextOf db n) there next in
+    if_ok c.moves_of.result (λ w by. by_home db of n (catalogue_of c.args.catalog.now) (catalogue_of c.in-Refragment-Some.next.now) same coming w.unsent.items by) c.moves_of.ensures.leaves
+
+pub returns-clause-participants : goal.returns-clause-participants
+returns-clause-participants c = λ db n participants of same next those.
+    let there : option_copied c.args.next ≡ Some c.in-Refragment-Some.next.now = search rules in
+    let coming : InForce db (suc n) c.in-Refragment-Some.next.now = subst (IsNextOf db n) there next in
+    if_ok c.moves_of.result (λ w by. by_participants db of n (catalogue_of c.args.catalog.now) (catalogue_of c.in-Refragment-Some.next.now) same coming w.unsent.items by participants those) c.moves_of.ensures.leaves
+
 pub returns-clause-explained : goal.returns-clause-explained
-returns-clause-explained c = λ db n t of same planned.
-    let list = c.in_ok-outcome.outcome.writes in
-    let plan = c.args.plan.now in
-    let catalogue = catalogue_of c.args.catalog.now in
-    let stated = c.args.statement.now in
+returns-clause-explained c = λ db n t of same next planned.
     let rows : c.as_slice-fetched.result.now ≡ brought c.args.asks.now = c.as_slice-fetched.ensures.value ∙ c.in_ok-fetched.ensures in
-    let is : c.in_ok-unsent.unsent.items ≡ map (unsent_from catalogue) list = search rules in
-    let Made : (Relations → Type 0) → List Fetch → Shape → Type 0 =
-    λ Holds fetches shape. IsStatementOf (schemas_of catalogue) stated → AreFetchesOf catalogue stated fetches → FindsAll catalogue stated fetches shape → (whole : Relations) → FitsSchema (schemas_of catalogue) whole → AreBrought catalogue whole fetches (given c.as_slice-fetched.result.now) → Holds whole in
-    let answers : Relations → Type 0 = λ whole. c.in_ok-outcome.outcome.answer ≡ (meaning stated whole).0 in
-    let writes : Relations → Type 0 = λ whole. list ≡ writes_between catalogue whole (meaning stated whole).1 in
-    let so : (Holds : Relations → Type 0) → Made Holds c.fetches-fetches.result.now (shape c.in_ok-plan.plan) → Made Holds plan.fetches (plan_in plan) =
-    λ Holds made. subst (λ sh. Made Holds plan.fetches sh) c.in_ok-plan.ensures.same (subst (λ fs. Made Holds fs (shape c.in_ok-plan.plan)) c.fetches-fetches.ensures made) in
-    explained_of db of n c.leaf_names_are_unique.ensures stated plan c.args.asks.now planned t c.in_ok-outcome.outcome.answer list catalogue same c.as_slice-fetched.result.now rows c.in_ok-unsent.unsent.items is
-    (so answers c.in_ok-outcome.ensures.answer) (so writes c.in_ok-outcome.ensures.writes)
+    let there : option_copied c.args.next ≡ Some c.in-Refragment-Some.next.now = search rules in
+    let coming : InForce db (suc n) c.in-Refragment-Some.next.now = subst (IsNextOf db n) there next in
+    let is : c.args.statement.now ≡ statements.Refragment c.in-Refragment-Some.refragment = search rules in
+    moved_ok db of n c.leaf_names_are_unique.ensures c.args.statement.now c.args.plan.now c.args.asks.now planned t (catalogue_of c.args.catalog.now) same c.as_slice-fetched.result.now rows c.moves_of.result
+    c.fetches-fetches.result.now c.fetches-fetches.ensures (shape c.in_ok-plan.plan) c.in_ok-plan.ensures.same c.in-Refragment-Some.refragment is (catalogue_of c.in-Refragment-Some.next.now) coming c.moves_of.ensures.answer c.moves_of.ensures.moves

@@ -8,10 +8,10 @@ use Rattle.desk.proofs.statement.reads.Goals as goal
 
 pub returns-clause-step : goal.returns-clause-step
 returns-clause-step c = λ db choice first rest some are have.
-    reads_is db c.args.txn choice c.args.undecided.now _ (record { version = c.args.version; statement = c.args.statement; plan = c.args.plan; asks = c.args.asks }) first rest some are have (record { version = c.args.version; statement = c.args.statement; plan = c.args.plan; asks = c.asks_begin.new.asks }) refl refl (search rules) (search rules) (search rules) _ (search rules) refl
+    reads_is db c.args.txn choice c.args.undecided.now _ (record { version = c.args.version; statement = c.args.statement; plan = c.args.plan; asks = c.args.asks }) first rest some are have (search rules) (record { version = c.args.version; statement = c.args.statement; plan = c.args.plan; asks = c.asks_begin.new.asks }) refl refl (search rules) (search rules) (search rules) _ (search rules) refl
 
 pub returns-clause-within : goal.returns-clause-within
 returns-clause-within c = λ db those home planned.
     let asks = c.args.asks.items in
     let participants = c.args.undecided.now.participants in
-    reads_in db c.args.version c.args.txn (visits (ask_sites asks) participants) (visits_sites (ask_sites asks) participants ∙ those) _ asks c.args.statement c.args.plan (record { version = c.args.version; statement = c.args.statement; plan = c.args.plan; asks = c.asks_begin.new.asks }) home planned refl refl refl (search rules) (search rules) (search rules)
+    reads_in db c.args.version c.args.txn (visits (ask_sites asks) participants) (visits_sites (ask_sites asks) participants ∙ those) c.reading.new.undecided asks c.args.statement c.args.plan (record { version = c.args.version; statement = c.args.statement; plan = c.args.plan; asks = c.asks_begin.new.asks }) home planned refl refl refl (search rules) (search rules) (search rules)

@@ -30,7 +30,7 @@ returns-in-Take-clause-ok g c = λ db of is clean sound fit.
     told_accepts db (desk_from kept old) (desk_from kept new) c.take.result c.args.input.now c.by_desk-in-Take.result c.by_desk-in-Take.ensures
     (take_accepts db (desk_from kept old) (desk_from kept new) c.take.result letter c.args.input.now c.in-Take.is fit
     (λ strange. let still = (takes.strange (so strange)).1 in desk_same kept old new still.1 (ap volatile_of still.0)) (λ strange. takes.silent (so strange))
-    (λ reply said here. takes.ok db reply of is clean sound fit.fits said here))
+    (λ reply said here. takes.ok db reply of is tt clean sound fit.fits said here))
 
 pub returns-in-Restart-clause-ok : goal.returns-in-Restart-clause-ok
 returns-in-Restart-clause-ok g c = λ db of is clean sound fit.

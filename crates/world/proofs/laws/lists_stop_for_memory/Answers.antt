@@ -3,7 +3,7 @@ use Rattle.std.proofs.Common.{◌≡◌, ◌<◌, ◌⊎◌, ◌-◌, ◌^◌, �
 use Rattle.store.specs.declared.fault.StoreFault.TheVariants as faults
 use Rattle.site.specs.declared.site.Site.{Site}
 use Rattle.desk.specs.declared.refusal.Refusal.{Refusal}
-use Rattle.desk.specs.declared.refusal.Refusal.TheVariants.{Aborted, Busy, Ended, Full, Memory, NoNext, NoTransaction, Read, Store}
+use Rattle.desk.specs.declared.refusal.Refusal.TheVariants.{Aborted, Busy, Chain, Ended, Full, Memory, NoNext, NoTransaction, NotAlone, Read, Store}
 use Rattle.world.specs.declared.machines.Machines as code
 use Rattle.world.specs.Counted.{HaveRefused, counts, counts_of}
 use Rattle.world.specs.Stopping.{StopsFor, is_stop}
@@ -33,7 +33,9 @@ memory_left before after never Full why stops = absurd (cc)
 memory_left before after never (Read fault) why stops = absurd (cc)
 memory_left before after never (Aborted reason) why stops = absurd (cc)
 memory_left before after never Memory why stops = refl
+memory_left before after never NotAlone why stops = absurd (cc)
 memory_left before after never NoNext why stops = absurd (cc)
+memory_left before after never Chain why stops = absurd (cc)
 memory_left before after never (Store faults.Refused) why stops = absurd (never why)
 memory_left before after never (Store faults.Memory) why stops = absurd why
 memory_left before after never (Store faults.Damaged) why stops = absurd why

@@ -30,7 +30,7 @@ returns-in-Begin-clause-ok g c = λ db whole entries past of is so.
     subst (λ (asked : calls.Call). IfOk c.begin.result (λ out. StepsOn db whole before after entries (entries ++ entry_of (event.Call asked) out ∷ []) past)) (sym c.in-Begin.is)
     (if_both c.begin.result (λ out leads within.
     let w = world_of db before (map (sent db) (letters_in entries)) past in
-    let may = begins_in_force db before (map (sent db) (letters_in entries)) past in
+    let may = begins_in_force db before so.fit.still (map (sent db) (letters_in entries)) past in
     runs_on db whole before after entries past (event.Call call.Begin) out begins Begin so leads (if_true (may_begin w) (begins w) w may) refl (may, within)
     (silent_step db before after out.letters out.replies (event.Call call.Begin) begins leads refl refl (begins_silent (world_of db before [] []) refl))) (c.begin.ensures.ok db (over_of db _ c.args.machines.now.desk.catalog of is) so.fit) (c.begin.ensures.within db (over_of db _ c.args.machines.now.desk.catalog of is) so.fit))
 

@@ -1,5 +1,5 @@
 -- Why `begin` meets its contract.
-use Rattle.std.proofs.Common.{ap, ◌∙◌, ◌+◌, add-one}
+use Rattle.std.proofs.Common.{ap, ◌∙◌, ◌+◌}
 use Rattle.std.specs.BTreeMap.{insert_entry}
 use Rattle.store.specs.Name.{txn_cmp}
 use Rattle.desk.specs.State.{volatile_from}
@@ -9,4 +9,4 @@ pub returns-clause-ok : goal.returns-clause-ok
 returns-clause-ok c =
     let old = c.args.self.now in
     ap (λ es. volatile_from es (old.undecided + 1) old.life (old.number + 1) old.version)
-    (c.in_ok-add.ensures.ok ∙ (λ i. insert_entry txn_cmp old.standings.entries (record { life = old.life; number = add-one old.number i }) (c.begun.ensures i)))
+    (c.in_ok-add.ensures.ok ∙ ap (λ txn. insert_entry txn_cmp old.standings.entries txn c.args.standing) c.in_ok-txn.ensures.txn)

@@ -8,7 +8,8 @@ use Rattle.world.specs.Counted.{counts, counts_of}
 use Rattle.std.proofs.Common.{◌∷◌, ◌∙◌, rules, ap, sym}
 use Rattle.protocol.specs.Desk.{is_desk_within}
 use Rattle.world.proofs.Refusing.{if_err}
-use Rattle.world.proofs.Stops.{limit_stops}
+use Rattle.world.proofs.Stops.{begin_stops}
+use Rattle.world.proofs.InForce.{begin_refused}
 use Rattle.world.proofs.machines.Machines.begin.Goals as goal
 
 pub returns-clause-ok : goal.returns-clause-ok
@@ -21,10 +22,11 @@ pub returns-clause-within : goal.returns-clause-within
 returns-clause-within g c = λ db over fit. if_ok c.begin.result (λ out begun. ap is_desk_within (sym begun.state) ∙ begun.within) (c.begin.ensures.ok db over fit.desk)
 
 pub returns-clause-full : goal.returns-clause-full
-returns-clause-full g c = λ db over fit. c.begin.ensures.full db over fit.desk
+returns-clause-full g c = λ db over fit.
+    begin_refused db (g.D.DeskStore.kept c.args.self.now.desk.store) (volatile_of c.args.self.now.desk.volatile) fit.desk fit.still c.begin.result c.begin.ensures.own (λ full. c.begin.ensures.full db over fit.desk full) c.begin.ensures.alone
 
 pub returns-clause-blames : goal.returns-clause-blames
-returns-clause-blames g c = if_err c.begin.result (limit_stops (counts g.D.DeskStore.refused g.S.SiteStore.refused c.args.self.now) (g.D.DeskStore.refused c.begin.new.self.store ∷ counts_of g.S.SiteStore.refused c.args.self.now.sites.items)) c.begin.ensures.own
+returns-clause-blames g c = if_err c.begin.result (begin_stops (counts g.D.DeskStore.refused g.S.SiteStore.refused c.args.self.now) (g.D.DeskStore.refused c.begin.new.self.store ∷ counts_of g.S.SiteStore.refused c.args.self.now.sites.items)) c.begin.ensures.own
 
 pub returns-clause-leaves : goal.returns-clause-leaves
 returns-clause-leaves g c = record {

@@ -15,13 +15,13 @@ returns-clause-ok g c = λ db of is clean sound fit no_order of_site.
     let new = c.take_kept.new.self in
     let said = reply_of c.args.letter.now.body no_order in
     if_ok c.take_kept.result (λ out takes. reply_leads db before (g.D.DeskStore.kept new.store) (volatile_of new.volatile) c.args.letter.now said.0 said.1 out.kept out.letters out.replies fit takes)
-    (c.take_kept.ensures.takes.ok db said.0 of is clean.0 sound.0 fit.desk said.1 of_site)
+    (c.take_kept.ensures.takes.ok db said.0 of is tt clean.0 sound.0 fit.desk said.1 of_site)
 
 pub returns-clause-told : goal.returns-clause-told
 returns-clause-told g c = λ db of is fit no_order of_site.
     let before = held g.D.DeskStore.kept g.S.SiteStore.kept c.args.self.now in
     let said = reply_of c.args.letter.now.body no_order in
-    desk_tells db before c.args.letter.now c.take_kept.result said.0 said.1 no_order c.take_kept.ensures.takes.own (c.take_kept.ensures.takes.full db said.0 of is fit.desk said.1 of_site)
+    desk_tells db before c.args.letter.now c.take_kept.result said.0 said.1 no_order c.take_kept.ensures.takes.own (c.take_kept.ensures.takes.full db said.0 of is tt fit.desk said.1 of_site)
 
 pub returns-clause-leaves : goal.returns-clause-leaves
 returns-clause-leaves g c = record {

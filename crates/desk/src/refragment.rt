@@ -1,0 +1,161 @@
+//! A relation gets the split that the next catalogue has for it: a transaction of its own, with one statement.
+
+ghost use Rattle.std.specs.Prelude.{◌≡◌, ◌≢◌, ◌⊎◌, ◌+◌, ◌<◌, ◌++◌, ℕ, List, [], Some, true, false, IfOk, IfErr, OnOk, Err, vec_len};
+ghost use Rattle.std.specs.Option.{option_copied};
+ghost use Rattle.std.specs.Vec.{vec_capacity};
+ghost use Rattle.meaning.specs.Statement.{IsStatementOf};
+ghost use Rattle.meaning.specs.declared.statement.Statement.TheVariants as statements;
+ghost use Rattle.catalog.specs.Chain.{IsNext};
+ghost use Rattle.catalog.specs.FragmentLeaf.{schemas_of};
+ghost use Rattle.catalog.specs.Relation.{catalogue_of};
+ghost use Rattle.store.specs.DeskContent.{DeskContent};
+ghost use Rattle.desk.specs.declared.refusal.Refusal.TheVariants as refusals;
+ghost use Rattle.desk.specs.declared.reply.Reply.TheVariants as replies;
+ghost use Rattle.desk.specs.declared.transaction.Stage.TheVariants as stages;
+ghost use Rattle.protocol.specs.Desk.{Known, State, began_as, is_desk_within, on_request};
+ghost use Rattle.protocol.specs.Letters.{txn_name};
+ghost use Rattle.catalog.specs.declared.relation.SplitRelation.{SplitRelation as Relation};
+ghost use Rattle.desk.specs.Database.{Database, IsStated};
+ghost use Rattle.desk.specs.Does.{Does};
+ghost use Rattle.desk.specs.Frame.{StepsInMemory};
+ghost use Rattle.desk.specs.Send.{AreShort};
+ghost use Rattle.desk.specs.Transaction.{undecided_of};
+ghost use Rattle.desk.specs.Transition.{AreParticipants};
+ghost use Rattle.desk.specs.OfCatalogue.{InForce, IsNextOf, IsOfCatalogue};
+ghost use Rattle.desk.specs.Refragmented.{IsNoNext, Refragments};
+ghost use Rattle.desk.specs.Request.{notices};
+ghost use Rattle.desk.specs.State.{Fits, desk_of, volatile_of};
+
+use crate::fetches::asks_of;
+use crate::refusal::Refusal;
+use crate::reply::{Notice, Out, Reply};
+use crate::request::nowhere_yet;
+use crate::statement::{Progress, reads};
+use crate::transaction::{Planned, TxnState, Undecided};
+use crate::volatile::{Volatile, begun};
+use catalog::catalogue::Catalog;
+use catalog::laws::leaf_names_are_unique;
+use meaning::statement::{Refragment, Statement};
+use std::alloc::Global;
+use store::name::Txn;
+use terms::copy::TryCopy;
+use terms::memory::Memory;
+use terms::seq::Seq;
+use terms::text::Text;
+
+/// Whether the next catalogue, if there is one, splits this relation otherwise.
+fn is_next(catalog: &Catalog, next: Option<&Catalog>, relation: &Text) -> bool
+    ensures yes { result ≡ true → (other : List (List ℕ) × List Relation) × (option_copied next.entry ≡ Some other) × IsNext (catalogue_of catalog.now) (catalogue_of other) relation.now }
+    ensures no { result ≡ false → IsNoNext (catalogue_of catalog.now) (option_copied next.entry) relation.now }
+{
+    match next {
+        Some(next) => match catalog.changed(next) {
+            Some(name) => name == relation.as_str(),
+            None => false,
+        },
+        None => false,
+    }
+}
+
+/// Room for two replies.
+fn room(alloc: Global) -> Result<Vec<Notice>, Memory>
+    ensures empty { IfOk result (λ room. room.items ≡ []) }
+    ensures room { IfOk result (λ room. vec_len room + 1 < vec_capacity room) }
+{
+    Ok(Vec::with_capacity(alloc, 2)?)
+}
+
+/// What is put out as a transaction begins and states a statement. There is room for both replies.
+fn put_out(room: Vec<Notice>, txn: Txn, step: Progress) -> Out
+    requires { vec_len room + 1 < vec_capacity room }
+    ensures letters { result.letters ≡ step.letters.items }
+    ensures replies { room.items ≡ [] → result.replies ≡ notices txn (Some replies.Begun) ++ notices txn step.reply }
+    ensures kept { result.kept ≡ true }
+{
+    let Progress { letters, reply } = step;
+    let mut room = room;
+    room.push_reserved(Notice {
+        txn,
+        reply: Reply::Begun,
+    });
+    if let Some(reply) = reply {
+        room.push_reserved(Notice { txn, reply });
+    }
+    Out {
+        letters: Seq::new(letters),
+        replies: Seq::new(room),
+        kept: true,
+    }
+}
+
+/// The statement of a transaction that has just begun reads. No site has given a ticket yet, so nothing but Opens goes out,
+/// and no limit is passed.
+fn start(
+    alloc: Global,
+    catalog: &Catalog,
+    txn: Txn,
+    undecided: &mut Undecided,
+    statement: Statement,
+    version: u64,
+) -> Result<Progress, Memory>
+    requires { IsStatementOf (schemas_of (catalogue_of catalog.now)) statement }
+    ensures does { (db : Database) → IsOfCatalogue db → InForce db version catalog.now → AreParticipants db undecided.old.participants → undecided.old.stage ≡ stages.Idle → IsStated db version statement
+        → IfOk result (λ step. Does db version txn undecided.new step (λ choice. on_request (txn_name txn) choice (State (version, statement)) (Known (undecided_of db undecided.old)))) }
+    ensures short { AreShort undecided.old.participants → OnOk result (AreShort undecided.new.participants) }
+    ensures moves { OnOk result (undecided.new.moves ≡ undecided.old.moves) }
+{
+    leaf_names_are_unique();
+    let plan = Planned::new(alloc, catalog, &statement)?;
+    let asks = asks_of(alloc, catalog, plan.fetches())?;
+    // Each relation has a leaf, so nothing is turned away here.
+    if asks.is_empty() {
+        return Err(Memory);
+    }
+    match reads(alloc, txn, undecided, statement, plan, asks, version) {
+        Ok(step) => Ok(step),
+        Err(_) => Err(Memory),
+    }
+}
+
+/// A relation gets the split that the next catalogue has for it: a transaction begins and states that. Nothing else may stand
+/// then. After a refusal nothing has changed.
+pub(crate) fn call_refragment(
+    volatile: &mut Volatile,
+    catalog: &Catalog,
+    next: Option<&Catalog>,
+    refragment: &Refragment,
+) -> Result<Out, Refusal>
+    requires { IsStatementOf (schemas_of (catalogue_of catalog.now)) (statements.Refragment refragment.now) }
+    ensures ok { (db : Database) (kept : DeskContent) → IsOfCatalogue db → InForce db volatile.old.version catalog.now → IsNextOf db volatile.old.version (option_copied next.entry) → Fits db kept (volatile_of volatile.old)
+        → IfOk result (λ out. Refragments db (volatile_of volatile.old) kept (volatile_of volatile.new) refragment.now out.letters out.replies) }
+    ensures steps { StepsInMemory volatile.old volatile.new result }
+    ensures own { IfErr result (λ told. (told ≡ refusals.Memory) ⊎ (told ≡ refusals.Full) ⊎ (told ≡ refusals.NotAlone) ⊎ (told ≡ refusals.NoNext)) }
+    ensures full { (db : Database) (kept : DeskContent) → Fits db kept (volatile_of volatile.old) → result ≡ Err refusals.Full
+        → is_desk_within (began_as true (desk_of db (volatile_of volatile.old))) ≡ false }
+    ensures alone { result ≡ Err refusals.NotAlone → (volatile_of volatile.old).txns ≢ [] }
+    ensures none { result ≡ Err refusals.NoNext → IsNoNext (catalogue_of catalog.now) (option_copied next.entry) refragment.now.relation.name }
+{
+    let alloc = volatile.alloc;
+    let txn = volatile.next()?;
+    if !volatile.is_alone() {
+        return Err(Refusal::NotAlone);
+    }
+    if !is_next(catalog, next, &refragment.relation.name) {
+        return Err(Refusal::NoNext);
+    }
+    let room = room(alloc)?;
+    let participants = nowhere_yet(alloc, catalog.sites())?;
+    let mut undecided = begun(participants, true);
+    let copy = refragment.copy()?;
+    let statement = Statement::Refragment(copy);
+    let step = start(
+        alloc,
+        catalog,
+        txn,
+        &mut undecided,
+        statement,
+        volatile.version,
+    )?;
+    let txn = volatile.begin(TxnState::Undecided(undecided))?;
+    Ok(put_out(room, txn, step))
+}
