@@ -27,6 +27,28 @@ where = \"no >= 10\"
 site = \"south\"
 ";
 
+/// The same relations: the first is split by rows alone.
+pub const EMP_BY_ROWS: &str = "sites = [\"north\", \"south\"]
+
+[relations.emp]
+columns = [\"id int\", \"name text\", \"dept int\", \"pay int\"]
+[[relations.emp.rows]]
+where = \"dept < 10\"
+site = \"south\"
+[[relations.emp.rows]]
+where = \"dept >= 10\"
+site = \"north\"
+
+[relations.dept]
+columns = [\"no int\", \"title text\"]
+[[relations.dept.rows]]
+where = \"no < 10\"
+site = \"north\"
+[[relations.dept.rows]]
+where = \"no >= 10\"
+site = \"south\"
+";
+
 /// One relation, split by rows.
 pub const ITEM: &str = "sites = [\"north\", \"south\"]
 

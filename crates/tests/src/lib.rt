@@ -14,6 +14,8 @@ mod letters;
 #[cfg(test)]
 mod outcomes;
 #[cfg(test)]
+mod refragments;
+#[cfg(test)]
 mod refused;
 #[cfg(test)]
 mod refused_calls;

@@ -1,0 +1,144 @@
+//! A relation gets the split of the next catalogue: what its coordinator puts out, line by line.
+
+ghost use Rattle.std.specs.Prelude.{IfOk};
+ghost use Rattle.meaning.specs.Statement.{IsStatementOf};
+ghost use Rattle.meaning.specs.declared.statement.Statement.TheVariants as statements;
+ghost use Rattle.catalog.specs.FragmentLeaf.{schemas_of};
+ghost use Rattle.catalog.specs.Relation.{catalogue_of};
+
+use crate::desks::plays;
+use catalog::catalogue::Catalog;
+use desk::coordinator::Coordinator;
+use desk::refusal::Refusal;
+use desk::reply::Out;
+use meaning::statement::{Refragment, Statement};
+use reader::command::Command;
+use reader::read::read;
+use std::alloc::Global;
+use std::test::*;
+use store::desk_store::DeskStore;
+
+/// The REFRAGMENT of a text.
+fn refragment_of(alloc: Global, catalog: &Catalog, text: &str) -> Result<Refragment, Refusal>
+    ensures { IfOk result (λ refragment. IsStatementOf (schemas_of (catalogue_of catalog.now)) (statements.Refragment refragment)) }
+{
+    match read(alloc, text, catalog.schema()) {
+        Ok(Command::Run(Statement::Refragment(refragment))) => Ok(refragment),
+        Ok(_) => Err(Refusal::Busy),
+        Err(_) => Err(Refusal::Memory),
+    }
+}
+
+/// A relation gets the split that the next catalogue has for it.
+pub(crate) fn refragment<S: DeskStore>(
+    alloc: Global,
+    coordinator: &mut Coordinator<S>,
+    text: &str,
+) -> Result<Out, Refusal> {
+    let refragment = refragment_of(alloc, coordinator.desk.catalog(), text)?;
+    coordinator.refragment(&refragment)
+}
+
+/// A relation that was split by columns and rows is split by rows alone: its parts move, and nothing begins beside it.
+const MOVES: &str = "start
+REFRAGMENT dept
+refused 10 NoNext
+REFRAGMENT emp
+T1: begun
+desk>north Open T1
+desk>south Open T1
+begin
+refused 9 NotAlone
+do T1 SELECT name FROM emp
+refused 2 Busy
+north>desk Ticket T1 1.1
+desk>north Fetch T1 1.1 1 emp.1
+desk>north Fetch T1 1.1 2 emp.2
+south>desk Ticket T1 1.1
+desk>south Fetch T1 1.1 1 emp.3
+part 1, 'Ada'
+part 2, 'Bo'
+north>desk Rows T1 1.1 1 2
+part 1, 7, 100
+north>desk Rows T1 1.1 2 1
+part 2, 12, 200
+south>desk Rows T1 1.1 1 1
+T1: changed 2
+desk>north Del T1 1.1 3 emp.1 1
+desk>north Del T1 1.1 4 emp.1 2
+desk>north Del T1 1.1 5 emp.2 1
+desk>north Put T1 1.1 6 emp.2 2, 'Bo', 12, 200
+desk>south Put T1 1.1 2 emp.1 1, 'Ada', 7, 100
+desk>south Del T1 1.1 3 emp.3 2
+do T1 SELECT name FROM emp
+refused 2 Busy
+commit T1
+desk>north Prepare T1 1.1 6
+desk>south Prepare T1 1.1 3
+";
+
+/// Both sites can commit, and the next catalogue is in force: no other comes after it, and statements read its leaves.
+const DECIDED: &str = "north>desk Vote T1 1.1 YES
+south>desk Vote T1 1.1 YES
+T1: committed
+desk>north Commit T1 1.1
+desk>south Commit T1 1.1
+REFRAGMENT emp
+refused 9 NotAlone
+north>desk Ack T1 1.1
+south>desk Ack T1 1.1
+REFRAGMENT emp
+refused 10 NoNext
+begin T2
+T2: begun
+do T2 SELECT name FROM emp
+desk>north Open T2
+desk>south Open T2
+south>desk Ticket T2 1.2
+desk>south Fetch T2 1.2 1 emp.1
+north>desk Ticket T2 1.2
+desk>north Fetch T2 1.2 1 emp.2
+part 1, 'Ada', 7, 100
+south>desk Rows T2 1.2 1 1
+part 2, 'Bo', 12, 200
+north>desk Rows T2 1.2 1 1
+T2: name
+T2: Ada
+T2: Bo
+T2: 2 rows
+";
+
+/// One site can't: the old catalogue stays in force.
+const LOST: &str = "north>desk Vote T1 1.1 NO
+T1: aborted 1 Vote
+desk>south Abort T1 1.1
+begin T2
+T2: begun
+do T2 SELECT name FROM emp
+desk>north Open T2
+north>desk Ticket T2 1.2
+desk>north Fetch T2 1.2 1 emp.1
+";
+
+/// The coordinator restarts before the decision: the old catalogue stays in force, and the relation can move again.
+const RESTARTED: &str = "restart
+T1: aborted 4 Restart
+south>desk Vote T1 1.1 YES
+REFRAGMENT emp
+T1: begun
+desk>north Open T1
+desk>south Open T1
+";
+
+#[test]
+fn letters_of_a_refragmentation(rt: HostRuntime) {
+    let cases = [
+        ("decided", &[MOVES, DECIDED][..]),
+        ("lost", &[MOVES, LOST][..]),
+        ("restarted", &[MOVES, RESTARTED][..]),
+    ];
+    for (name, pieces) in cases {
+        let same = plays(rt.alloc(), pieces).or_else(|_| plays(rt.alloc(), pieces));
+        assert!(rt; same == Ok(true), "{name}");
+    }
+}
