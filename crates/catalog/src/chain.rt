@@ -118,6 +118,14 @@ impl Chain {
         self.catalogs.get(number.checked_sub(1)?)
     }
 
+    /// The catalogues, the first one first.
+    pub fn as_slice(&self) -> &[Catalog]
+        ensures catalogs { result.now ≡ self.now }
+        ensures chain { IsChain (map catalogue_of self.now) }
+    {
+        self.catalogs.as_slice()
+    }
+
     /// How many catalogues there are: one at least.
     pub fn len(&self) -> usize
         ensures len { result ≡ length self.now }
