@@ -1,5 +1,5 @@
 -- What calls leave of the coordinator, and why they fail.
-use Rattle.std.specs.Prelude.{◌≡◌, ◌⊎◌, ◌+◌, ◌^◌, ◌≤◌, nat_eq, ℕ, Bool, true, false, List, [], Some, None, is_some, Result, Err, IsOk, IfOk, IfErr, OnOk, OnErr, ◌≢◌, Option}
+use Rattle.std.specs.Prelude.{◌≡◌, ◌⊎◌, ◌+◌, ◌^◌, ◌≤◌, ◌==◌, nat_eq, ℕ, Bool, true, false, List, [], Some, None, is_some, Result, Err, IsOk, IfOk, IfErr, OnOk, OnErr, ◌≢◌, Option, if◌then◌else◌}
 use Rattle.std.specs.Cmp.Lexicographic.{pointwise}
 use Rattle.std.specs.List.{list_any}
 use Rattle.terms.specs.declared.memory.Memory.{Memory}
@@ -32,7 +32,7 @@ use Rattle.desk.specs.Called.{CallsStore}
 use Rattle.desk.specs.Request.{IsAt, IsOver, txn_in}
 use Rattle.desk.specs.Database.{Database, language, replied}
 use Rattle.desk.specs.Does.{IsPastLimits, Takes}
-use Rattle.desk.specs.OfCatalogue.{InForce, IsNextOf, IsOfCatalogue}
+use Rattle.desk.specs.OfCatalogue.{InForce, IsNextOf, IsOfCatalogue, first_in, follow}
 use Rattle.desk.specs.Recovery.{IsStrange, Restarts, Rises}
 use Rattle.desk.specs.State.{Fits, desk_of, volatile_of}
 use Rattle.desk.specs.Refragmented.{IsNoNext, Refragments}
@@ -68,12 +68,13 @@ pub record StatesInMemory (old new : Volatile) (txn : Txn) (result : Result Out 
   pub err : OnErr result (volatile_of new ≡ volatile_of old)
   pub accepted : (db : Database) (statement : Statement) → OnOk result (protocol.refusal (protocol.State ((volatile_of old).version, statement)) (txn_in db (volatile_of old) txn) ≡ None)
 
--- the coordinator makes a step in memory alone: its store and its catalogue are as they were
+-- the coordinator makes a step in memory alone: its store and its catalogues are as they were
 pub record StepsPlainly {S : Type 0} (old new : Desk S) (result : Result Out Refusal) : Type 0 where
   pub kept : IfOk result (λ out. out.kept ≡ true)
   pub err : OnErr result (volatile_of new.volatile ≡ volatile_of old.volatile)
   pub store : new.store ≡ old.store
   pub catalog : new.catalog ≡ old.catalog
+  pub later : new.later ≡ old.later
 
 -- so it makes a statement's, of a transaction that may state one
 pub record StatesPlainly {S : Type 0} (old new : Desk S) (txn : Txn) (result : Result Out Refusal) : Type 0 where
@@ -134,7 +135,7 @@ pub record BeginsOrFails {S T : Type 0} (is_clean is_sound : S → Type 0) (kept
 
 -- a letter is taken, where `may` is true with the store; next: the catalogue that comes next, if one does; it makes the protocol's step, Full only where that would lead past the limits; a letter of no
 -- site of the catalogue, and one that no site sends, are passed over; after a refusal nothing has changed
-pub record TakesLetter {S : Type 0} (is_clean is_sound : S → Type 0) (kept : S → DeskContent) (refused : S → ℕ) (old new : Desk S) (letter : Letter) (may : Bool) (next : Option (List (List ℕ) × List SplitRelation)) (result : Result Out Refusal) : Type 0 where
+pub record TakesUnder {S : Type 0} (is_clean is_sound : S → Type 0) (kept : S → DeskContent) (refused : S → ℕ) (old new : Desk S) (letter : Letter) (may : Bool) (next : Option (List (List ℕ) × List SplitRelation)) (result : Result Out Refusal) : Type 0 where
   pub store : StepsStore is_clean is_sound kept refused old.store new.store may result (λ out. out.kept)
       ((db : Database) (reply : Reply) → IsOfCatalogue db → InForce db old.volatile.version old.catalog → IsNextOf db old.volatile.version next → Fits db (kept old.store) (volatile_of old.volatile) → letter.body ≡ bodies.Reply reply
       → CallsStore {L = language db} letter.site (replied db letter.site reply) (txn_in db (volatile_of old.volatile) letter.txn))
@@ -151,17 +152,27 @@ pub record TakesLetter {S : Type 0} (is_clean is_sound : S → Type 0) (kept : S
   pub full_at : (reply : Reply) → letter.body ≡ bodies.Reply reply → result ≡ Err refusals.Full → may_send ((volatile_of old.volatile).standing letter.txn) letter.site reply ≡ true
   pub err : OnErr result (volatile_of new.volatile ≡ volatile_of old.volatile)
   pub catalog : new.catalog ≡ old.catalog
+  pub later : new.later ≡ old.later
+
+-- the coordinator with other catalogues, the one in force and those that come after it
+abbrev pub under : {S : Type 0} → Desk S → Desk S → Desk S
+under old new = record new { catalog = old.catalog; later = old.later }
+
+-- a letter is taken under the catalogue in force, by the one that comes next; with the next version that one is in force
+pub record TakesLetter {S : Type 0} (is_clean is_sound : S → Type 0) (kept : S → DeskContent) (refused : S → ℕ) (old new : Desk S) (letter : Letter) (may : Bool) (result : Result Out Refusal) : Type 0 where
+  pub takes : TakesUnder is_clean is_sound kept refused old (under old new) letter may (first_in old.later.items) result
+  pub catalogs : (new.catalog, new.later.items) ≡ (if new.volatile.version == old.volatile.version then (old.catalog, old.later.items) else follow old.catalog old.later.items)
 
 -- a transaction of its own gives a relation the split that the next catalogue has for it: its first step is the protocol's; Full only past the limits, NotAlone only
--- where something stands, NoNext only where that catalogue is no next one by this relation; the store and the catalogue are as they were
-pub record RefragmentsDesk {S : Type 0} (kept : S → DeskContent) (old new : Desk S) (next : Option (List (List ℕ) × List SplitRelation)) (refragment : Refragment) (result : Result Out Refusal) : Type 0 where
+-- where something stands, NoNext only where that catalogue is no next one by this relation; the store and the catalogues are as they were
+pub record RefragmentsDesk {S : Type 0} (kept : S → DeskContent) (old new : Desk S) (refragment : Refragment) (result : Result Out Refusal) : Type 0 where
   pub plainly : StepsPlainly old new result
-  pub ok : (db : Database) → IsOfCatalogue db → InForce db old.volatile.version old.catalog → IsNextOf db old.volatile.version next → Fits db (kept old.store) (volatile_of old.volatile)
+  pub ok : (db : Database) → IsOfCatalogue db → InForce db old.volatile.version old.catalog → IsNextOf db old.volatile.version (first_in old.later.items) → Fits db (kept old.store) (volatile_of old.volatile)
       → IfOk result (λ out. Refragments db (volatile_of old.volatile) (kept new.store) (volatile_of new.volatile) refragment out.letters out.replies)
   pub own : IfErr result (λ told. (told ≡ refusals.Memory) ⊎ (told ≡ refusals.Full) ⊎ (told ≡ refusals.NotAlone) ⊎ (told ≡ refusals.NoNext))
   pub full : (db : Database) → Fits db (kept old.store) (volatile_of old.volatile) → result ≡ Err refusals.Full → protocol.is_desk_within (protocol.began_as true (desk_of db (volatile_of old.volatile))) ≡ false
   pub alone : result ≡ Err refusals.NotAlone → (volatile_of old.volatile).txns ≢ []
-  pub none : result ≡ Err refusals.NoNext → IsNoNext (catalogue_of old.catalog) next refragment.relation.name
+  pub none : result ≡ Err refusals.NoNext → IsNoNext (catalogue_of old.catalog) (first_in old.later.items) refragment.relation.name
 
 -- a restart of the coordinator: who was undecided is lost, and the rows of the store stand; after a refusal nothing has changed
 pub record RestartsDesk {S : Type 0} (is_clean is_sound : S → Type 0) (kept : S → DeskContent) (refused : S → ℕ) (old new : Desk S) (result : Result Out Refusal) : Type 0 where
@@ -171,3 +182,4 @@ pub record RestartsDesk {S : Type 0} (is_clean is_sound : S → Type 0) (kept : 
   pub says_kept : IfOk result (λ out. out.kept ≡ true)
   pub err : OnErr result (volatile_of new.volatile ≡ volatile_of old.volatile)
   pub catalog : new.catalog ≡ old.catalog
+  pub later : new.later ≡ old.later

@@ -27,4 +27,3 @@ pub mod Refragmented
 pub mod Recovery
 pub mod Receive
 pub mod Frame
-pub mod Coordinator

@@ -19,7 +19,6 @@
 mod abort;
 mod acknowledge;
 mod commit;
-pub mod coordinator;
 pub mod desk;
 mod fetches;
 mod participant;
