@@ -40,10 +40,10 @@ uncounted machines = record machines { refused = [] }
 
 -- where the count is all that differs, machines are served and stand as before
 counted_fit : (db : Database) (machines : Machines) → AreFit db (uncounted machines) → AreFit db machines
-counted_fit db machines fit = record { names = fit.names; leaves = fit.leaves; desk = fit.desk; within = fit.within; sites = fit.sites; still = fit.still }
+counted_fit db machines fit = record { names = fit.names; leaves = fit.leaves; desk = fit.desk; within = fit.within; sites = fit.sites; single = fit.single; still = fit.still }
 
 uncounted_fit : (db : Database) (machines : Machines) → AreFit db machines → AreFit db (uncounted machines)
-uncounted_fit db machines fit = record { names = fit.names; leaves = fit.leaves; desk = fit.desk; within = fit.within; sites = fit.sites; still = fit.still }
+uncounted_fit db machines fit = record { names = fit.names; leaves = fit.leaves; desk = fit.desk; within = fit.within; sites = fit.sites; single = fit.single; still = fit.still }
 
 served_still : (db : Database) (whole : Relations) (old new : Machines) (past : List (Deed (language db))) → uncounted new ≡ uncounted old → IsServed db whole old past → IsServed db whole new past
 served_still db whole old new past same served =

@@ -74,7 +74,7 @@ pub record StepsPlainly {S : Type 0} (old new : Desk S) (result : Result Out Ref
   pub err : OnErr result (volatile_of new.volatile ≡ volatile_of old.volatile)
   pub store : new.store ≡ old.store
   pub catalog : new.catalog ≡ old.catalog
-  pub later : new.later ≡ old.later
+  pub later : new.later.items ≡ old.later.items
 
 -- so it makes a statement's, of a transaction that may state one
 pub record StatesPlainly {S : Type 0} (old new : Desk S) (txn : Txn) (result : Result Out Refusal) : Type 0 where
@@ -152,7 +152,7 @@ pub record TakesUnder {S : Type 0} (is_clean is_sound : S → Type 0) (kept : S 
   pub full_at : (reply : Reply) → letter.body ≡ bodies.Reply reply → result ≡ Err refusals.Full → may_send ((volatile_of old.volatile).standing letter.txn) letter.site reply ≡ true
   pub err : OnErr result (volatile_of new.volatile ≡ volatile_of old.volatile)
   pub catalog : new.catalog ≡ old.catalog
-  pub later : new.later ≡ old.later
+  pub later : new.later.items ≡ old.later.items
 
 -- the coordinator with other catalogues, the one in force and those that come after it
 abbrev pub under : {S : Type 0} → Desk S → Desk S → Desk S
@@ -182,4 +182,4 @@ pub record RestartsDesk {S : Type 0} (is_clean is_sound : S → Type 0) (kept : 
   pub says_kept : IfOk result (λ out. out.kept ≡ true)
   pub err : OnErr result (volatile_of new.volatile ≡ volatile_of old.volatile)
   pub catalog : new.catalog ≡ old.catalog
-  pub later : new.later ≡ old.later
+  pub later : new.later.items ≡ old.later.items

@@ -1,5 +1,5 @@
 -- What a database has to do with its catalogues.
-use Rattle.std.specs.Prelude.{◌≡◌, ◌↔◌, ⊤, ℕ, suc, true, List, [], ◌∷◌, map, Option, None, Some}
+use Rattle.std.specs.Prelude.{◌≡◌, ◌↔◌, ⊤, ℕ, zero, suc, true, List, [], ◌∷◌, map, Option, None, Some}
 use Rattle.std.specs.FinMap as keyed
 use Rattle.std.specs.List.{AllByRecursion, slice_get}
 use Rattle.terms.specs.declared.value.Value.{Value}
@@ -8,6 +8,7 @@ use Rattle.meaning.specs.Statement.{IsStatementOf}
 use Rattle.meaning.specs.Whole.{FitsSchema, Relations, rows_of}
 use Rattle.catalog.specs.declared.fragment_leaf.FragmentLeaf.{FragmentLeaf}
 use Rattle.catalog.specs.declared.relation.SplitRelation.{SplitRelation}
+use Rattle.catalog.specs.Catalogue.{Catalogue}
 use Rattle.catalog.specs.Chain.{IsNext}
 use Rattle.catalog.specs.Formed.{IsFormed}
 use Rattle.catalog.specs.Fragment.{content}
@@ -64,3 +65,10 @@ first_in (next ∷ rest) = Some next
 abbrev pub follow : List (List ℕ) × List SplitRelation → List (List (List ℕ) × List SplitRelation) → (List (List ℕ) × List SplitRelation) × List (List (List ℕ) × List SplitRelation)
 follow catalog [] = (catalog, [])
 follow catalog (next ∷ rest) = (next, rest)
+
+-- the catalogues from the one of this number on, which are numbered from 1: none where there is none of it
+abbrev pub from_number : ℕ → List Catalogue → List Catalogue
+from_number n [] = []
+from_number zero (catalogue ∷ catalogues) = []
+from_number (suc zero) (catalogue ∷ catalogues) = catalogue ∷ catalogues
+from_number (suc (suc n)) (catalogue ∷ catalogues) = from_number (suc n) catalogues

@@ -1,10 +1,11 @@
 //! The coordinator's machine.
 
-ghost use Rattle.std.specs.Prelude.{◌≡◌, ◌≢◌, ◌⊎◌, ◌+◌, ◌≤◌, ◌^◌, None, Some, true, false, Err, IfOk, IfErr, OnOk};
+ghost use Rattle.std.specs.Prelude.{◌≡◌, ◌≢◌, ◌⊎◌, ◌+◌, ◌≤◌, ◌^◌, ◌==◌, ◌∷◌, List, map, None, Some, true, false, Err, IfOk, IfErr, OnOk, if◌then◌else◌};
 ghost use Rattle.std.specs.BTreeMap.{IsOrdered};
 ghost use Rattle.std.specs.Option.{option_copied, option_map};
 ghost use Rattle.meaning.specs.declared.statement.Statement.{Statement as StatementNow};
 ghost use Rattle.meaning.specs.Statement.{IsStatementOf, is_refragment};
+ghost use Rattle.catalog.specs.Catalogue.{Catalogue};
 ghost use Rattle.catalog.specs.FragmentLeaf.{schemas_of};
 ghost use Rattle.catalog.specs.Relation.{catalogue_of};
 ghost use Rattle.protocol.specs.Desk.{Choice, Commit_call, Give_up, Rollback, State, desk_began, is_desk_within, on_request, refusal};
@@ -19,14 +20,15 @@ ghost use Rattle.desk.specs.declared.refusal.Refusal.TheVariants as refusals;
 ghost use Rattle.desk.specs.Request.{IsOver, WhyNotStated, refused_as, txn_in};
 ghost use Rattle.desk.specs.Database.{Database, language};
 ghost use Rattle.desk.specs.Does.{IsNoStatement, Runs, RunsPastLimits, States, StatesPastLimits};
-ghost use Rattle.desk.specs.Frame.{RefragmentsDesk, RestartsDesk, StatesPlainly, StepsPlainly, TakesLetter};
-ghost use Rattle.desk.specs.OfCatalogue.{InForce, IsOfCatalogue};
+ghost use Rattle.desk.specs.Frame.{RefragmentsDesk, RestartsDesk, StatesPlainly, StepsPlainly, TakesLetter, TakesUnder};
+ghost use Rattle.desk.specs.OfCatalogue.{InForce, IsOfCatalogue, first_in, follow, from_number};
 ghost use Rattle.desk.specs.Recovery.{IsStrange, Rises};
 ghost use Rattle.desk.specs.State.{Begins, Fits, Steps, anyone_moves, desk_of, volatile_of};
 ghost use Rattle.meaning.specs.declared.statement.Statement.TheVariants as statements;
 
+use crate::opening::open;
 use crate::receive::{may_send, on_reply, passed_over, take};
-use crate::recovery::{begin, restart};
+use crate::recovery::restart;
 use crate::refragment::call_refragment;
 use crate::refusal::{Refusal, store_refusal};
 use crate::reply::Out;
@@ -36,6 +38,7 @@ use crate::request::{
 use crate::send::is_among;
 use crate::volatile::Volatile;
 use catalog::catalogue::Catalog;
+use catalog::chain::Chain;
 use meaning::statement::{Refragment, Statement};
 use std::alloc::Global;
 use store::commit::DeskKept;
@@ -44,59 +47,65 @@ use store::fault::StoreFault;
 use store::letter::{Body, Letter};
 use store::name::Txn;
 
-/// A coordinator: its store, its catalogue, and what it has in memory. What its clauses say holds where the
-/// store is clean as the call ends, and was sound, and where what is in memory fitted it as the call began.
+/// A coordinator: its store, the catalogue in force and those that come after it, and what it has in memory. What its clauses say
+/// holds where the store is clean as the call ends, and was sound, and where what is in memory fitted it as the call began.
 #[derive(Drop)]
 pub struct Desk<S: DeskStore> {
     store: S,
     catalog: Catalog,
+    later: Vec<Catalog>,
     volatile: Volatile,
 }
 
-/// A catalogue and a store whose coordinator didn't start, and why.
+/// A store whose coordinator didn't start, and why.
 #[derive(Drop)]
 pub struct Unstarted<S> {
     pub refusal: Refusal,
-    pub catalog: Catalog,
     pub store: S,
 }
 
+/// The first of these, if there is one.
+fn first_in(catalogs: &[Catalog]) -> Option<&Catalog>
+    ensures { option_copied result ≡ first_in catalogs.now }
+{
+    catalogs.first()
+}
+
 impl<S: DeskStore> Desk<S> {
-    /// Starts the coordinator of this catalogue: the next life begins. On a refusal the store is as it was.
-    pub fn start(alloc: Global, catalog: Catalog, store: S) -> Result<Desk<S>, Unstarted<S>>
+    /// Starts the coordinator of this chain of catalogues: the next life begins, and the catalogue whose number the store keeps is in
+    /// force; Chain where there is none of it. On a refusal the store is as it was.
+    pub fn start(alloc: Global, chain: &Chain, store: S) -> Result<Desk<S>, Unstarted<S>>
         ensures leaves_store { IfOk result (λ desk. LeavesStore S.is_clean S.is_sound S.refused store desk.store) }
         ensures learnt { IfOk result (λ desk. S.is_clean desk.store → S.is_sound store) }
-        ensures ok { (db : Database) → IsOver db catalog.0 → IfOk result (λ desk. S.is_clean desk.store → Rises db (S.kept desk.store) (volatile_of desk.volatile)) }
+        ensures ok { (db : Database) → IfOk result (λ desk. IsOver db desk.catalog.0 → S.is_clean desk.store → Rises db (S.kept desk.store) (volatile_of desk.volatile)) }
         ensures life { IfOk result (λ desk. S.is_clean desk.store → BeginsLife (S.kept store) (S.kept desk.store)) }
         ensures ordered { IfOk result (λ desk. IsOrdered txn_cmp desk.volatile.standings) }
-        ensures catalog { IfOk result (λ desk. desk.catalog ≡ catalog) }
-        ensures given_back { IfErr result (λ unstarted. unstarted.catalog ≡ catalog) }
+        ensures catalogs { IfOk result (λ desk. catalogue_of desk.catalog ∷ map catalogue_of desk.later.items ≡ from_number desk.volatile.version (map catalogue_of chain.now)) }
         ensures leaves_still { IfErr result (λ unstarted. LeavesStore S.is_clean S.is_sound S.refused store unstarted.store) }
         ensures same { IfErr result (λ unstarted. S.is_clean unstarted.store → S.is_sound store → IsUnchanged (S.kept store) (S.kept unstarted.store)) }
         ensures refusal { IfErr result (λ unstarted. unstarted.refusal ≡ refusals.Store store_faults.Refused → HasRefused (S.refused store) (S.refused unstarted.store)) }
         ensures full { IfErr result (λ unstarted. S.is_clean unstarted.store → unstarted.refusal ≡ refusals.Full → 2 ^ 63 ≤ (S.kept unstarted.store).life + 1) }
-        ensures damaged { IfErr result (λ unstarted. S.is_clean unstarted.store → S.is_sound store → unstarted.refusal ≡ refusals.Store store_faults.Damaged → IsStrange catalog.0 (S.kept unstarted.store)) }
-        ensures own { IfErr result (λ unstarted. (unstarted.refusal ≡ refusals.Memory) ⊎ (unstarted.refusal ≡ refusals.Full) ⊎ (unstarted.refusal ≡ refusals.Store store_faults.Refused) ⊎ (unstarted.refusal ≡ refusals.Store store_faults.Damaged)) }
+        ensures damaged { (catalogue : Catalogue) (later : List Catalogue) → IfErr result (λ unstarted. S.is_clean unstarted.store → S.is_sound store → unstarted.refusal ≡ refusals.Store store_faults.Damaged
+            → from_number (S.kept unstarted.store).version (map catalogue_of chain.now) ≡ catalogue ∷ later → IsStrange catalogue.sites (S.kept unstarted.store)) }
+        ensures chain { IfErr result (λ unstarted. S.is_clean unstarted.store → S.is_sound store → unstarted.refusal ≡ refusals.Chain → from_number (S.kept unstarted.store).version (map catalogue_of chain.now) ≡ []) }
+        ensures own { IfErr result (λ unstarted. (unstarted.refusal ≡ refusals.Memory) ⊎ (unstarted.refusal ≡ refusals.Full) ⊎ (unstarted.refusal ≡ refusals.Chain) ⊎ (unstarted.refusal ≡ refusals.Store store_faults.Refused) ⊎ (unstarted.refusal ≡ refusals.Store store_faults.Damaged)) }
     {
         let mut store = store;
-        match begin(&mut store, alloc, catalog.sites()) {
-            Ok(begun) => Ok(Desk {
+        match open(&mut store, alloc, chain.as_slice()) {
+            Ok(opened) => Ok(Desk {
                 store,
-                catalog,
+                catalog: opened.catalogs.in_force,
+                later: opened.catalogs.later,
                 volatile: Volatile {
                     alloc,
-                    standings: begun.standings,
+                    standings: opened.begun.standings,
                     undecided: 0,
-                    life: begun.life,
+                    life: opened.begun.life,
                     number: 0,
-                    version: begun.version,
+                    version: opened.begun.version,
                 },
             }),
-            Err(refusal) => Err(Unstarted {
-                refusal,
-                catalog,
-                store,
-            }),
+            Err(refusal) => Err(Unstarted { refusal, store }),
         }
     }
 
@@ -114,15 +123,14 @@ impl<S: DeskStore> Desk<S> {
         call_begin(&mut self.volatile, self.catalog.sites())
     }
 
-    /// A relation gets the split that this next catalogue has for it: a transaction of its own begins and states that.
-    pub(crate) fn refragment(
-        &mut self,
-        next: Option<&Catalog>,
-        refragment: &Refragment,
-    ) -> Result<Out, Refusal>
+    /// A relation gets the split that the next catalogue has for it: a transaction of its own begins and states that; its commit
+    /// goes as any other's. NotAlone where another transaction is undecided, or has a commit row; NoNext where no catalogue comes
+    /// next, or the one that does splits another relation otherwise. After a refusal nothing has changed.
+    pub fn refragment(&mut self, refragment: &Refragment) -> Result<Out, Refusal>
         requires { IsStatementOf (schemas_of (catalogue_of self.old.catalog)) (statements.Refragment refragment.now) }
-        ensures refragments { RefragmentsDesk S.kept self.old self.new (option_copied next.entry) refragment.now result }
+        ensures refragments { RefragmentsDesk S.kept self.old self.new refragment.now result }
     {
+        let next = first_in(self.later.as_slice());
         call_refragment(&mut self.volatile, &self.catalog, next, refragment)
     }
 
@@ -186,9 +194,10 @@ impl<S: DeskStore> Desk<S> {
         call_run(&mut self.volatile, &self.catalog, txn, statement)
     }
 
-    /// A letter comes. One of a site that the catalogue doesn't have, and one that no site sends, are passed over.
+    /// A letter comes. One of a site that the catalogue doesn't have, and one that no site sends, are passed over. Where the letter
+    /// decides that a relation gets another split, the next catalogue is in force from then on.
     pub fn take(&mut self, letter: &Letter) -> Result<Out, Refusal>
-        ensures takes { TakesLetter S.is_clean S.is_sound S.kept S.refused self.old self.new letter.now true None result }
+        ensures takes { TakesLetter S.is_clean S.is_sound S.kept S.refused self.old self.new letter.now true result }
         ensures refusal { IfOk result (λ out. out.kept ≡ false → HasRefused (S.refused self.old.store) (S.refused self.new.store)) }
     {
         self.take_kept(letter, true)
@@ -196,19 +205,17 @@ impl<S: DeskStore> Desk<S> {
 
     /// So, but where `kept` is false the store isn't called, and counts as having refused.
     pub fn take_kept(&mut self, letter: &Letter, kept: bool) -> Result<Out, Refusal>
-        ensures takes { TakesLetter S.is_clean S.is_sound S.kept S.refused self.old self.new letter.now kept None result }
+        ensures takes { TakesLetter S.is_clean S.is_sound S.kept S.refused self.old self.new letter.now kept result }
     {
-        self.take_by(letter, kept, None)
+        let version = self.volatile.version;
+        let out = self.take_by(letter, kept);
+        self.follow(version);
+        out
     }
 
-    /// So, where this catalogue comes next, if one does.
-    pub(crate) fn take_by(
-        &mut self,
-        letter: &Letter,
-        kept: bool,
-        next: Option<&Catalog>,
-    ) -> Result<Out, Refusal>
-        ensures takes { TakesLetter S.is_clean S.is_sound S.kept S.refused self.old self.new letter.now kept (option_copied next.entry) result }
+    /// A letter comes, and the catalogues stay as they are.
+    fn take_by(&mut self, letter: &Letter, kept: bool) -> Result<Out, Refusal>
+        ensures takes { TakesUnder S.is_clean S.is_sound S.kept S.refused self.old self.new letter.now kept (first_in self.old.later.items) result }
     {
         let Body::Reply(reply) = &letter.body else {
             return Ok(passed_over(self.volatile.alloc));
@@ -217,10 +224,23 @@ impl<S: DeskStore> Desk<S> {
             return Ok(passed_over(self.volatile.alloc));
         }
         let (txn, site) = (letter.txn, &letter.site);
+        let next = first_in(self.later.as_slice());
         if may_send(self.volatile.standing(&txn), site, reply) {
             return on_reply(&mut self.volatile, &self.catalog, next, txn, site, reply);
         }
         take(&mut self.store, &mut self.volatile, txn, site, reply, kept)
+    }
+
+    /// Where the version is no longer this one, the next catalogue is in force, if there is one.
+    fn follow(&mut self, version: u64)
+        ensures catalogs { (self.new.catalog, self.new.later.items) ≡ (if self.old.volatile.version == version then (self.old.catalog, self.old.later.items) else follow self.old.catalog self.old.later.items) }
+        ensures store { self.new.store ≡ self.old.store }
+        ensures volatile { self.new.volatile ≡ self.old.volatile }
+    {
+        if self.volatile.version == version || self.later.is_empty() {
+            return;
+        }
+        self.catalog = self.later.remove(0);
     }
 
     /// The number of the catalogue in force, as the store keeps it.
@@ -228,15 +248,6 @@ impl<S: DeskStore> Desk<S> {
         ensures { result ≡ self.now.volatile.version }
     {
         self.volatile.version
-    }
-
-    /// Another catalogue is in force.
-    pub(crate) fn put_in_force(&mut self, catalog: Catalog)
-        ensures catalog { self.new.catalog ≡ catalog }
-        ensures store { self.new.store ≡ self.old.store }
-        ensures volatile { self.new.volatile ≡ self.old.volatile }
-    {
-        self.catalog = catalog;
     }
 
     /// Restarts: undecided transactions abort and acknowledgements are lost, the next life begins, and who
@@ -272,6 +283,7 @@ impl<S: DeskStore> Desk<S> {
         ensures intact { S.is_clean self.new.store → S.is_sound self.old.store → result ≢ Err (refusals.Store store_faults.Damaged) }
         ensures own { IfErr result (λ told. (told ≡ refusals.Memory) ⊎ (told ≡ refusals.Store store_faults.Refused) ⊎ (told ≡ refusals.Store store_faults.Damaged)) }
         ensures catalog { self.new.catalog ≡ self.old.catalog }
+        ensures later { self.new.later.items ≡ self.old.later.items }
     {
         match self.store.load() {
             Ok(all) => Ok(all),
@@ -279,11 +291,18 @@ impl<S: DeskStore> Desk<S> {
         }
     }
 
-    /// The catalogue.
+    /// The catalogue in force.
     pub fn catalog(&self) -> &Catalog
         ensures { result.now ≡ self.now.catalog }
     {
         &self.catalog
+    }
+
+    /// The catalogues that come after it, in their order.
+    pub fn later(&self) -> &[Catalog]
+        ensures { result.now ≡ self.now.later.items }
+    {
+        self.later.as_slice()
     }
 
     /// The store, as it is.

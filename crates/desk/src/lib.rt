@@ -5,13 +5,14 @@
 //! refusal nothing has changed. What a statement answers and writes is its meaning (`AllExplained`).
 //!
 //! ```text
-//! // the next life begins; on a refusal catalogue and store come back as they were
-//! let mut desk = Desk::start(alloc, catalog, store)?;
+//! // the next life begins, under the catalogue of the chain whose number the store keeps; on a refusal the store comes back as it was
+//! let mut desk = Desk::start(alloc, &chain, store)?;
 //! let out = desk.begin()?;             // the reply names the transaction
 //! let out = desk.statement(txn, text)?; // Opens and fetches; without fetches the answer
 //! let out = desk.take(&letter)?;       // a site's letter: what waited for it goes on
 //! let out = desk.commit(txn)?;         // Prepare to each visited site, or committed at once
 //! let out = desk.rollback(txn)?;       // Abort to each visited site that may hold locks
+//! let out = desk.refragment(&refragment)?; // a relation gets the split of the next catalogue: a transaction of its own
 //! let out = desk.restart()?;           // Commit again to the voters of each commit row
 //! ```
 #![tactic(auto)]
@@ -21,6 +22,7 @@ mod acknowledge;
 mod commit;
 pub mod desk;
 mod fetches;
+mod opening;
 mod participant;
 mod receive;
 mod recovery;

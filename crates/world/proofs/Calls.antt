@@ -29,6 +29,7 @@ use Rattle.world.specs.Stopping.{StopsFor, is_stop}
 use Rattle.world.proofs.Counting.{no_fewer, no_fewer_then}
 use Rattle.world.proofs.Deeds.{made_fit, made_then, made_version}
 use Rattle.world.proofs.InForce.{in_force_on}
+use Rattle.world.proofs.Leaves.{same_then}
 use Rattle.world.proofs.Denials.{is_memory}
 use Rattle.world.proofs.Reaching.{same_on, then_on}
 use Rattle.world.proofs.Stops.{call_since, memory_only}
@@ -72,7 +73,7 @@ module _ {D S : Type 0} (IsClean IsSound : code.Machines D S → Type 0) (view :
     clean = comes.clean;
     sound = comes.sound;
     counts = comes.counts;
-    catalog = comes.catalog;
+    catalogs = comes.catalogs;
     blames = λ clean sound. blames (comes.blames clean sound);
     served = comes.served;
     moves = λ db of is clean sound fit. moves db of is (comes.moves db of is clean sound fit);
@@ -94,7 +95,7 @@ module _ {D S : Type 0} (IsClean IsSound : code.Machines D S → Type 0) (view :
     clean = λ clean. clean;
     sound = λ clean sound. sound;
     counts = no_fewer (view machines).refused;
-    catalog = refl;
+    catalogs = λ single. (refl, single);
     blames = λ clean sound. blames;
     served = λ db whole past of law is clean sound served. same_on db law whole (view machines) (view machines) past served refl;
     moves = λ db of is clean sound fit. moves db of is;
@@ -110,21 +111,21 @@ module _ {D S : Type 0} (IsClean IsSound : code.Machines D S → Type 0) (view :
       ((db : Database) → MakesMoves db (view old) (view mid) first (K db) → HasMade db (view old) (view mid) (K db first)) → ((db : Database) (one more : List Move) → K db first one → L db result more → M db result (one ++ more)) →
       ComesTo IsClean IsSound view old mid first K → ComesTo IsClean IsSound view mid new result L → ComesTo IsClean IsSound view old new result M
   then_from {K = K} {L = L} {M = M} old mid new first result done join one two =
-      let here : (db : Database) → InForce db (view old).table.version old.desk.catalog → HasMade db (view old) (view mid) (K db first) → InForce db (view mid).table.version mid.desk.catalog =
-      λ db is made. in_force_on db (view old).table.version (view mid).table.version old.desk.catalog mid.desk.catalog (made_version db made.moves (view old) (view mid) made.made) one.catalog is in
+      let here : (db : Database) → (view old).later ≡ [] → InForce db (view old).table.version old.desk.catalog → HasMade db (view old) (view mid) (K db first) → InForce db (view mid).table.version mid.desk.catalog =
+      λ db single is made. in_force_on db (view old).table.version (view mid).table.version old.desk.catalog mid.desk.catalog (made_version db made.moves (view old) (view mid) made.made) (one.catalogs single).0 is in
       record {
         clean = λ clean. one.clean (two.clean clean);
         sound = λ clean sound. two.sound clean (one.sound (two.clean clean) sound);
         counts = no_fewer_then (view old).refused (view mid).refused (view new).refused one.counts two.counts;
-        catalog = two.catalog ∙ one.catalog;
+        catalogs = same_then (λ machines. (view machines).later) old mid new one.catalogs two.catalogs;
         blames = λ clean sound. call_since result (view old).refused (view mid).refused (view new).refused one.counts (two.blames clean (one.sound (two.clean clean) sound));
         served = λ db whole past of law is clean sound served.
             then_on db law whole (view old) (view mid) (view new) past (one.served db whole past of law is (two.clean clean) sound served)
-            (λ more so. two.served db whole more of law (here db is (done db (one.moves db of is (two.clean clean) sound served.fit))) clean (one.sound (two.clean clean) sound) so);
+            (λ more so. two.served db whole more of law (here db served.fit.single is (done db (one.moves db of is (two.clean clean) sound served.fit))) clean (one.sound (two.clean clean) sound) so);
         moves = λ db of is clean sound fit.
             let made = done db (one.moves db of is (two.clean clean) sound fit) in
             moves_then db (L db) (M db) (K db first) (view old) (view mid) (view new) result made (join db)
-            (two.moves db of (here db is made) clean (one.sound (two.clean clean) sound) (made_fit db made.moves (view old) (view mid) fit made.made));
+            (two.moves db of (here db fit.single is made) clean (one.sound (two.clean clean) sound) (made_fit db made.moves (view old) (view mid) fit made.made));
       }
 
   -- so behind a call that went well
@@ -202,7 +203,7 @@ module _ {D S : Type 0} (desk_is_clean : D → Type 0) (site_is_clean : S → Ty
     clean = leaves.clean;
     sound = leaves.sound;
     counts = leaves.counts;
-    catalog = leaves.catalog;
+    catalogs = leaves.catalogs;
     blames = blames;
     served = served;
     moves = λ db of is clean sound fit. one_move db move asked (view old) (view new) result (ok db of is clean sound fit) (denied db of is clean sound fit);
@@ -210,4 +211,4 @@ module _ {D S : Type 0} (desk_is_clean : D → Type 0) (site_is_clean : S → Ty
 
   -- what it leaves
   pub leaves_of : {T : Type 0} {K : Kind T} (old new : code.Machines D S) (result : Result T Refusal) → ComesTo IsClean IsSound view old new result K → LeavesMachines desk_is_clean site_is_clean desk_is_sound site_is_sound desk_refused site_refused old new
-  leaves_of old new result comes = record { clean = comes.clean; sound = comes.sound; counts = comes.counts; catalog = comes.catalog }
+  leaves_of old new result comes = record { clean = comes.clean; sound = comes.sound; counts = comes.counts; catalogs = comes.catalogs }

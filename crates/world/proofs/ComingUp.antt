@@ -92,7 +92,7 @@ module _ {S : Type 0} (is_clean is_sound : S → Type 0) (kept : S → SiteConte
     all_have (name ∷ names) (s ∷ stores) (x ∷ sites) up = (has_its db n c whole (seat_from kept x) formed places up.0.leaves, all_have names stores sites up.1)
 
     module _ (stores : List S) (sites : List (Site S)) (up : AreUp is_clean is_sound kept refused c c.sites stores sites) (clean : AllByRecursion (λ site. is_clean site.store) sites) (have : HaveLeaves c (map kept stores))
-        (machines : Machines) (seats : machines.seats ≡ seats_in kept sites) (rises : Rises db machines.desk machines.table) where
+        (machines : Machines) (seats : machines.seats ≡ seats_in kept sites) (rises : Rises db machines.desk machines.table) (single : machines.later ≡ []) where
       begin_all : AllByRecursion (λ (seat : Seat). Begins seat.kept seat.table) machines.seats
       begin_all = subst (AllByRecursion (λ (seat : Seat). Begins seat.kept seat.table)) (sym seats) (all_begin c.sites stores sites up clean have)
 
@@ -103,6 +103,7 @@ module _ {S : Type 0} (is_clean is_sound : S → Type 0) (kept : S → SiteConte
         desk = rises.fits;
         within = rises.within;
         sites = all_so machines.seats (λ seat begins. begins.fits) begin_all;
+        single = single;
         still = λ t. nobody_rises db machines.desk machines.table rises (txn_at t);
       }
 

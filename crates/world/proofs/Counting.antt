@@ -84,7 +84,7 @@ with_counts machines counts = record machines { refused = counts }
 
 module _ (db : Database) where
   pub fit_counted : (machines : Machines) (counts : List ℕ) → AreFit db machines → AreFit db (with_counts machines counts)
-  fit_counted machines counts fit = record { names = fit.names; leaves = fit.leaves; desk = fit.desk; within = fit.within; sites = fit.sites; still = fit.still }
+  fit_counted machines counts fit = record { names = fit.names; leaves = fit.leaves; desk = fit.desk; within = fit.within; sites = fit.sites; single = fit.single; still = fit.still }
 
   pub leads_counted : (step : World (language db) → World (language db)) (before after : Machines) (a b : List ℕ) (out : List letters.Letter) (notices : List Notice) → Leads db step before after out notices → Leads db step (with_counts before a) (with_counts after b) out notices
   leads_counted step before after a b out notices leads = record { deeds = leads.deeds; fit = fit_counted after b leads.fit; is = leads.is; version = leads.version; placed = leads.placed; explained = leads.explained; replies = leads.replies }
@@ -95,7 +95,7 @@ module _ (db : Database) where
   tells_counted machines counts letter fault.Unsent why = why
 
   pub fit_uncounted : (machines : Machines) (counts : List ℕ) → AreFit db (with_counts machines counts) → AreFit db machines
-  fit_uncounted machines counts fit = record { names = fit.names; leaves = fit.leaves; desk = fit.desk; within = fit.within; sites = fit.sites; still = fit.still }
+  fit_uncounted machines counts fit = record { names = fit.names; leaves = fit.leaves; desk = fit.desk; within = fit.within; sites = fit.sites; single = fit.single; still = fit.still }
 
 -- where no store is called, machines that are as they were are so with their counts, and no count falls
 pub same_counted : (before after : Machines) (a b : List ℕ) → after ≡ before → b ≡ a → with_counts after b ≡ with_counts before a

@@ -67,3 +67,4 @@ pub mod Lone
 pub mod Batches
 pub mod BatchCalls
 pub mod BatchRuns
+pub mod OneCatalogue

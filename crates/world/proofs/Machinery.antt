@@ -2,6 +2,7 @@
 use Rattle.std.proofs.Common.{◌≡◌, refl, sym, ap, ap₂, ◌∙◌, subst, ℕ, Bool, true, false, List, [], ◌∷◌, ◌++◌, map, None}
 use Rattle.std.specs.List.{flat_map}
 use Rattle.std.proofs.lemmas.List.{append-nil}
+use Rattle.catalog.specs.declared.relation.SplitRelation.{SplitRelation}
 use Rattle.store.specs.declared.letter.Body as bodies
 use Rattle.store.specs.declared.letter.Body.TheVariants as body
 use Rattle.store.specs.declared.reply.Reply as replies
@@ -44,32 +45,33 @@ use Rattle.world.proofs.Seating.{leaves_after, letter_said, letter_state, names_
 use Rattle.protocol.proofs.Placing.{after_same, give_up_same, inquiries_same, restart_same, within_same}
 
 -- the coordinator is another one
-abbrev pub with_desk : Machines → DeskContent → VolatileState → Machines
-with_desk machines desk table = record { desk = desk; table = table; seats = machines.seats; refused = machines.refused }
+abbrev pub with_desk : Machines → DeskContent → VolatileState → List (List (List ℕ) × List SplitRelation) → Machines
+with_desk machines desk table later = record { desk = desk; table = table; seats = machines.seats; later = later; refused = machines.refused }
 
 -- a turn of the coordinator
-module _ (db : Database) (before : Machines) (kept : DeskContent) (after : VolatileState) (txn : names.Txn) (wanted : Transition (language db)) (out : List letters.Letter) (notices : List Notice) (fit : AreFit db before) (steps : Steps db before.table kept after txn wanted out notices) (keeps : TurnKeeps (language db) (txn_name txn) (txn_in db before.table txn) wanted) where
+module _ (db : Database) (before : Machines) (kept : DeskContent) (after : VolatileState) (later : List (List (List ℕ) × List SplitRelation)) (none : later ≡ []) (txn : names.Txn) (wanted : Transition (language db)) (out : List letters.Letter) (notices : List Notice) (fit : AreFit db before) (steps : Steps db before.table kept after txn wanted out notices) (keeps : TurnKeeps (language db) (txn_name txn) (txn_in db before.table txn) wanted) where
   same_version : after.version ≡ before.table.version
   same_version = steps.version ∙ stays_in_force db before fit.still [] [] (txn_name txn) wanted
 
-  turn_is : (waiting : List (Letter (language db))) (past : List (Deed (language db))) → turns (world_of db before waiting past) (txn_name txn) wanted ≡ world_of db (with_desk before kept after) (waiting ++ map (sent db) out) (past ++ wanted.deeds)
+  turn_is : (waiting : List (Letter (language db))) (past : List (Deed (language db))) → turns (world_of db before waiting past) (txn_name txn) wanted ≡ world_of db (with_desk before kept after later) (waiting ++ map (sent db) out) (past ++ wanted.deeds)
   turn_is waiting past =
       let w = world_of db before waiting past in
       if_true (is_desk_within (desk_after w.desk (txn_name txn) wanted.txn)) (turned w (txn_name txn) wanted) w (ap is_desk_within (sym steps.state) ∙ steps.within) ∙
       (λ i. record { desk = sym steps.state i; sites = (world_of db before waiting past).sites; letters = waiting ++ sym steps.letters i; past = past ++ wanted.deeds; version = sym steps.version i })
 
-  still_fit : AreFit db (with_desk before kept after)
+  still_fit : AreFit db (with_desk before kept after later)
   still_fit = record {
     names = fit.names;
     leaves = fit.leaves;
     desk = steps.fits;
     within = steps.within;
     sites = fit.sites;
+    single = none;
     still = λ t. ap (λ (d : Desk (language db)). is_moving (d.txn t)) steps.state ∙ nobody_after db (desk_of db before.table) (txn_name txn) wanted fit.still keeps t;
   }
 
   pub turn_leads : (step : World (language db) → World (language db)) → ((waiting : List (Letter (language db))) (past : List (Deed (language db))) → step (world_of db before waiting past) ≡ turns (world_of db before waiting past) (txn_name txn) wanted) → AreHomed (language db) (IsPlace db) wanted.letters → AllExplained wanted.deeds →
-      Leads db step before (with_desk before kept after) out notices
+      Leads db step before (with_desk before kept after later) out notices
   turn_leads step is placed explained = record {
     deeds = wanted.deeds;
     fit = still_fit;
@@ -86,12 +88,12 @@ placed_after db before kept after txn wanted out notices steps =
     subst (TxnHomed (language db) (IsPlace db)) (ap (λ (d : Desk (language db)). d.txn (txn_name txn)) steps.state ∙ put_here same same_law (txn_name txn) wanted.txn (desk_of db before).txn) (stands_placed db kept after steps.fits (txn_name txn))
 
 -- what a client asks for, as the coordinator's turn
-pub asked_leads : (db : Database) (before : Machines) (kept : DeskContent) (after : VolatileState) (txn : names.Txn) (choice : Choice (language db)) (request : Request (language db)) (out : List letters.Letter) (notices : List Notice) → AreFit db before →
+pub asked_leads : (db : Database) (before : Machines) (kept : DeskContent) (after : VolatileState) (later : List (List (List ℕ) × List SplitRelation)) → later ≡ [] → (txn : names.Txn) (choice : Choice (language db)) (request : Request (language db)) (out : List letters.Letter) (notices : List Notice) → AreFit db before →
     Steps db before.table kept after txn (on_request (txn_name txn) choice request (txn_in db before.table txn)) out notices → AsksHomed (language db) (IsPlace db) request choice → AllExplained (on_request (txn_name txn) choice request (txn_in db before.table txn)).deeds → refusal request (txn_in db before.table txn) ≡ None →
-    Asked db txn choice request before (with_desk before kept after) out notices
+    Asked db txn choice request before (with_desk before kept after later) out notices
 unfolding turn_leads
-asked_leads db before kept after txn choice request out notices fit steps chosen explained accepted = record {
-  leads = turn_leads db before kept after txn (on_request (txn_name txn) choice request (txn_in db before.table txn)) out notices fit steps (request_keeps (txn_name txn) choice request (txn_in db before.table txn)) (λ w. called w (txn_name txn) choice request) (λ waiting past. refl)
+asked_leads db before kept after later none txn choice request out notices fit steps chosen explained accepted = record {
+  leads = turn_leads db before kept after later none txn (on_request (txn_name txn) choice request (txn_in db before.table txn)) out notices fit steps (request_keeps (txn_name txn) choice request (txn_in db before.table txn)) (λ w. called w (txn_name txn) choice request) (λ waiting past. refl)
       (request_homed (language db) (IsPlace db) (txn_name txn) choice request (txn_in db before.table txn) chosen (stands_placed db before.desk before.table fit.desk (txn_name txn))
       (placed_after db before.table kept after txn (on_request (txn_name txn) choice request (txn_in db before.table txn)) out notices steps)) explained;
   accepted = accepted;
@@ -100,11 +102,11 @@ asked_leads db before kept after txn choice request out notices fit steps chosen
 }
 
 -- a transaction begins
-module _ (db : Database) (before : Machines) (kept : DeskContent) (after : VolatileState) (out : List letters.Letter) (notices : List Notice) (fit : AreFit db before) (begun_so : Begins db false before.table kept after out notices) where
-  pub begin_leads : Leads db begins before (with_desk before kept after) out notices
+module _ (db : Database) (before : Machines) (kept : DeskContent) (after : VolatileState) (later : List (List (List ℕ) × List SplitRelation)) (none : later ≡ []) (out : List letters.Letter) (notices : List Notice) (fit : AreFit db before) (begun_so : Begins db false before.table kept after out notices) where
+  pub begin_leads : Leads db begins before (with_desk before kept after later) out notices
   begin_leads = record {
     deeds = Began (next_txn (desk_of db before.table)) ∷ [];
-    fit = record { names = fit.names; leaves = fit.leaves; desk = begun_so.fits; within = begun_so.within; sites = fit.sites; still = λ t. ap (λ (d : Desk (language db)). is_moving (d.txn t)) begun_so.state ∙ nobody_begins db (desk_of db before.table) fit.still t };
+    fit = record { names = fit.names; leaves = fit.leaves; desk = begun_so.fits; within = begun_so.within; sites = fit.sites; single = none; still = λ t. ap (λ (d : Desk (language db)). is_moving (d.txn t)) begun_so.state ∙ nobody_begins db (desk_of db before.table) fit.still t };
     is = λ waiting past.
         let w = world_of db before waiting past in
         if_true (is_desk_within (desk_began w.desk)) (begun false w) w (ap is_desk_within (sym begun_so.state) ∙ begun_so.within) ∙
@@ -125,13 +127,13 @@ restarted_explained db d (t ∷ names) = go (d.txn t) (restarted_explained db d 
     go (Known u) later = (tt, later)
     go (Row voters acked) later = later
 
-module _ (db : Database) (before : Machines) (kept : DeskContent) (after : VolatileState) (out : List letters.Letter) (notices : List Notice) (fit : AreFit db before) (restarted : Restarts db before.table kept after out notices) where
-  pub restart_leads : Leads db desk_restarts before (with_desk before kept after) out notices
+module _ (db : Database) (before : Machines) (kept : DeskContent) (after : VolatileState) (later : List (List (List ℕ) × List SplitRelation)) (none : later ≡ []) (out : List letters.Letter) (notices : List Notice) (fit : AreFit db before) (restarted : Restarts db before.table kept after out notices) where
+  pub restart_leads : Leads db desk_restarts before (with_desk before kept after later) out notices
   restart_leads =
       let d = desk_of db before.table in
       record {
         deeds = flat_map (λ t. (txn_restarted t (d.txn t)).deeds) d.known;
-        fit = record { names = fit.names; leaves = fit.leaves; desk = restarted.fits; within = restarted.within; sites = fit.sites; still = λ t. ap (λ (d : Desk (language db)). is_moving (d.txn t)) restarted.state ∙ nobody_restarts db (desk_of db before.table) t };
+        fit = record { names = fit.names; leaves = fit.leaves; desk = restarted.fits; within = restarted.within; sites = fit.sites; single = none; still = λ t. ap (λ (d : Desk (language db)). is_moving (d.txn t)) restarted.state ∙ nobody_restarts db (desk_of db before.table) t };
         is = λ waiting past.
             let w = world_of db before waiting past in
             if_true (is_desk_within (desk_restarted w.desk)) (desk_lives w) w (ap is_desk_within (sym restarted.state) ∙ restarted.within) ∙
@@ -162,12 +164,12 @@ comes_is db letter reply is kept choice w = ap (λ said. comes w kept choice (as
     go (reply_kinds.Ack ticket) = refl
     go (reply_kinds.Inquire ticket) = refl
 
-pub reply_leads : (db : Database) (before : Machines) (kept : DeskContent) (after : VolatileState) (letter : letters.Letter) (reply : replies.Reply) → letter.body ≡ body.Reply reply → (keeps : Bool) (out : List letters.Letter) (notices : List Notice) → AreFit db before →
-    Takes db before.table kept after letter.txn (λ choice. on_desk_letter (txn_name letter.txn) letter.site keeps choice (replied db letter.site reply) (txn_in db before.table letter.txn)) out notices → Came db letter keeps before (with_desk before kept after) out notices
-reply_leads db before kept after letter reply is keeps out notices fit takes = record {
+pub reply_leads : (db : Database) (before : Machines) (kept : DeskContent) (after : VolatileState) (later : List (List (List ℕ) × List SplitRelation)) → later ≡ [] → (letter : letters.Letter) (reply : replies.Reply) → letter.body ≡ body.Reply reply → (keeps : Bool) (out : List letters.Letter) (notices : List Notice) → AreFit db before →
+    Takes db before.table kept after letter.txn (λ choice. on_desk_letter (txn_name letter.txn) letter.site keeps choice (replied db letter.site reply) (txn_in db before.table letter.txn)) out notices → Came db letter keeps before (with_desk before kept after later) out notices
+reply_leads db before kept after later none letter reply is keeps out notices fit takes = record {
   choice = takes.choice;
   within = passes_is db before letter reply is keeps takes.choice ∙ (ap is_desk_within (sym takes.steps.state) ∙ takes.steps.within);
-  leads = turn_leads db before kept after letter.txn (on_desk_letter (txn_name letter.txn) letter.site keeps takes.choice (replied db letter.site reply) (txn_in db before.table letter.txn)) out notices fit takes.steps
+  leads = turn_leads db before kept after later none letter.txn (on_desk_letter (txn_name letter.txn) letter.site keeps takes.choice (replied db letter.site reply) (txn_in db before.table letter.txn)) out notices fit takes.steps
       (letter_keeps (txn_name letter.txn) takes.choice letter.site keeps (replied db letter.site reply) (txn_in db before.table letter.txn))
       (λ w. comes w keeps takes.choice (sent db letter)) (λ waiting past. comes_is db letter reply is keeps takes.choice (world_of db before waiting past))
       (turn_homed (language db) (IsPlace db) (txn_name letter.txn) takes.choice letter.site keeps (replied db letter.site reply) (txn_in db before.table letter.txn) takes.placed (stands_placed db before.desk before.table fit.desk (txn_name letter.txn))
@@ -176,7 +178,7 @@ reply_leads db before kept after letter reply is keeps out notices fit takes = r
 
 -- the sites are others
 abbrev pub with_seats : Machines → List Seat → Machines
-with_seats machines seats = record { desk = machines.desk; table = machines.table; seats = seats; refused = machines.refused }
+with_seats machines seats = record { desk = machines.desk; table = machines.table; seats = seats; later = machines.later; refused = machines.refused }
 
 -- ---- something is done at a site
 module _ (db : Database) (before : Machines) (seat : Seat) (after : List Seat) (out : List letters.Letter) (fit : AreFit db before) where
@@ -189,7 +191,7 @@ module _ (db : Database) (before : Machines) (seat : Seat) (after : List Seat) (
         (λ i. record { desk = w.desk; sites = sym (states_after S name seat new before.seats after moves) i; letters = waiting ++ put; past = sym (append-nil past) i; version = before.table.version })
 
     now_fit : AreFit db (with_seats before after)
-    now_fit = record { names = names_after name seat new before.seats after moves ∙ fit.names; leaves = leaves_after db name seat new before.seats after moves fit.leaves; desk = fit.desk; within = fit.within; sites = seated_after name seat new before.seats after moves fit.sites; still = fit.still }
+    now_fit = record { names = names_after name seat new before.seats after moves ∙ fit.names; leaves = leaves_after db name seat new before.seats after moves fit.leaves; desk = fit.desk; within = fit.within; sites = seated_after name seat new before.seats after moves fit.sites; single = fit.single; still = fit.still }
 
     -- so where the step is such a one
     pub site_leads : (step : World (language db) → World (language db)) (of : SiteState (language db) → SiteState (language db)) (said_by : SiteState (language db) → List (Letter (language db))) →

@@ -147,7 +147,7 @@ all_so (seat ∷ seats) so all = (so seat all.0, all_so seats so all.1)
 
 -- the contents of its sites are those of whole relations
 module _ (db : Database) (whole : Relations) (machines : Machines) (is_whole : FitsSchema db.schemas whole) (names : map (λ seat. seat.name) machines.seats ≡ db.sites) (leaves : AllByRecursion (HasItsLeaves db) machines.seats) (rest : AllByRecursion IsAtRest machines.seats)
-    (keeps : (place : Place) → (states_of (statements db) machines.seats place.0).kept place ≡ db.content machines.table.version place whole) (rises : desk_starting.Rises db machines.desk machines.table) (none : (txn : txns.Txn) → machines.desk.commits txn ≡ None) where
+    (keeps : (place : Place) → (states_of (statements db) machines.seats place.0).kept place ≡ db.content machines.table.version place whole) (rises : desk_starting.Rises db machines.desk machines.table) (none : (txn : txns.Txn) → machines.desk.commits txn ≡ None) (single : machines.later ≡ []) where
   abbrev S : Catalogues local
   S = statements db
 
@@ -158,6 +158,7 @@ module _ (db : Database) (whole : Relations) (machines : Machines) (is_whole : F
     desk = rises.fits;
     within = rises.within;
     sites = all_so machines.seats (λ seat rests. rests.begins.fits) rest;
+    single = single;
     still = λ t. nobody_rises db machines.desk machines.table rises (txn_at t);
   }
 
@@ -186,7 +187,7 @@ module _ (db : Database) (whole : Relations) (machines : Machines) (is_whole : F
 
 -- ---- where all sites have started
 module _ (db : Database) (c : Catalogue) (whole : Relations) (machines : Machines) (formed : IsFormed c) (distinct : AreDistinct db.sites) (own : HaveOwnNames (catalogue_leaves c)) (places : IsPlaced db machines.table.version c whole)
-    (started : AllStarted c whole 0 db.sites machines.seats) (rises : desk_starting.Rises db machines.desk machines.table) (none : (txn : txns.Txn) → machines.desk.commits txn ≡ None) where
+    (started : AllStarted c whole 0 db.sites machines.seats) (rises : desk_starting.Rises db machines.desk machines.table) (none : (txn : txns.Txn) → machines.desk.commits txn ≡ None) (single : machines.later ≡ []) where
   -- what a site has where it keeps nothing of a leaf
   empty_at : (place : Place) (seat : Seat) → (seat.name ≡ place.0 → seat.kept.content place.1 ≡ fin.empty) → (state_at (statements db) seat).kept place ≡ fin.empty
   empty_at place seat nothing = go (pointwise nat_eq place.0 seat.name) refl
@@ -244,9 +245,9 @@ module _ (db : Database) (c : Catalogue) (whole : Relations) (machines : Machine
   pub opens : Opens db whole machines
   opens = opens_at_rest db whole machines places.fits (started_names c whole 0 db.sites machines.seats started)
       (started_all (HasItsLeaves db) c whole 0 db.sites machines.seats (λ at name seat is. has_its db machines.table.version c whole seat formed places is.leaves) started)
-      (started_all IsAtRest c whole 0 db.sites machines.seats (λ at name seat is. is.rests) started) keeps_its rises none
+      (started_all IsAtRest c whole 0 db.sites machines.seats (λ at name seat is. is.rests) started) keeps_its rises none single
 
 -- of the sites of the code and their catalogue
-pub opens_of : (db : Database) (c : Catalogue) (whole : Relations) (machines : Machines) → IsFormed c → IsPlaced db machines.table.version c whole → AllStarted c whole 0 c.sites machines.seats → desk_starting.Rises db machines.desk machines.table → ((txn : txns.Txn) → machines.desk.commits txn ≡ None) → Opens db whole machines
-opens_of db c whole machines formed places started rises none =
-    opens db c whole machines formed (subst AreDistinct (sym places.sites) formed.distinct) (own_names c.relations formed.ascending) places (subst (λ sites. AllStarted c whole 0 sites machines.seats) (sym places.sites) started) rises none
+pub opens_of : (db : Database) (c : Catalogue) (whole : Relations) (machines : Machines) → IsFormed c → IsPlaced db machines.table.version c whole → AllStarted c whole 0 c.sites machines.seats → desk_starting.Rises db machines.desk machines.table → ((txn : txns.Txn) → machines.desk.commits txn ≡ None) → machines.later ≡ [] → Opens db whole machines
+opens_of db c whole machines formed places started rises none single =
+    opens db c whole machines formed (subst AreDistinct (sym places.sites) formed.distinct) (own_names c.relations formed.ascending) places (subst (λ sites. AllStarted c whole 0 sites machines.seats) (sym places.sites) started) rises none single

@@ -152,8 +152,8 @@ module _ (c : Catalogue) (whole : Relations) (empty : HasNoRows whole) where
   pub were_served : IsFormed c → (of_desk : DeskContent) (of_sites : List SiteContent) → FitsSchema (schemas_of c) whole → length of_sites ≡ length c.sites → KeepNothing c of_desk of_sites → WereServed c of_desk of_sites whole
   were_served formed of_desk of_sites fits size nothing =
       let seats = unborn_seats c.sites of_sites in
-      let machines : Machines = record { desk = of_desk; table = unborn_table (database c) of_desk nothing.commits nothing.life; seats = seats; refused = [] } in
-      let opens = opens_of (database c) c whole machines formed (placed c machines.table.version whole formed fits) (unborn_started 0 c.sites of_sites size nothing.leaves nothing.sites) (unborn_rises (database c) of_desk nothing.commits nothing.life) nothing.commits in
+      let machines : Machines = record { desk = of_desk; table = unborn_table (database c) of_desk nothing.commits nothing.life; seats = seats; later = []; refused = [] } in
+      let opens = opens_of (database c) c whole machines formed (placed c machines.table.version whole formed fits) (unborn_started 0 c.sites of_sites size nothing.leaves nothing.sites) (unborn_rises (database c) of_desk nothing.commits nothing.life) nothing.commits refl in
       record {
         machines = machines;
         kept = record { desk = refl; sites = unborn_kept c.sites of_sites size };

@@ -75,9 +75,10 @@ site_fault_is_memory leaves before after fault none unborn same refused full dam
 
 -- and of those of the coordinator's
 pub desk_refusal_is_memory : (sites : List (List ℕ)) (before after : DeskContent) (refusal : Refusal) → ((txn : Txn) → before.commits txn ≡ None) → before.life ≡ 0 → desk_content.IsUnchanged before after →
-    (refusal ≡ refusals.Store Refused → HasRefused 0 0) → (refusal ≡ refusals.Full → 2 ^ 63 ≤ after.life + 1) → (refusal ≡ refusals.Store Damaged → desk_starting.IsStrange sites after) →
-    (refusal ≡ refusals.Memory) ⊎ ((refusal ≡ refusals.Full) ⊎ ((refusal ≡ refusals.Store Refused) ⊎ (refusal ≡ refusals.Store Damaged))) → refusal ≡ refusals.Memory
-desk_refusal_is_memory sites before after refusal none unborn same refused full damaged (inl memory) = memory
-desk_refusal_is_memory sites before after refusal none unborn same refused full damaged (inr (inl is)) = absurd (not_last after.life (same.life ∙ unborn) (full is))
-desk_refusal_is_memory sites before after refusal none unborn same refused full damaged (inr (inr (inl is))) = absurd (never_refused (refused is))
-desk_refusal_is_memory sites before after refusal none unborn same refused full damaged (inr (inr (inr is))) = absurd (none_strange sites after (λ txn. same.commits txn ∙ none txn) (damaged is))
+    (refusal ≡ refusals.Store Refused → HasRefused 0 0) → (refusal ≡ refusals.Full → 2 ^ 63 ≤ after.life + 1) → (refusal ≡ refusals.Store Damaged → desk_starting.IsStrange sites after) → (refusal ≡ refusals.Chain → ⊥) →
+    (refusal ≡ refusals.Memory) ⊎ ((refusal ≡ refusals.Full) ⊎ ((refusal ≡ refusals.Chain) ⊎ ((refusal ≡ refusals.Store Refused) ⊎ (refusal ≡ refusals.Store Damaged)))) → refusal ≡ refusals.Memory
+desk_refusal_is_memory sites before after refusal none unborn same refused full damaged chain (inl memory) = memory
+desk_refusal_is_memory sites before after refusal none unborn same refused full damaged chain (inr (inl is)) = absurd (not_last after.life (same.life ∙ unborn) (full is))
+desk_refusal_is_memory sites before after refusal none unborn same refused full damaged chain (inr (inr (inl is))) = absurd (chain is)
+desk_refusal_is_memory sites before after refusal none unborn same refused full damaged chain (inr (inr (inr (inl is)))) = absurd (never_refused (refused is))
+desk_refusal_is_memory sites before after refusal none unborn same refused full damaged chain (inr (inr (inr (inr is)))) = absurd (none_strange sites after (λ txn. same.commits txn ∙ none txn) (damaged is))

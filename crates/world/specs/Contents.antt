@@ -12,7 +12,7 @@ use Rattle.world.specs.Sites.{seat_from}
 -- the machines; of_desk and of_site: what stores keep, refused_desk and refused_site: how often the medium of each has refused
 abbrev pub counted : {D S : Type 0} → (D → DeskContent) → (S → SiteContent) → (D → ℕ) → (S → ℕ) → code.Machines D S → Machines
 counted of_desk of_site refused_desk refused_site machines =
-    record { desk = of_desk machines.desk.store; table = volatile_of machines.desk.volatile; seats = map (seat_from of_site) machines.sites.items; refused = counts refused_desk refused_site machines }
+    record { desk = of_desk machines.desk.store; table = volatile_of machines.desk.volatile; seats = map (seat_from of_site) machines.sites.items; later = machines.desk.later.items; refused = counts refused_desk refused_site machines }
 
 -- so, where it doesn't matter how often
 abbrev pub held : {D S : Type 0} → (D → DeskContent) → (S → SiteContent) → code.Machines D S → Machines

@@ -1,9 +1,10 @@
 -- What a call leaves of the machines of a database, and of what its clauses speak.
-use Rattle.std.specs.Prelude.{◌≡◌, ◌≤◌, ◌⊎◌, ℕ, true, List, map, Result, Ok, Err, IfErr, IfOk, OnErr}
+use Rattle.std.specs.Prelude.{◌≡◌, ◌≤◌, ◌⊎◌, ℕ, true, List, [], map, Result, Ok, Err, IfErr, IfOk, OnErr}
 use Rattle.std.specs.List.{AllByRecursion, AllZip}
 use Rattle.meaning.specs.Whole.{Relations}
 use Rattle.protocol.specs.Client.{ReachedLaw}
 use Rattle.protocol.specs.Desk.{Deed}
+use Rattle.catalog.specs.declared.relation.SplitRelation.{SplitRelation}
 use Rattle.desk.specs.Database.{Database, language}
 use Rattle.desk.specs.OfCatalogue.{InForce, IsOfCatalogue}
 use Rattle.world.specs.declared.machines.Machines as code
@@ -16,13 +17,17 @@ use Rattle.world.specs.Client.{IsServed, IsServedOn}
 use Rattle.world.specs.Course.{Made, Move}
 use Rattle.world.specs.Stopping.{StopsFor, is_stop}
 
+-- the catalogue in force stays so, where none comes after it. later: those that come after it
+abbrev pub SameCatalogs : {D S : Type 0} → (code.Machines D S → List (List (List ℕ) × List SplitRelation)) → code.Machines D S → code.Machines D S → Type 0
+SameCatalogs later old new = later old ≡ [] → (new.desk.catalog ≡ old.desk.catalog) × (later new ≡ [])
+
 -- what a call leaves of the machines, whatever it answers: stores that are clean now were clean, sound ones stay sound, no refusal is
--- forgotten, and the catalogue is the same
+-- forgotten, and the catalogue is the same where none comes after it
 pub record LeavesMachines {D S : Type 0} (desk_is_clean : D → Type 0) (site_is_clean : S → Type 0) (desk_is_sound : D → Type 0) (site_is_sound : S → Type 0) (desk_refused : D → ℕ) (site_refused : S → ℕ) (old new : code.Machines D S) : Type 0 where
   pub clean : OfStores desk_is_clean site_is_clean new → OfStores desk_is_clean site_is_clean old
   pub sound : OfStores desk_is_clean site_is_clean new → OfStores desk_is_sound site_is_sound old → OfStores desk_is_sound site_is_sound new
   pub counts : AllZip (λ (count now : ℕ). count ≤ now) (counts desk_refused site_refused old) (counts desk_refused site_refused new)
-  pub catalog : new.desk.catalog ≡ old.desk.catalog
+  pub catalogs : SameCatalogs (λ machines. machines.desk.later.items) old new
 
 -- so of the stores of sites
 pub record LeavesSites {S : Type 0} (is_clean is_sound : S → Type 0) (refused : S → ℕ) (old new : List (Site S)) : Type 0 where
@@ -74,7 +79,7 @@ pub record ComesTo {D S T : Type 0} (IsClean IsSound : code.Machines D S → Typ
   pub clean : IsClean new → IsClean old
   pub sound : IsClean new → IsSound old → IsSound new
   pub counts : NoFewer (view old).refused (view new).refused
-  pub catalog : new.desk.catalog ≡ old.desk.catalog
+  pub catalogs : SameCatalogs (λ machines. (view machines).later) old new
   pub blames : IsClean new → IsSound old → IfErr result (StopsFor (view old).refused (view new).refused)
   pub served : StaysServed IsClean IsSound view old new
   pub moves : OverDatabase IsClean IsSound view old new (λ db before after. MakesMoves db before after result (kind db))

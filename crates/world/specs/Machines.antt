@@ -6,6 +6,7 @@ use Rattle.std.specs.Ordering.{is_eq}
 use Rattle.terms.specs.declared.leaf.Leaf.{Leaf}
 use Rattle.terms.specs.Leaf.{leaf_cmp}
 use Rattle.meaning.specs.declared.statement.Statement.{Statement}
+use Rattle.catalog.specs.declared.relation.SplitRelation.{SplitRelation}
 use Rattle.meaning.specs.Statement.{is_refragment}
 use Rattle.reader.specs.declared.command.Command.TheVariants as command
 use Rattle.reader.specs.Command.{IsTextOf}
@@ -31,26 +32,29 @@ use Rattle.world.specs.declared.sites.SiteAction as doing
 use Rattle.world.specs.declared.sites.SiteAction.TheVariants.{GiveUp, Inquire, Restart, Take}
 use Rattle.world.specs.Sites.{IsSeated, Seat, states_of}
 
--- the coordinator, by what its store keeps and what it has in memory, and the sites. refused: how often the medium of each store has
+-- the coordinator, by what its store keeps and what it has in memory, and the sites. later: the catalogues that come after the one in force; refused: how often the medium of each store has
 -- refused, the coordinator's first; none where that isn't counted
 pub record Machines : Type 0 where
   pub desk : DeskContent
   pub table : VolatileState
   pub seats : List Seat
+  pub later : List (List (List ℕ) × List SplitRelation)
   pub refused : List ℕ
 
 -- the world of the machines, with the catalogue in force whose number the coordinator's store keeps; letters: those that wait, or all that were sent, past: what happened to transactions
 abbrev pub world_of : (db : Database) → Machines → List (Letter (language db)) → List (Deed (language db)) → World (language db)
 world_of db machines letters past = record { desk = desk_of db machines.table; sites = states_of (statements db) machines.seats; letters = letters; past = past; version = machines.table.version }
 
--- what is in memory fits what the stores keep, and the sites are those of the database, each with the leaves that some catalogue puts there
+-- what is in memory fits what the stores keep, and the sites are those of the database, each with the leaves that some catalogue puts there; no catalogue comes
+-- after the one in force
 pub record AreFit (db : Database) (machines : Machines) : Type 0 where
   pub names : map (λ seat. seat.name) machines.seats ≡ db.sites
   pub leaves : AllByRecursion (λ seat. (leaf : Leaf) → IsPlace db (seat.name, leaf) → list_any (λ other. is_eq (leaf_cmp leaf other)) seat.leaves ≡ true) machines.seats
   pub desk : Fits db machines.desk machines.table
   pub within : is_desk_within (desk_of db machines.table) ≡ true
   pub sites : AllByRecursion IsSeated machines.seats
-  -- nobody gives a relation another split
+  -- so nobody gives a relation another split
+  pub single : machines.later ≡ []
   pub still : (t : Name) → is_moving ((desk_of db machines.table).txn t) ≡ false
 
 -- operations that are sent are of leaves at their sites

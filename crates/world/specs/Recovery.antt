@@ -73,11 +73,13 @@ pub record MachinesUp {D S : Type 0} (desk_is_clean desk_is_sound : D → Type 0
   pub life : desk_is_clean machines.desk.store → desk_content.BeginsLife (of_desk store) (of_desk machines.desk.store)
   pub memory : IsMemory (volatile_of machines.desk.volatile)
   pub catalog : catalogue_of machines.desk.catalog ≡ catalogue
+  pub single : machines.desk.later.items ≡ []
 
--- why a database doesn't come up: memory ran out, a store's medium has refused, or its rows are damaged, or an incarnation is the last
+-- why a database doesn't come up: memory ran out, a store's medium has refused, or its rows are damaged, or an incarnation is the last, or the coordinator's store keeps the number of no catalogue that is given
 abbrev pub StopsOpening : faults.Fault → Type 0
 StopsOpening (Desk refusals.Memory) = ⊤
 StopsOpening (Desk refusals.Full) = ⊤
+StopsOpening (Desk refusals.Chain) = ⊤
 StopsOpening (Desk (refusals.Store fault)) = ⊤
 StopsOpening (OfSite fault) = StopsStart fault
 StopsOpening fault = ⊥

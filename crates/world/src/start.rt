@@ -28,7 +28,7 @@ ghost use Rattle.world.specs.Leaves.{known_leaves};
 
 use crate::fault::Fault;
 use crate::machines::Machines;
-use crate::recovery::machines_up;
+use crate::recovery::{alone, machines_up};
 use crate::site_leaves::known_leaves;
 use crate::traffic::Traffic;
 use catalog::catalogue::Catalog;
@@ -107,8 +107,8 @@ pub(crate) fn start(
 {
     let _relations = catalog.relations();
     let sites = start_sites(alloc, catalog, whole)?;
-    let own = catalog.copy()?;
-    match Desk::start(alloc, own, PlainDesk::new(alloc)) {
+    let chain = alone(alloc, catalog)?;
+    match Desk::start(alloc, &chain, PlainDesk::new(alloc)) {
         Ok(desk) => Ok(Machines {
             alloc,
             desk,

@@ -4,6 +4,7 @@ use Rattle.protocol.specs.Rounds.{RanksUnder}
 use Rattle.world.specs.Contents.{counted}
 use Rattle.world.specs.Taking.{put_out_by, scene, world_at}
 use Rattle.world.proofs.InForce.{in_force_on}
+use Rattle.world.proofs.Leaves.{same_then}
 use Rattle.world.proofs.Deliveries.{alike_goes, all_nine, goes_settled, none_left, then_breaks, then_goes}
 use Rattle.world.proofs.SiteSteps.{on_any_err}
 use Rattle.world.proofs.Counting.{no_fewer, no_fewer_then}
@@ -17,7 +18,7 @@ loop-init g c =
     record {
       clean = λ x. x;
       sound = λ x s. s;
-      catalog = refl;
+      catalogs = λ single. (refl, single);
       counts = no_fewer (counts g.D.DeskStore.refused g.S.SiteStore.refused c.args.machines.now);
       goes = λ db of is clean sound fit. alike_goes db (put_out_by m c.args.out) (scene m c.of-post.result) refl c.of-post.ensures.waiting c.of-post.ensures.heard fit;
       ranks = λ db of is clean sound fit. all_nine db (scene m c.of-post.result);
@@ -33,16 +34,16 @@ loop-preserved g c =
     record {
       clean = λ x. c.loop.invariant.clean (c.deliver_round.ensures.leaves.clean x);
       sound = λ x s. c.deliver_round.ensures.leaves.sound x (c.loop.invariant.sound (c.deliver_round.ensures.leaves.clean x) s);
-      catalog = c.deliver_round.ensures.leaves.catalog ∙ c.loop.invariant.catalog;
+      catalogs = same_then (λ machines. machines.desk.later.items) c.args.machines.now c.loop.machines c.deliver_round.new.machines c.loop.invariant.catalogs c.deliver_round.ensures.leaves.catalogs;
       counts = no_fewer_then (counts g.D.DeskStore.refused g.S.SiteStore.refused c.args.machines.now) (counts g.D.DeskStore.refused g.S.SiteStore.refused c.loop.machines) (counts g.D.DeskStore.refused g.S.SiteStore.refused c.deliver_round.new.machines) c.loop.invariant.counts c.deliver_round.ensures.leaves.counts;
       goes = λ db of is clean sound fit.
           let so_far = c.loop.invariant.goes db of is (c.deliver_round.ensures.leaves.clean clean) sound fit in
-          then_goes db (λ w. w) first here so_far there (c.in_ok-deliver_round.ensures.ok db of (in_force_on db _ _ _ _ so_far.version c.loop.invariant.catalog is) clean (c.loop.invariant.sound (c.deliver_round.ensures.leaves.clean clean) sound) so_far.fit);
+          then_goes db (λ w. w) first here so_far there (c.in_ok-deliver_round.ensures.ok db of (in_force_on db _ _ _ _ so_far.version (c.loop.invariant.catalogs fit.single).0 is) clean (c.loop.invariant.sound (c.deliver_round.ensures.leaves.clean clean) sound) so_far.fit);
       ranks = λ db of is clean sound fit.
           let so_far = c.loop.invariant.goes db of is (c.deliver_round.ensures.leaves.clean clean) sound fit in
           let ranked = c.loop.invariant.ranks db of is (c.deliver_round.ensures.leaves.clean clean) sound fit in
           subst (λ (k : ℕ). RanksUnder k (world_at db there)) same
-          (c.in_ok-deliver_round.ensures.ranks db (8 - c.loop.counter) of (in_force_on db _ _ _ _ so_far.version c.loop.invariant.catalog is) clean (c.loop.invariant.sound (c.deliver_round.ensures.leaves.clean clean) sound) so_far.fit
+          (c.in_ok-deliver_round.ensures.ranks db (8 - c.loop.counter) of (in_force_on db _ _ _ _ so_far.version (c.loop.invariant.catalogs fit.single).0 is) clean (c.loop.invariant.sound (c.deliver_round.ensures.leaves.clean clean) sound) so_far.fit
           (subst (λ (k : ℕ). RanksUnder k (world_at db here)) one_less ranked));
     }
 
@@ -59,14 +60,14 @@ returns-in_err-deliver_round-clause-err g c = λ db of is clean sound fit.
     let here = scene (counted g.D.DeskStore.kept g.S.SiteStore.kept g.D.DeskStore.refused g.S.SiteStore.refused c.loop.machines) c.loop.post in
     let so_far = c.loop.invariant.goes db of is (c.deliver_round.ensures.leaves.clean clean) sound fit in
     on_any_err c.from_residual.result (then_breaks db (λ w. w) first here so_far (counted g.D.DeskStore.kept g.S.SiteStore.kept g.D.DeskStore.refused g.S.SiteStore.refused c.deliver_round.new.machines)
-    (c.in_err-deliver_round.ensures.err db of (in_force_on db _ _ _ _ so_far.version c.loop.invariant.catalog is) clean (c.loop.invariant.sound (c.deliver_round.ensures.leaves.clean clean) sound) so_far.fit))
+    (c.in_err-deliver_round.ensures.err db of (in_force_on db _ _ _ _ so_far.version (c.loop.invariant.catalogs fit.single).0 is) clean (c.loop.invariant.sound (c.deliver_round.ensures.leaves.clean clean) sound) so_far.fit))
 
 pub returns-in_err-deliver_round-clause-leaves : goal.returns-in_err-deliver_round-clause-leaves
 returns-in_err-deliver_round-clause-leaves g c = record {
   clean = search rules;
   sound = search rules;
   counts = no_fewer_then (counts g.D.DeskStore.refused g.S.SiteStore.refused c.args.machines.now) (counts g.D.DeskStore.refused g.S.SiteStore.refused c.loop.machines) (counts g.D.DeskStore.refused g.S.SiteStore.refused c.deliver_round.new.machines) c.loop.invariant.counts c.deliver_round.ensures.leaves.counts;
-  catalog = search rules;
+  catalogs = same_then (λ machines. machines.desk.later.items) c.args.machines.now c.loop.machines c.deliver_round.new.machines c.loop.invariant.catalogs c.deliver_round.ensures.leaves.catalogs;
 }
 
 pub returns-in_err-deliver_round-clause-blames : goal.returns-in_err-deliver_round-clause-blames

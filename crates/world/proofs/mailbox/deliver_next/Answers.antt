@@ -50,7 +50,7 @@ returns-in_default-clause-leaves g c = record {
   clean = search rules;
   sound = search rules;
   counts = no_fewer (counts g.D.DeskStore.refused g.S.SiteStore.refused c.args.machines.now);
-  catalog = search rules;
+  catalogs = search rules;
 }
 
 pub returns-in-Ok-clause-leaves : goal.returns-in-Ok-clause-leaves
@@ -58,7 +58,7 @@ returns-in-Ok-clause-leaves g c = record {
   clean = c.deliver_one.ensures.leaves.clean;
   sound = c.deliver_one.ensures.leaves.sound;
   counts = c.deliver_one.ensures.leaves.counts;
-  catalog = c.deliver_one.ensures.leaves.catalog;
+  catalogs = c.deliver_one.ensures.leaves.catalogs;
 }
 
 pub returns-in-Err-clause-leaves : goal.returns-in-Err-clause-leaves
@@ -66,7 +66,7 @@ returns-in-Err-clause-leaves g c = record {
   clean = c.deliver_one.ensures.leaves.clean;
   sound = c.deliver_one.ensures.leaves.sound;
   counts = c.deliver_one.ensures.leaves.counts;
-  catalog = c.deliver_one.ensures.leaves.catalog;
+  catalogs = c.deliver_one.ensures.leaves.catalogs;
 }
 
 pub returns-in-Ok-clause-blames : goal.returns-in-Ok-clause-blames

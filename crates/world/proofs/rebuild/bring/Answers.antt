@@ -67,7 +67,7 @@ returns-in_err-bring_one-clause-leaves g c = record {
   sound = search rules;
   counts = let of = counts g.D.DeskStore.refused g.S.SiteStore.refused in
       no_fewer_then (of c.args.machines.now) (of c.loop-fetch.machines) (of c.bring_one.new.machines) c.loop-fetch.invariant.5 c.bring_one.ensures.leaves.counts;
-  catalog = search rules;
+  catalogs = search rules;
 }
 
 pub returns-in_err-push-clause-leaves : goal.returns-in_err-push-clause-leaves
@@ -76,7 +76,7 @@ returns-in_err-push-clause-leaves g c = record {
   sound = search rules;
   counts = let of = counts g.D.DeskStore.refused g.S.SiteStore.refused in
       no_fewer_then (of c.args.machines.now) (of c.loop-fetch.machines) (of c.bring_one.new.machines) c.loop-fetch.invariant.5 c.bring_one.ensures.leaves.counts;
-  catalog = search rules;
+  catalogs = search rules;
 }
 
 pub returns-in_err-bring_one-clause-fails : goal.returns-in_err-bring_one-clause-fails

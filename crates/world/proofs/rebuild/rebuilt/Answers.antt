@@ -22,7 +22,7 @@ returns-in_err-statement-clause-leaves g c = record {
   clean = search rules;
   sound = search rules;
   counts = no_fewer (counts g.D.DeskStore.refused g.S.SiteStore.refused c.args.machines.now);
-  catalog = search rules;
+  catalogs = search rules;
 }
 
 pub returns-in_default-clause-leaves : goal.returns-in_default-clause-leaves
@@ -30,7 +30,7 @@ returns-in_default-clause-leaves g c = record {
   clean = search rules;
   sound = search rules;
   counts = no_fewer (counts g.D.DeskStore.refused g.S.SiteStore.refused c.args.machines.now);
-  catalog = search rules;
+  catalogs = search rules;
 }
 
 pub returns-in_err-answer-clause-fails : goal.returns-in_err-answer-clause-fails

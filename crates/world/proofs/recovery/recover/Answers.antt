@@ -41,4 +41,4 @@ returns-clause-ok g c = λ db of is clean sound fit law recovery whole past up s
     ∙ (λ i. map letter_of (c.into_vec-letters.ensures i) ++ flat_map (λ seat. inquiries seat.name (state_of seat.kept seat.table)) (seats_in g.S.SiteStore.kept (c.as_slice.ensures.value i))) in
     let scene = put_out_by second (record { letters = c.new.result; replies = c.in_ok-commits.commits.replies; kept = true }) in
     recovers db law recovery over.distinct whole past first second last c.in_ok-commits.commits.letters c.inquire_all.new.letters.items c.in_ok-commits.commits.replies c.in_ok-_heard._heard.items scene served up leads more c.new.ensures (λ ls ds. refl) leads.fit
-    (c.in_ok-_heard.ensures.ok db of (in_force_on db _ _ _ _ leads.version c.restart.ensures.leaves.catalog is) clean (c.restart.ensures.leaves.sound clean_mid sound) leads.fit)
+    (c.in_ok-_heard.ensures.ok db of (in_force_on db _ _ _ _ leads.version (c.restart.ensures.leaves.catalogs fit.single).0 is) clean (c.restart.ensures.leaves.sound clean_mid sound) leads.fit)

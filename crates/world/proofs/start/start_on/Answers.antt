@@ -23,7 +23,7 @@ returns-clause-opens g c =
     if_ok c.machines_up.result (λ machines up clean new db placed.
     opens_of db catalogue c.args.whole.now (held D.kept S.kept machines) formed placed
     (all_started S.is_clean S.is_sound S.kept S.refused catalogue c.args.whole.now 0 catalogue.sites c.args.sites.items c.in_ok-filled.filled.items machines.sites.items c.in_ok-filled.ensures.fills up.sites clean.1 new.sound.1 new.keep.leaves new.keep.sites)
-    (up.rises db (record { sites = placed.sites; distinct = subst AreDistinct (sym placed.sites) formed.distinct }) clean.0) (λ txn. (up.life clean.0).commits txn ∙ new.keep.commits txn)) c.machines_up.ensures.up
+    (up.rises db (record { sites = placed.sites; distinct = subst AreDistinct (sym placed.sites) formed.distinct }) clean.0) (λ txn. (up.life clean.0).commits txn ∙ new.keep.commits txn) up.single) c.machines_up.ensures.up
 
 pub returns-clause-clean : goal.returns-clause-clean
 returns-clause-clean g c =

@@ -11,4 +11,5 @@ returns-clause-restarts g c = record {
   says_kept = c.restart.ensures.steps.kept;
   err = c.restart.ensures.steps.err;
   catalog = refl;
+  later = refl;
 }

@@ -11,6 +11,7 @@ use Rattle.desk.specs.Called.{CallsStore}
 use Rattle.desk.specs.Request.{txn_in}
 use Rattle.desk.specs.Database.{language, replied}
 use Rattle.desk.specs.Does.{IsPastLimits, Takes}
+use Rattle.desk.specs.OfCatalogue.{IsNextOf}
 use Rattle.desk.specs.State.{volatile_of}
 use Rattle.desk.specs.Receive.{may_send}
 use Rattle.desk.proofs.Called.{no_call, steps_as}
@@ -34,6 +35,7 @@ returns-then-not-is_among g c = record {
     full_at = λ reply says full. (let e = full in cc);
     err = tt;
     catalog = refl;
+    later = refl;
   };
 }
 
@@ -49,7 +51,7 @@ returns-then-may_send g c = record {
         let here : letter.body ≡ body.Reply said = search rules in
         let is : said ≡ reply = said_is (sym here ∙ says) in
         subst (λ x. IfOk c.on_reply.result (λ out. Takes db (volatile_of volatile) kept (volatile_of c.on_reply.new.volatile) letter.txn (λ choice. on_desk_letter (txn_name letter.txn) letter.site out.kept choice (replied db letter.site x) (txn_in db (volatile_of volatile) letter.txn)) out.letters out.replies)) is
-        (loud_takes db (volatile_of volatile) kept (volatile_of c.on_reply.new.volatile) letter.txn letter.site said c.on_reply.result c.on_reply.ensures.steps.kept (c.on_reply.ensures.ok db kept of same next fits among));
+        (loud_takes db (volatile_of volatile) kept (volatile_of c.on_reply.new.volatile) letter.txn letter.site said c.on_reply.result c.on_reply.ensures.steps.kept (c.on_reply.ensures.ok db kept of same (subst (IsNextOf db volatile.version) (sym c.first_in.ensures) next) fits among));
     strange = λ strange.
         let letter = c.args.letter.now in
         let said = c.in-Reply.reply in
@@ -70,7 +72,7 @@ returns-then-may_send g c = record {
         let here : letter.body ≡ body.Reply said = search rules in
         let is : said ≡ reply = said_is (sym here ∙ says) in
         subst (λ x. IsPastLimits db (volatile_of volatile) letter.txn (λ choice. on_desk_letter (txn_name letter.txn) letter.site true choice (replied db letter.site x) (txn_in db (volatile_of volatile) letter.txn))) is
-        (c.on_reply.ensures.full db (g.S.DeskStore.kept c.args.self.now.store) of same next fits among full);
+        (c.on_reply.ensures.full db (g.S.DeskStore.kept c.args.self.now.store) of same (subst (IsNextOf db volatile.version) (sym c.first_in.ensures) next) fits among full);
     full_at = λ reply says full.
         let letter = c.args.letter.now in
         let said = c.in-Reply.reply in
@@ -80,6 +82,7 @@ returns-then-may_send g c = record {
         subst (λ x. may_send ((volatile_of c.args.self.now.volatile).standing letter.txn) letter.site x ≡ true) is sends;
     err = c.on_reply.ensures.steps.err;
     catalog = refl;
+    later = refl;
   };
 }
 
@@ -120,5 +123,6 @@ returns g c = record {
     full_at = λ reply says full. absurd (memory_is_not_full c.take.result c.take.ensures.own full);
     err = c.take.ensures.err;
     catalog = refl;
+    later = refl;
   };
 }

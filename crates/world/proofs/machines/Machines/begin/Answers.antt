@@ -16,7 +16,7 @@ pub returns-clause-ok : goal.returns-clause-ok
 returns-clause-ok g c = λ db over fit.
     let before = held g.D.DeskStore.kept g.S.SiteStore.kept c.args.self.now in
     let new = c.begin.new.self in
-    if_ok c.begin.result (λ out begun. begin_leads db before (g.D.DeskStore.kept new.store) (volatile_of new.volatile) out.letters out.replies fit begun) (c.begin.ensures.ok db over fit.desk)
+    if_ok c.begin.result (λ out begun. begin_leads db before (g.D.DeskStore.kept new.store) (volatile_of new.volatile) new.later.items (c.begin.ensures.plainly.later ∙ fit.single) out.letters out.replies fit begun) (c.begin.ensures.ok db over fit.desk)
 
 pub returns-clause-within : goal.returns-clause-within
 returns-clause-within g c = λ db over fit. if_ok c.begin.result (λ out begun. ap is_desk_within (sym begun.state) ∙ begun.within) (c.begin.ensures.ok db over fit.desk)
@@ -34,5 +34,5 @@ returns-clause-leaves g c = record {
   sound = search rules;
   counts = none_fewer (counts g.D.DeskStore.refused g.S.SiteStore.refused c.args.self.now) (g.D.DeskStore.refused c.begin.new.self.store ∷ counts_of g.S.SiteStore.refused c.args.self.now.sites.items)
       (ap (λ store. g.D.DeskStore.refused store ∷ counts_of g.S.SiteStore.refused c.args.self.now.sites.items) c.begin.ensures.plainly.store);
-  catalog = search rules;
+  catalogs = search rules;
 }

@@ -9,7 +9,7 @@ use Rattle.world.proofs.Ends.{commit_explained}
 use Rattle.world.proofs.Machinery.{asked_leads}
 use Rattle.world.proofs.SiteSteps.{if_ok_too}
 use Rattle.world.specs.Counted.{counts, counts_of}
-use Rattle.std.proofs.Common.{◌∷◌, rules, ap}
+use Rattle.std.proofs.Common.{◌∙◌, ◌∷◌, rules, ap}
 use Rattle.catalog.specs.Relation.{catalogue_of}
 use Rattle.desk.specs.CatalogueDatabase.{database}
 use Rattle.world.proofs.Refusing.{if_err}
@@ -21,7 +21,7 @@ returns-clause-ok g c = λ db choice over fit.
     let before = held g.D.DeskStore.kept g.S.SiteStore.kept c.args.self.now in
     let new = c.commit.new.self in
     let txn = txn_in db before.table c.args.txn in
-    if_ok_too c.commit.result (λ out accepted steps. asked_leads db before (g.D.DeskStore.kept new.store) (volatile_of new.volatile) c.args.txn choice Commit_call out.letters out.replies fit steps tt (commit_explained (txn_name c.args.txn) choice txn) accepted)
+    if_ok_too c.commit.result (λ out accepted steps. asked_leads db before (g.D.DeskStore.kept new.store) (volatile_of new.volatile) new.later.items (c.commit.ensures.plainly.later ∙ fit.single) c.args.txn choice Commit_call out.letters out.replies fit steps tt (commit_explained (txn_name c.args.txn) choice txn) accepted)
     (c.commit.ensures.accepted db) (c.commit.ensures.ok db choice over fit.desk)
 
 pub returns-clause-blames : goal.returns-clause-blames
@@ -33,5 +33,5 @@ returns-clause-leaves g c = record {
   sound = search rules;
   counts = none_fewer (counts g.D.DeskStore.refused g.S.SiteStore.refused c.args.self.now) (g.D.DeskStore.refused c.commit.new.self.store ∷ counts_of g.S.SiteStore.refused c.args.self.now.sites.items)
       (ap (λ store. g.D.DeskStore.refused store ∷ counts_of g.S.SiteStore.refused c.args.self.now.sites.items) c.commit.ensures.plainly.store);
-  catalog = search rules;
+  catalogs = search rules;
 }

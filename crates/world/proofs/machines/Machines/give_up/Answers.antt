@@ -1,7 +1,7 @@
 -- Why `give_up` meets its contract.
 use Rattle.world.proofs.Counting.{none_fewer}
 use Rattle.world.specs.Counted.{counts, counts_of}
-use Rattle.std.proofs.Common.{rules, ap, ◌∷◌}
+use Rattle.std.proofs.Common.{◌∙◌, rules, ap, ◌∷◌}
 use Rattle.protocol.specs.Desk.{Give_up}
 use Rattle.protocol.specs.Letters.{txn_name}
 use Rattle.desk.specs.Request.{txn_in}
@@ -17,7 +17,7 @@ returns-clause-ok g c = λ db choice over fit.
     let before = held g.D.DeskStore.kept g.S.SiteStore.kept c.args.self.now in
     let new = c.give_up.new.self in
     let txn = txn_in db before.table c.args.txn in
-    if_ok c.give_up.result (λ out steps. asked_leads db before (g.D.DeskStore.kept new.store) (volatile_of new.volatile) c.args.txn choice Give_up out.letters out.replies fit steps tt (give_up_explained (txn_name c.args.txn) choice txn) (give_up_accepted txn))
+    if_ok c.give_up.result (λ out steps. asked_leads db before (g.D.DeskStore.kept new.store) (volatile_of new.volatile) new.later.items (c.give_up.ensures.plainly.later ∙ fit.single) c.args.txn choice Give_up out.letters out.replies fit steps tt (give_up_explained (txn_name c.args.txn) choice txn) (give_up_accepted txn))
     (c.give_up.ensures.ok db choice over fit.desk)
 
 pub returns-clause-leaves : goal.returns-clause-leaves
@@ -26,5 +26,5 @@ returns-clause-leaves g c = record {
   sound = search rules;
   counts = none_fewer (counts g.D.DeskStore.refused g.S.SiteStore.refused c.args.self.now) (g.D.DeskStore.refused c.give_up.new.self.store ∷ counts_of g.S.SiteStore.refused c.args.self.now.sites.items)
       (ap (λ store. g.D.DeskStore.refused store ∷ counts_of g.S.SiteStore.refused c.args.self.now.sites.items) c.give_up.ensures.plainly.store);
-  catalog = search rules;
+  catalogs = search rules;
 }

@@ -1,7 +1,7 @@
 -- Why `restart` meets its contract.
 use Rattle.world.proofs.Counting.{no_fewer}
 use Rattle.world.specs.Counted.{counts_of}
-use Rattle.std.proofs.Common.{rules, inl, inr, ⊎_elim}
+use Rattle.std.proofs.Common.{◌∙◌, rules, inl, inr, ⊎_elim}
 use Rattle.desk.specs.State.{volatile_of}
 use Rattle.world.specs.Contents.{held}
 use Rattle.world.proofs.Machinery.{restart_leads}
@@ -13,14 +13,14 @@ pub returns-clause-ok : goal.returns-clause-ok
 returns-clause-ok g c = λ db over clean sound fit.
     let before = held g.D.DeskStore.kept g.S.SiteStore.kept c.args.self.now in
     let new = c.restart_kept.new.self in
-    if_ok c.restart_kept.result (λ out restarts. restart_leads db before (g.D.DeskStore.kept new.store) (volatile_of new.volatile) out.letters out.replies fit restarts) (c.restart_kept.ensures.restarts.ok db over clean.0 fit.desk)
+    if_ok c.restart_kept.result (λ out restarts. restart_leads db before (g.D.DeskStore.kept new.store) (volatile_of new.volatile) new.later.items (c.restart_kept.ensures.restarts.later ∙ fit.single) out.letters out.replies fit restarts) (c.restart_kept.ensures.restarts.ok db over clean.0 fit.desk)
 
 pub returns-clause-leaves : goal.returns-clause-leaves
 returns-clause-leaves g c = record {
   clean = search rules;
   sound = search rules;
   counts = (c.restart_kept.ensures.restarts.begins.leaves.counts, no_fewer (counts_of g.S.SiteStore.refused c.args.self.now.sites.items));
-  catalog = search rules;
+  catalogs = search rules;
 }
 
 pub returns-clause-told : goal.returns-clause-told

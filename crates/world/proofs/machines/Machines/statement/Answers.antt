@@ -26,7 +26,7 @@ returns-clause-ok g c = λ db of is fit.
       choice = states.runs.choice;
       spelled = states.spelled;
       fits = record { of_schemas = states.fits; stays = states.runs.ordinary };
-      asked = asked_leads db before (g.D.DeskStore.kept new.store) (volatile_of new.volatile) c.args.txn states.runs.choice (State (before.table.version, states.statement)) out.letters out.replies fit states.runs.steps states.runs.placed states.runs.explained (accepted states.statement);
+      asked = asked_leads db before (g.D.DeskStore.kept new.store) (volatile_of new.volatile) new.later.items (c.statement.ensures.states.plainly.later ∙ fit.single) c.args.txn states.runs.choice (State (before.table.version, states.statement)) out.letters out.replies fit states.runs.steps states.runs.placed states.runs.explained (accepted states.statement);
     }) (λ s. c.statement.ensures.states.accepted db s) (c.statement.ensures.ok db of is fit.desk)
 
 pub returns-clause-told : goal.returns-clause-told
@@ -41,5 +41,5 @@ returns-clause-leaves g c = record {
   sound = search rules;
   counts = none_fewer (counts g.D.DeskStore.refused g.S.SiteStore.refused c.args.self.now) (g.D.DeskStore.refused c.statement.new.self.store ∷ counts_of g.S.SiteStore.refused c.args.self.now.sites.items)
       (ap (λ store. g.D.DeskStore.refused store ∷ counts_of g.S.SiteStore.refused c.args.self.now.sites.items) c.statement.ensures.states.plainly.store);
-  catalog = search rules;
+  catalogs = search rules;
 }

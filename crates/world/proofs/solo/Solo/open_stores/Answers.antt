@@ -31,9 +31,9 @@ returns-clause-goes_on g c = λ clean whole old past have served memory same.
     let places = placed catalogue 0 whole (of.formed 0) served.reached.opens.is_whole in
     let rises = up.rises db (record { sites = refl; distinct = (of.formed 0).distinct }) now.0 in
     let sound : OfStores D.is_sound S.is_sound machines = (up.desk_store.sound now.0 (up.learnt now.0), all_sound S.is_clean S.is_sound S.kept S.refused catalogue catalogue.sites c.args.sites.items machines.sites.items up.sites now.1) in
-    let fit = up_fit S.is_clean S.is_sound S.kept S.refused catalogue db 0 whole (of.formed 0) places c.args.sites.items machines.sites.items up.sites now.1 have first refl rises in
-    let again = up_again S.is_clean S.is_sound S.kept S.refused catalogue db 0 whole (of.formed 0) places c.args.sites.items machines.sites.items up.sites now.1 have first refl rises in
-    let came = came_up S.is_clean S.is_sound S.kept S.refused catalogue db 0 whole (of.formed 0) places c.args.sites.items machines.sites.items up.sites now.1 have first refl rises old served.fit (D.kept c.args.desk) same (up.life now.0) up.memory in
+    let fit = up_fit S.is_clean S.is_sound S.kept S.refused catalogue db 0 whole (of.formed 0) places c.args.sites.items machines.sites.items up.sites now.1 have first refl rises up.single in
+    let again = up_again S.is_clean S.is_sound S.kept S.refused catalogue db 0 whole (of.formed 0) places c.args.sites.items machines.sites.items up.sites now.1 have first refl rises up.single in
+    let came = came_up S.is_clean S.is_sound S.kept S.refused catalogue db 0 whole (of.formed 0) places c.args.sites.items machines.sites.items up.sites now.1 have first refl rises up.single old served.fit (D.kept c.args.desk) same (up.life now.0) up.memory in
     let goes = goes_further db whole past old middle
     (c.in_ok-recover.ensures.ok db of (sym up.catalog) clean_mid sound fit c.one_client_is_a_run.ensures c.restarts_recover.ensures whole (past ++ lost_by db old) again (c.machines_come_up.ensures.served whole old first past served memory came)) in
     going_on db whole past (held D.kept S.kept c.recover.new.machines) (held D.kept S.kept c.ensure_no_commit_row.new.machines) (counts D.refused S.refused c.recover.new.machines) (counts D.refused S.refused c.ensure_no_commit_row.new.machines)
