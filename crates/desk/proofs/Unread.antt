@@ -16,6 +16,7 @@ use Rattle.desk.specs.declared.refusal.Refusal.{Refusal}
 use Rattle.desk.specs.declared.refusal.Refusal.TheVariants as refusal
 use Rattle.protocol.specs.Desk as protocol
 use Rattle.desk.specs.Does.{IsNoStatement}
+use Rattle.desk.specs.Refragmented.{IsNoRefragment, is_refragment_command}
 use Rattle.desk.specs.Request.{refused_as}
 
 module _ (there schema : List RelationSchema) (same : there ≡ schema) where
@@ -50,6 +51,35 @@ module _ (there schema : List RelationSchema) (same : there ≡ schema) where
     is = other.1;
     why = inl (subst (λ ss. TextBreaks fault.rule ss text) same (breaks other.0), λ given spelled. none other.0 given (subst (λ ss. IsTextOf ss text given) (sym same) spelled));
   }))
+
+-- so of texts that are no REFRAGMENT's
+module _ (there schema : List RelationSchema) (same : there ≡ schema) where
+  pub split_spelled : (text : List ℕ) (given : Command) (result : Result Refragment Refusal) → IsTextOf there text given → IfOk result (λ refragment. given ≡ command.Run (statement.Refragment refragment)) → IfOk result (λ refragment. IsTextOf schema text (command.Run (statement.Refragment refragment)))
+  split_spelled text given (Ok refragment) found is = subst (λ ss. IsTextOf ss text (command.Run (statement.Refragment refragment))) same (subst (IsTextOf there text) is found)
+  split_spelled text given (Err told) found is = tt
+
+  pub split_fits : (given : Command) (result : Result Refragment Refusal) → IsCommandOf there given → IfOk result (λ refragment. given ≡ command.Run (statement.Refragment refragment)) → IfOk result (λ refragment. IsStatementOf schema (statement.Refragment refragment))
+  split_fits given (Ok refragment) fits is = subst (λ ss. IsStatementOf ss (statement.Refragment refragment)) same (subst (IsCommandOf there) is fits)
+  split_fits given (Err told) fits is = tt
+
+  pub split_told : (text : List ℕ) (given : Command) (result : Result Refragment Refusal) → IsTextOf there text given → IfErr result (λ told. (told ≡ refusal.Read (record { rule = rules.Syntax; offset = 0 })) × (is_refragment_command given ≡ false)) →
+      IfErr result (λ told. (told ≡ refusal.Memory) ⊎ IsNoRefragment schema text told)
+  split_told text given (Ok refragment) found none = tt
+  split_told text given (Err told) found none = inr (record { fault = record { rule = rules.Syntax; offset = 0 }; is = none.0; why = inr (refl, given, subst (λ ss. IsTextOf ss text given) same found, none.1) })
+
+  pub unread_split : (text : List ℕ) (fault : Fault) (told : Refusal) → (told ≡ refusal.Memory) ⊎ ((fault.rule ≢ rules.Memory) × (told ≡ refusal.Read fault)) → (fault.rule ≢ rules.Memory → (given : Command) → IsTextOf there text given → ⊥) → (fault.rule ≢ rules.Memory → TextBreaks fault.rule there text) →
+      (told ≡ refusal.Memory) ⊎ IsNoRefragment schema text told
+  unread_split text fault told (inl memory) none breaks = inl memory
+  unread_split text fault told (inr other) none breaks = inr (record {
+    fault = fault;
+    is = other.1;
+    why = inl (subst (λ ss. TextBreaks fault.rule ss text) same (breaks other.0), λ given spelled. none other.0 given (subst (λ ss. IsTextOf ss text given) (sym same) spelled));
+  })
+
+-- a text that is no REFRAGMENT's is refused for nothing else
+pub unread_not : {A : Type 0} (schema : List RelationSchema) (text : List ℕ) (told other : Refusal) → (told ≡ refusal.Memory) ⊎ IsNoRefragment schema text told → (refusal.Memory ≡ other → ⊥) → ((fault : Fault) → refusal.Read fault ≡ other → ⊥) → told ≡ other → A
+unread_not schema text told other (inl memory) not_memory not_read is = absurd (not_memory (sym memory ∙ is))
+unread_not schema text told other (inr none) not_memory not_read is = absurd (not_read none.fault (sym none.is ∙ is))
 
 -- what is told of a statement that was read is told of its text, by whichever statement the protocol is asked
 pub ran_told : {A : Type 0} (result : Result A Refusal) (First Moving Unread Busy Full : Refusal → Type 0) (one other : Option protocol.Refusal) (moves : Bool) → one ≡ None → other ≡ None → moves ≡ false →

@@ -35,9 +35,9 @@ use Rattle.desk.specs.Does.{IsPastLimits, Takes}
 use Rattle.desk.specs.OfCatalogue.{InForce, IsNextOf, IsOfCatalogue, first_in, follow}
 use Rattle.desk.specs.Recovery.{IsStrange, Restarts, Rises}
 use Rattle.desk.specs.State.{Fits, desk_of, volatile_of}
-use Rattle.desk.specs.Refragmented.{IsNoNext, Refragments}
-use Rattle.meaning.specs.declared.statement.Refragment.{Refragment}
+use Rattle.desk.specs.Refragmented.{FindsNoNext, IsNoRefragment, RefragmentsBy}
 use Rattle.catalog.specs.declared.relation.SplitRelation.{SplitRelation}
+use Rattle.catalog.specs.FragmentLeaf.{schemas_of}
 use Rattle.catalog.specs.Relation.{catalogue_of}
 use Rattle.desk.specs.Participants.{sites_of}
 use Rattle.desk.specs.Receive.{is_strange, may_send}
@@ -164,15 +164,16 @@ pub record TakesLetter {S : Type 0} (is_clean is_sound : S → Type 0) (kept : S
   pub catalogs : (new.catalog, new.later.items) ≡ (if new.volatile.version == old.volatile.version then (old.catalog, old.later.items) else follow old.catalog old.later.items)
 
 -- a transaction of its own gives a relation the split that the next catalogue has for it: its first step is the protocol's; Full only past the limits, NotAlone only
--- where something stands, NoNext only where that catalogue is no next one by this relation; the store and the catalogues are as they were
-pub record RefragmentsDesk {S : Type 0} (kept : S → DeskContent) (old new : Desk S) (refragment : Refragment) (result : Result Out Refusal) : Type 0 where
+-- where something stands, NoNext only where that catalogue is no next one by this relation, and else the text is no REFRAGMENT's; the store and the catalogues are as they were
+pub record RefragmentsDesk {S : Type 0} (kept : S → DeskContent) (old new : Desk S) (text : List ℕ) (result : Result Out Refusal) : Type 0 where
   pub plainly : StepsPlainly old new result
   pub ok : (db : Database) → IsOfCatalogue db → InForce db old.volatile.version old.catalog → IsNextOf db old.volatile.version (first_in old.later.items) → Fits db (kept old.store) (volatile_of old.volatile)
-      → IfOk result (λ out. Refragments db (volatile_of old.volatile) (kept new.store) (volatile_of new.volatile) refragment out.letters out.replies)
-  pub own : IfErr result (λ told. (told ≡ refusals.Memory) ⊎ (told ≡ refusals.Full) ⊎ (told ≡ refusals.NotAlone) ⊎ (told ≡ refusals.NoNext))
+      → IfOk result (λ out. RefragmentsBy db (volatile_of old.volatile) (kept new.store) (volatile_of new.volatile) text out.letters out.replies)
+  pub next : OnOk result (old.later.items ≢ [])
+  pub own : IfErr result (λ told. (told ≡ refusals.Memory) ⊎ (told ≡ refusals.Full) ⊎ (told ≡ refusals.NotAlone) ⊎ (told ≡ refusals.NoNext) ⊎ IsNoRefragment (schemas_of (catalogue_of old.catalog)) text told)
   pub full : (db : Database) → Fits db (kept old.store) (volatile_of old.volatile) → result ≡ Err refusals.Full → protocol.is_desk_within (protocol.began_as true (desk_of db (volatile_of old.volatile))) ≡ false
   pub alone : result ≡ Err refusals.NotAlone → (volatile_of old.volatile).txns ≢ []
-  pub none : result ≡ Err refusals.NoNext → IsNoNext (catalogue_of old.catalog) (first_in old.later.items) refragment.relation.name
+  pub none : result ≡ Err refusals.NoNext → FindsNoNext (catalogue_of old.catalog) (schemas_of (catalogue_of old.catalog)) (first_in old.later.items) text
 
 -- a restart of the coordinator: who was undecided is lost, and the rows of the store stand; after a refusal nothing has changed
 pub record RestartsDesk {S : Type 0} (is_clean is_sound : S → Type 0) (kept : S → DeskContent) (refused : S → ℕ) (old new : Desk S) (result : Result Out Refusal) : Type 0 where

@@ -24,12 +24,11 @@ ghost use Rattle.desk.specs.Frame.{RefragmentsDesk, RestartsDesk, StatesPlainly,
 ghost use Rattle.desk.specs.OfCatalogue.{InForce, IsOfCatalogue, first_in, follow, from_number};
 ghost use Rattle.desk.specs.Recovery.{IsStrange, Rises};
 ghost use Rattle.desk.specs.State.{Begins, Fits, Steps, anyone_moves, desk_of, volatile_of};
-ghost use Rattle.meaning.specs.declared.statement.Statement.TheVariants as statements;
 
 use crate::opening::open;
 use crate::receive::{may_send, on_reply, passed_over, take};
 use crate::recovery::restart;
-use crate::refragment::call_refragment;
+use crate::refragment::{call_refragment, refragment_of};
 use crate::refusal::{Refusal, store_refusal};
 use crate::reply::Out;
 use crate::request::{
@@ -39,7 +38,7 @@ use crate::send::is_among;
 use crate::volatile::Volatile;
 use catalog::catalogue::Catalog;
 use catalog::chain::Chain;
-use meaning::statement::{Refragment, Statement};
+use meaning::statement::Statement;
 use std::alloc::Global;
 use store::commit::DeskKept;
 use store::desk_store::DeskStore;
@@ -123,15 +122,15 @@ impl<S: DeskStore> Desk<S> {
         call_begin(&mut self.volatile, self.catalog.sites())
     }
 
-    /// A relation gets the split that the next catalogue has for it: a transaction of its own begins and states that; its commit
-    /// goes as any other's. NotAlone where another transaction is undecided, or has a commit row; NoNext where no catalogue comes
+    /// A relation gets the split that the next catalogue has for it, by the text of the REFRAGMENT: a transaction of its own begins
+    /// and states that; its commit goes as any other's. NotAlone where another transaction is undecided, or has a commit row; NoNext where no catalogue comes
     /// next, or the one that does splits another relation otherwise. After a refusal nothing has changed.
-    pub fn refragment(&mut self, refragment: &Refragment) -> Result<Out, Refusal>
-        requires { IsStatementOf (schemas_of (catalogue_of self.old.catalog)) (statements.Refragment refragment.now) }
-        ensures refragments { RefragmentsDesk S.kept self.old self.new refragment.now result }
+    pub fn refragment(&mut self, text: &str) -> Result<Out, Refusal>
+        ensures refragments { RefragmentsDesk S.kept self.old self.new text.now result }
     {
+        let refragment = refragment_of(self.volatile.alloc, &self.catalog, text)?;
         let next = first_in(self.later.as_slice());
-        call_refragment(&mut self.volatile, &self.catalog, next, refragment)
+        call_refragment(&mut self.volatile, &self.catalog, next, &refragment)
     }
 
     /// The commit of a transaction is asked for: its first phase begins.

@@ -12,7 +12,7 @@
 //! let out = desk.take(&letter)?;       // a site's letter: what waited for it goes on
 //! let out = desk.commit(txn)?;         // Prepare to each visited site, or committed at once
 //! let out = desk.rollback(txn)?;       // Abort to each visited site that may hold locks
-//! let out = desk.refragment(&refragment)?; // a relation gets the split of the next catalogue: a transaction of its own
+//! let out = desk.refragment(text)?; // a relation gets the split of the next catalogue: a transaction of its own
 //! let out = desk.restart()?;           // Commit again to the voters of each commit row
 //! ```
 #![tactic(auto)]

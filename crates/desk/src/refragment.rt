@@ -1,10 +1,13 @@
 //! A relation gets the split that the next catalogue has for it: a transaction of its own, with one statement.
 
-ghost use Rattle.std.specs.Prelude.{◌≡◌, ◌≢◌, ◌⊎◌, ◌+◌, ◌<◌, ◌++◌, ℕ, List, [], Some, true, false, IfOk, IfErr, OnOk, Err, vec_len};
+ghost use Rattle.std.specs.Prelude.{◌≡◌, ◌≢◌, ◌⊎◌, ◌+◌, ◌<◌, ◌++◌, ℕ, List, [], None, Some, true, false, IfOk, IfErr, OnOk, Err, vec_len};
 ghost use Rattle.std.specs.Option.{option_copied};
 ghost use Rattle.std.specs.Vec.{vec_capacity};
 ghost use Rattle.meaning.specs.Statement.{IsStatementOf};
 ghost use Rattle.meaning.specs.declared.statement.Statement.TheVariants as statements;
+ghost use Rattle.reader.specs.declared.command.Command.TheVariants as commands;
+ghost use Rattle.reader.specs.declared.fault.Rule.TheVariants as rules;
+ghost use Rattle.reader.specs.Command.{IsTextOf};
 ghost use Rattle.catalog.specs.Chain.{IsNext};
 ghost use Rattle.catalog.specs.FragmentLeaf.{schemas_of};
 ghost use Rattle.catalog.specs.Relation.{catalogue_of};
@@ -22,26 +25,56 @@ ghost use Rattle.desk.specs.Send.{AreShort};
 ghost use Rattle.desk.specs.Transaction.{undecided_of};
 ghost use Rattle.desk.specs.Transition.{AreParticipants};
 ghost use Rattle.desk.specs.OfCatalogue.{InForce, IsNextOf, IsOfCatalogue};
-ghost use Rattle.desk.specs.Refragmented.{IsNoNext, Refragments};
+ghost use Rattle.desk.specs.Refragmented.{IsNoNext, IsNoRefragment, Refragments, is_refragment_command};
 ghost use Rattle.desk.specs.Request.{notices};
 ghost use Rattle.desk.specs.State.{Fits, desk_of, volatile_of};
 
 use crate::fetches::asks_of;
 use crate::refusal::Refusal;
 use crate::reply::{Notice, Out, Reply};
-use crate::request::nowhere_yet;
+use crate::request::{nowhere_yet, reader_refusal};
 use crate::statement::{Progress, reads};
 use crate::transaction::{Planned, TxnState, Undecided};
 use crate::volatile::{Volatile, begun};
 use catalog::catalogue::Catalog;
 use catalog::laws::leaf_names_are_unique;
 use meaning::statement::{Refragment, Statement};
+use reader::command::Command;
+use reader::fault::{ReadFault, Rule};
+use reader::read::read;
 use std::alloc::Global;
 use store::name::Txn;
 use terms::copy::TryCopy;
 use terms::memory::Memory;
 use terms::seq::Seq;
 use terms::text::Text;
+
+/// The REFRAGMENT that a command is. No other command is one.
+fn refragment_by(command: Command) -> Result<Refragment, Refusal>
+    ensures run { IfOk result (λ refragment. command ≡ commands.Run (statements.Refragment refragment)) }
+    ensures none { IfErr result (λ told. (told ≡ refusals.Read (record { rule = rules.Syntax; offset = 0 })) × (is_refragment_command command ≡ false)) }
+{
+    match command {
+        Command::Run(Statement::Refragment(refragment)) => Ok(refragment),
+        _ => Err(Refusal::Read(ReadFault::new(Rule::Syntax, 0))),
+    }
+}
+
+/// The REFRAGMENT of a text, under the catalogue's schema.
+pub(crate) fn refragment_of(
+    alloc: Global,
+    catalog: &Catalog,
+    text: &str,
+) -> Result<Refragment, Refusal>
+    ensures spelled { IfOk result (λ refragment. IsTextOf (schemas_of (catalogue_of catalog.now)) text.now (commands.Run (statements.Refragment refragment))) }
+    ensures fits { IfOk result (λ refragment. IsStatementOf (schemas_of (catalogue_of catalog.now)) (statements.Refragment refragment)) }
+    ensures told { IfErr result (λ told. (told ≡ refusals.Memory) ⊎ IsNoRefragment (schemas_of (catalogue_of catalog.now)) text.now told) }
+{
+    match read(alloc, text, catalog.schema()) {
+        Ok(command) => refragment_by(command),
+        Err(fault) => Err(reader_refusal(fault)),
+    }
+}
 
 /// Whether the next catalogue, if there is one, splits this relation otherwise.
 fn is_next(catalog: &Catalog, next: Option<&Catalog>, relation: &Text) -> bool
@@ -129,6 +162,7 @@ pub(crate) fn call_refragment(
     ensures ok { (db : Database) (kept : DeskContent) → IsOfCatalogue db → InForce db volatile.old.version catalog.now → IsNextOf db volatile.old.version (option_copied next.entry) → Fits db kept (volatile_of volatile.old)
         → IfOk result (λ out. Refragments db (volatile_of volatile.old) kept (volatile_of volatile.new) refragment.now out.letters out.replies) }
     ensures steps { StepsInMemory volatile.old volatile.new result }
+    ensures next { OnOk result (option_copied next.entry ≢ None) }
     ensures own { IfErr result (λ told. (told ≡ refusals.Memory) ⊎ (told ≡ refusals.Full) ⊎ (told ≡ refusals.NotAlone) ⊎ (told ≡ refusals.NoNext)) }
     ensures full { (db : Database) (kept : DeskContent) → Fits db kept (volatile_of volatile.old) → result ≡ Err refusals.Full
         → is_desk_within (began_as true (desk_of db (volatile_of volatile.old))) ≡ false }

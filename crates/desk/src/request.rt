@@ -338,7 +338,7 @@ fn may_state(volatile: &Volatile, txn: &Txn) -> Result<(), Refusal>
 }
 
 /// What the reader says of a text.
-fn reader_refusal(fault: ReadFault) -> Refusal
+pub(crate) fn reader_refusal(fault: ReadFault) -> Refusal
     ensures { (result ≡ refusals.Memory) ⊎ ((fault.rule ≢ Rule.Memory) × (result ≡ refusals.Read fault)) }
 {
     if fault.rule() == Rule::Memory {

@@ -33,13 +33,14 @@ of catalog = database (catalogue_of catalog)
 module _ {D : Type 0} (is_clean is_sound : D → Type 0) (refused : D → ℕ) (content : D → DeskContent) (opening : DeskKept) where
   -- a history begins: nothing has happened since the coordinator started but that its store was read
   pub desk_opens : (none : List Entry) (old new : Desk D) → none ≡ [] → LeavesStore is_clean is_sound refused old.store new.store → new.volatile ≡ old.volatile → new.catalog ≡ old.catalog → (is_clean new.store → is_sound old.store) → (is_clean new.store → Lists (content new.store) opening) →
-      (is_clean new.store → is_sound old.store → IsUnchanged (content old.store) (content new.store)) → ((db : Database) → IsOver db old.catalog.0 → is_clean old.store → Rises db (content old.store) (volatile_of old.volatile)) → IsBase (of old.catalog) → DeskHolds is_clean is_sound content opening none new
-  desk_opens none old new empty store memory catalog learnt lists same rises base =
+      (is_clean new.store → is_sound old.store → IsUnchanged (content old.store) (content new.store)) → ((db : Database) → IsOver db old.catalog.0 → is_clean old.store → Rises db (content old.store) (volatile_of old.volatile)) → IsBase (of old.catalog) → new.later.items ≡ [] → DeskHolds is_clean is_sound content opening none new
+  desk_opens none old new empty store memory catalog learnt lists same rises base single =
       let db = of old.catalog in
       let rose : is_clean new.store → Rises db (content new.store) (volatile_of new.volatile) = λ clean.
       subst (λ (desk : DeskState). Rises db desk.content desk.table) (sym (desk_unchanged content old new (same clean (learnt clean)) (ap volatile_of memory)))
       (rises db (over_of db 0 old.catalog base.of_catalogue refl) (store.clean clean)) in
       record {
+        single = single;
         base = subst (λ (c : Catalog). IsBase (of c)) (sym catalog) base;
         sound = λ clean. store.sound clean (learnt clean);
         recorded = λ clean.
@@ -52,17 +53,24 @@ module _ {D : Type 0} (is_clean is_sound : D → Type 0) (refused : D → ℕ) (
             }));
       }
 
-  module _ (entries room : List Entry) (old new : Desk D) (same_entries : room ≡ entries) (catalog : new.catalog ≡ old.catalog) (store : LeavesStore is_clean is_sound refused old.store new.store) (holds : DeskHolds is_clean is_sound content opening entries old) where
+  module _ (entries room : List Entry) (old new : Desk D) (same_entries : room ≡ entries) (catalogs : old.later.items ≡ [] → (new.catalog ≡ old.catalog) × (new.later.items ≡ [])) (store : LeavesStore is_clean is_sound refused old.store new.store) (holds : DeskHolds is_clean is_sound content opening entries old) where
+    catalog : new.catalog ≡ old.catalog
+    catalog = (catalogs holds.single).0
+
+    single : new.later.items ≡ []
+    single = (catalogs holds.single).1
+
     -- a call adds its entry
-    module _ (entry : Entry) (moves : (db : Database) → IsOfCatalogue db → InForce db old.volatile.version old.catalog → is_clean new.store → is_sound old.store → IsFit db (desk_from content old) → DeskMoves db (desk_from content old) entry (desk_from content new)) where
+    module _ (entry : Entry) (moves : (db : Database) → old.later.items ≡ [] → IsOfCatalogue db → InForce db old.volatile.version old.catalog → is_clean new.store → is_sound old.store → IsFit db (desk_from content old) → DeskMoves db (desk_from content old) entry (desk_from content new)) where
       move : is_clean new.store → DeskMoves (of old.catalog) (desk_from content old) entry (desk_from content new)
-      move clean = moves (of old.catalog) holds.base.of_catalogue refl clean (holds.sound (store.clean clean)) (holds.recorded (store.clean clean)).fit
+      move clean = moves (of old.catalog) holds.single holds.base.of_catalogue refl clean (holds.sound (store.clean clean)) (holds.recorded (store.clean clean)).fit
 
       pub desk_moves : is_clean new.store → DeskMoves (of new.catalog) (desk_from content old) entry (desk_from content new)
       desk_moves clean = subst (λ (c : Catalog). DeskMoves (of c) (desk_from content old) entry (desk_from content new)) (sym catalog) (move clean)
 
       pub desk_more : (all : List Entry) → all ≡ room ++ entry ∷ [] → DeskHolds is_clean is_sound content opening all new
       desk_more all more = record {
+        single = single;
         base = subst (λ (c : Catalog). IsBase (of c)) (sym catalog) holds.base;
         sound = λ clean. store.sound clean (holds.sound (store.clean clean));
         recorded = λ clean.
@@ -81,6 +89,7 @@ module _ {D : Type 0} (is_clean is_sound : D → Type 0) (refused : D → ℕ) (
     -- a call that adds none leaves it
     pub desk_stays : (is_clean new.store → is_sound old.store → desk_from content new ≡ desk_from content old) → DeskHolds is_clean is_sound content opening room new
     desk_stays same = record {
+      single = single;
       base = subst (λ (c : Catalog). IsBase (of c)) (sym catalog) holds.base;
       sound = λ clean. store.sound clean (holds.sound (store.clean clean));
       recorded = λ clean.

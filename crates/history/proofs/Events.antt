@@ -75,21 +75,21 @@ module _ (db : Database) (whole : Relations) (before after : DeskState) (seats :
   -- a client asks for something that is no statement
   asked_for : (txn : txns.Txn) (request : Request (language db)) → Asks db before txn request entry after → AsksHomed (language db) (IsPlace db) request (no_choice db) →
       AllExplained (on_request (txn_name txn) (no_choice db) request (txn_in db before.table txn)).deeds → Asked db txn (no_choice db) request desk_old desk_new entry.letters entry.replies
-  asked_for txn request asks homed explained = asked_leads db desk_old after.content after.table txn (no_choice db) request entry.letters entry.replies so.fit (asks.steps (no_choice db)) homed explained asks.accepted
+  asked_for txn request asks homed explained = asked_leads db desk_old after.content after.table [] refl txn (no_choice db) request entry.letters entry.replies so.fit (asks.steps (no_choice db)) homed explained asks.accepted
 
   -- what the coordinator does is an event
   desk_goes : (asked : inputs.Input) → DeskDoes db asked before entry after → IsBroughtAt db.sites (letters_in entries) n zero asked → Goes db whole desk_new entries past entry (happened_as entry (event_of db.sites n zero asked entry.kept))
   desk_goes (input.Call call.Begin) did brought =
       let w = world_of db desk_old (map (sent db) (letters_in entries)) past in
       let may = begins_in_force db desk_old so.fit.still (map (sent db) (letters_in entries)) past in
-      let leads = begin_leads db desk_old after.content after.table entry.letters entry.replies so.fit did in
+      let leads = begin_leads db desk_old after.content after.table [] refl entry.letters entry.replies so.fit did in
       steps db whole desk_old entries past entry so desk_new (event.Call call.Begin) (runs_on db whole desk_old desk_new entries past (event.Call call.Begin) out begins Begin so leads (if_true (may_begin w) (begins w) w may) refl (may, ap is_desk_within (sym did.state) ∙ did.within)
       (silent_step db desk_old desk_new entry.letters entry.replies (event.Call call.Begin) begins leads refl refl (begins_silent (world_of db desk_old [] []) refl)))
   desk_goes (input.Call (call.State txn text)) did brought =
       let what = event.Call (call.State txn text) in
       let states = did.states in
       let request = State (before.table.version, states.statement) in
-      let asked = asked_leads db desk_old after.content after.table txn states.runs.choice request entry.letters entry.replies so.fit states.runs.steps states.runs.placed states.runs.explained (did.accepted states.statement) in
+      let asked = asked_leads db desk_old after.content after.table [] refl txn states.runs.choice request entry.letters entry.replies so.fit states.runs.steps states.runs.placed states.runs.explained (did.accepted states.statement) in
       steps db whole desk_old entries past entry so desk_new what (called_on db whole desk_old desk_new entries past what out txn states.runs.choice request so asked (refl, states.runs.ordinary) (states.statement, states.runs.choice, (states.spelled, refl))
       (state_step db desk_old desk_new entry.letters entry.replies txn text states.statement states.runs.choice what asked states.spelled refl refl))
   desk_goes (input.Call (call.Commit txn)) did brought =
@@ -107,12 +107,13 @@ module _ (db : Database) (whole : Relations) (before after : DeskState) (seats :
   desk_goes (input.Take letter) did brought =
       let said = reply_of letter.body brought.0.0 in
       steps db whole desk_old entries past entry so desk_new (event.Deliver n entry.kept) (comes_on db whole desk_old desk_new entries past out n letter entry.kept so brought.1
-      (reply_leads db desk_old after.content after.table letter said.0 said.1 entry.kept entry.letters entry.replies so.fit (did.takes said.0 said.1 brought.0.1)))
+      (reply_leads db desk_old after.content after.table [] refl letter said.0 said.1 entry.kept entry.letters entry.replies so.fit (did.takes said.0 said.1 brought.0.1)))
+  desk_goes (input.Call (call.Refragment text)) did brought = absurd did
   desk_goes (input.GiveUp ticket) did brought = absurd did
   desk_goes input.Inquire did brought = absurd did
   desk_goes input.Restart did brought =
       let what = event.DeskRestarts true in
-      let leads = restart_leads db desk_old after.content after.table entry.letters entry.replies so.fit did in
+      let leads = restart_leads db desk_old after.content after.table [] refl entry.letters entry.replies so.fit did in
       steps db whole desk_old entries past entry so desk_new what (runs_on db whole desk_old desk_new entries past what out desk_restarts (Desk_restarts true) so leads refl refl refl
       (silent_step db desk_old desk_new entry.letters entry.replies what desk_restarts leads refl refl (desk_restarts_silent (world_of db desk_old [] []) refl)))
 

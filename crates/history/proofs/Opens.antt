@@ -47,7 +47,7 @@ site_stays first (entry ∷ entries) last so =
 
 -- the machines of a coordinator and of sites
 abbrev pub machines_of : DeskState → List Seat → Machines
-machines_of desk seats = record { desk = desk.content; table = desk.table; seats = seats; refused = [] }
+machines_of desk seats = record { desk = desk.content; table = desk.table; seats = seats; later = []; refused = [] }
 
 -- each of these sites is recorded
 abbrev pub AllRecorded : List SitePast → Type 0
@@ -109,7 +109,7 @@ module _ (db : Database) (whole : Relations) (opening : DeskKept) (entries : Lis
       let version : opening.version ≡ desk.first.table.version = desk.lists.catalogue ∙ sym desk.rises.fits.version in
       opens_at_rest db whole first_machines rebuilds.fits (first_names pasts recorded.sites ∙ recorded.names) (first_leaves db pasts recorded.sites recorded.leaves) (first_rests pasts recorded.sites recorded.prepared)
       (λ place. first_keeps db pasts recorded.sites place ∙ rebuilds.content place ∙ ap (λ (n : ℕ). db.content n place whole) version)
-      desk.rises (λ txn. sym (desk.lists.rows txn) ∙ ap (λ rows. option_map by_site (voters_in txn rows)) recorded.decided)
+      desk.rises (λ txn. sym (desk.lists.rows txn) ∙ ap (λ rows. option_map by_site (voters_in txn rows)) recorded.decided) refl
 
   -- nothing has happened to them yet
   pub first_run : IsRun db whole first_machines [] []

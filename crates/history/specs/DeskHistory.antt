@@ -59,13 +59,14 @@ module _ (db : Database) where
         Takes db before.table after.content after.table letter.txn
         (λ choice. protocol.on_desk_letter (txn_name letter.txn) letter.site entry.kept choice (replied db letter.site reply) (txn_in db before.table letter.txn)) entry.letters entry.replies
 
-  -- what the coordinator makes of what it is called for; visits and inquiries are the sites'
+  -- what the coordinator makes of what it is called for; visits and inquiries are the sites', and where no catalogue comes next no relation gets another split
   abbrev pub DeskDoes : inputs.Input → DeskState → Entry → DeskState → Type 0
   DeskDoes (input.Call call.Begin) before entry after = Begins db false before.table after.content after.table entry.letters entry.replies
   DeskDoes (input.Call (call.State txn text)) before entry after = AsksStatement before txn text entry after
   DeskDoes (input.Call (call.Commit txn)) before entry after = Asks before txn protocol.Commit_call entry after
   DeskDoes (input.Call (call.Rollback txn)) before entry after = Asks before txn protocol.Rollback entry after
   DeskDoes (input.Call (call.GiveUp txn)) before entry after = Asks before txn protocol.Give_up entry after
+  DeskDoes (input.Call (call.Refragment text)) before entry after = ⊥
   DeskDoes (input.Take letter) before entry after = TakesReply before letter entry after
   DeskDoes (input.GiveUp ticket) before entry after = ⊥
   DeskDoes input.Inquire before entry after = ⊥
@@ -111,8 +112,9 @@ pub record DeskHistory (D : Type 0) : Type 0 where
   pub entries : List Entry
   pub desk : Desk D
 
--- it is so where the store is clean, which then is sound
+-- it is so where the store is clean, which then is sound; no catalogue comes after the one in force
 pub record DeskHolds {D : Type 0} (is_clean is_sound : D → Type 0) (content : D → DeskContent) (opening : DeskKept) (entries : List Entry) (desk : Desk D) : Type 0 where
+  pub single : desk.later.items ≡ []
   pub base : IsBase (database (catalogue_of desk.catalog))
   pub sound : is_clean desk.store → is_sound desk.store
   pub recorded : is_clean desk.store → DeskRecorded (database (catalogue_of desk.catalog)) opening entries (desk_from content desk)

@@ -28,6 +28,7 @@ call_of call.Begin notices txn = begun_by notices txn
 call_of (call.State other text) notices txn = if is_txn other txn then Some (call.State other text) else None
 call_of (call.Commit other) notices txn = if is_txn other txn then Some (call.Commit other) else None
 call_of (call.Rollback other) notices txn = if is_txn other txn then Some (call.Rollback other) else None
+call_of (call.Refragment text) notices txn = None
 call_of (call.GiveUp other) notices txn = if is_txn other txn then Some (call.GiveUp other) else None
 
 abbrev pub call_in : inputs.Input → List Notice → Txn → Option calls.Call
@@ -59,6 +60,7 @@ IsAskedFor schema text (call.State txn stated) = stated ≡ text
 IsAskedFor schema text (call.Commit txn) = IsTextOf schema text command.Commit
 IsAskedFor schema text (call.Rollback txn) = IsTextOf schema text command.Rollback
 IsAskedFor schema text (call.GiveUp txn) = ⊥
+IsAskedFor schema text (call.Refragment asked) = asked ≡ text
 
 -- what a client was told stands in the history: the entry of that number put that reply out, to a transaction whose client's last accepted call up to there is the one that the text asks for
 pub record StandsAt (schema : List RelationSchema) (entries : List Entry) (told : Told) (place : ℕ) : Type 0 where

@@ -39,7 +39,7 @@ fragment_at (past ∷ pasts) place = if is_called place.0 past.last then made_by
 
 -- the machines as they are now
 abbrev pub machines_in : DeskState → List SitePast → Machines
-machines_in desk pasts = record { desk = desk.content; table = desk.table; seats = map (λ past. past.last) pasts; refused = [] }
+machines_in desk pasts = record { desk = desk.content; table = desk.table; seats = map (λ past. past.last) pasts; later = []; refused = [] }
 
 -- the histories of a database's coordinator and of its sites, in the catalogue's order: each replays, and at the opening nothing was decided or in doubt
 pub record AreRecorded (db : Database) (opening : DeskKept) (entries : List Entry) (last : DeskState) (pasts : List SitePast) : Type 0 where

@@ -29,6 +29,7 @@ pub(crate) fn is_asked_for(
     match call {
         Call::Begin => asks_to_begin(alloc, schema, text),
         Call::State(_, stated) => Ok(stated.same(text)),
+        Call::Refragment(asked) => Ok(asked.same(text)),
         Call::Commit(_) => asks_to_commit(alloc, schema, text),
         Call::Rollback(_) => asks_to_roll_back(alloc, schema, text),
         Call::GiveUp(_) => Ok(false),

@@ -80,6 +80,7 @@ pub struct DeskParts<D: DeskStore> {
 impl<D: DeskStore> DeskCell<D> {
     /// The cell of a coordinator that has just started: no call has been made. On a refusal the coordinator is as it was.
     pub fn new(alloc: Global, desk: Desk<D>) -> Result<DeskCell<D>, Unrecorded<D>>
+        requires single { desk.later.items ≡ [] }
         requires rises { (db : Database) → IsOver db desk.catalog.0 → D.is_clean desk.store → Rises db (D.kept desk.store) (volatile_of desk.volatile) }
         ensures entries { IfOk result (λ cell. cell.entries ≡ []) }
         ensures leaves_store { IfOk result (λ cell. LeavesStore D.is_clean D.is_sound D.refused desk.store cell.desk.store) }
@@ -229,9 +230,9 @@ fn called<D: DeskStore>(
     counter: &AtomicU64,
 ) -> Result<Entry, Memory>
     ensures store { LeavesStore D.is_clean D.is_sound D.refused desk.old.store desk.new.store }
-    ensures catalog { desk.new.catalog ≡ desk.old.catalog }
+    ensures catalogs { desk.old.later.items ≡ [] → (desk.new.catalog ≡ desk.old.catalog) × (desk.new.later.items ≡ []) }
     ensures input { IfOk result (λ entry. entry.input ≡ input) }
-    ensures moves { (db : Database) → IsOfCatalogue db → InForce db desk.old.volatile.version desk.old.catalog → D.is_clean desk.new.store → D.is_sound desk.old.store → IsFit db (desk_from D.kept desk.old)
+    ensures moves { (db : Database) → desk.old.later.items ≡ [] → IsOfCatalogue db → InForce db desk.old.volatile.version desk.old.catalog → D.is_clean desk.new.store → D.is_sound desk.old.store → IsFit db (desk_from D.kept desk.old)
         → IfOk result (λ entry. DeskMoves db (desk_from D.kept desk.old) entry (desk_from D.kept desk.new)) }
     ensures err { D.is_clean desk.new.store → D.is_sound desk.old.store → OnErr result (desk_from D.kept desk.new ≡ desk_from D.kept desk.old) }
 {
@@ -245,8 +246,8 @@ fn called<D: DeskStore>(
 /// The coordinator does what it is called for. For visits and inquiries it has no place.
 fn act<D: DeskStore>(desk: &mut Desk<D>, input: &Input) -> Result<Out, Fault>
     ensures store { LeavesStore D.is_clean D.is_sound D.refused desk.old.store desk.new.store }
-    ensures catalog { desk.new.catalog ≡ desk.old.catalog }
-    ensures ok { (db : Database) → IsOfCatalogue db → InForce db desk.old.volatile.version desk.old.catalog → D.is_clean desk.new.store → D.is_sound desk.old.store → IsFit db (desk_from D.kept desk.old)
+    ensures catalogs { desk.old.later.items ≡ [] → (desk.new.catalog ≡ desk.old.catalog) × (desk.new.later.items ≡ []) }
+    ensures ok { (db : Database) → desk.old.later.items ≡ [] → IsOfCatalogue db → InForce db desk.old.volatile.version desk.old.catalog → D.is_clean desk.new.store → D.is_sound desk.old.store → IsFit db (desk_from D.kept desk.old)
         → IfOk result (λ out. (number : ℕ) → DeskAccepts db (desk_from D.kept desk.old) (accepted number input.now out) (desk_from D.kept desk.new)) }
     ensures err { D.is_clean desk.new.store → D.is_sound desk.old.store → OnErr result (desk_from D.kept desk.new ≡ desk_from D.kept desk.old) }
 {
@@ -261,8 +262,8 @@ fn act<D: DeskStore>(desk: &mut Desk<D>, input: &Input) -> Result<Out, Fault>
 /// The coordinator does what a client asks for.
 fn ask<D: DeskStore>(desk: &mut Desk<D>, call: &Call) -> Result<Out, Refusal>
     ensures store { desk.new.store ≡ desk.old.store }
-    ensures catalog { desk.new.catalog ≡ desk.old.catalog }
-    ensures ok { (db : Database) → IsOfCatalogue db → InForce db desk.old.volatile.version desk.old.catalog → IsFit db (desk_from D.kept desk.old)
+    ensures catalogs { desk.old.later.items ≡ [] → (desk.new.catalog ≡ desk.old.catalog) × (desk.new.later.items ≡ []) }
+    ensures ok { (db : Database) → desk.old.later.items ≡ [] → IsOfCatalogue db → InForce db desk.old.volatile.version desk.old.catalog → IsFit db (desk_from D.kept desk.old)
         → IfOk result (λ out. (number : ℕ) → DeskAccepts db (desk_from D.kept desk.old) (accepted number (inputs.Call call.now) out) (desk_from D.kept desk.new)) }
     ensures err { OnErr result (volatile_of desk.new.volatile ≡ volatile_of desk.old.volatile) }
 {
@@ -272,6 +273,7 @@ fn ask<D: DeskStore>(desk: &mut Desk<D>, call: &Call) -> Result<Out, Refusal>
         Call::Commit(txn) => desk.commit(*txn),
         Call::Rollback(txn) => desk.rollback(*txn),
         Call::GiveUp(txn) => desk.give_up(*txn),
+        Call::Refragment(text) => desk.refragment(text.as_str()),
     }
 }
 

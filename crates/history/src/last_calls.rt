@@ -25,6 +25,8 @@ pub(crate) fn note<'a>(last: &mut BTreeMap<Txn, &'a Call>, entry: &'a Entry) -> 
     };
     match call {
         Call::Begin => note_begun(last, call, entry.replies.as_slice()),
+        // No relation gets another split where no catalogue comes next, so no entry of an accepted call is one.
+        Call::Refragment(_) => Ok(()),
         Call::State(txn, _) | Call::Commit(txn) | Call::Rollback(txn) | Call::GiveUp(txn) => {
             last.insert(*txn, call)?;
             Ok(())

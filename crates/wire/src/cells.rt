@@ -18,6 +18,7 @@ use store::desk_store::DeskStore;
 use store::site_store::SiteStore;
 use terms::copy::TryCopy;
 use terms::text::Text;
+use world::chain::alone;
 use world::fault::Fault;
 use world::site_leaves::known_leaves;
 
@@ -67,13 +68,14 @@ fn site_cell<S: SiteStore + Drop>(
 /// The cell of the coordinator, which starts over its store.
 pub(crate) fn desk_cell<D: DeskStore + Drop>(
     alloc: Global,
-    catalog: Catalog,
+    catalog: &Catalog,
     store: D,
 ) -> Result<DeskCell<D>, Fault>
     ensures entries { IfOk result (λ cell. cell.entries ≡ []) }
-    ensures catalog { IfOk result (λ cell. cell.desk.catalog ≡ catalog) }
+    ensures catalog { IfOk result (λ cell. catalogue_of cell.desk.catalog ≡ catalogue_of catalog.now) }
 {
-    let desk = match Desk::start(alloc, catalog, store) {
+    let chain = alone(alloc, catalog)?;
+    let desk = match Desk::start(alloc, &chain, store) {
         Ok(desk) => desk,
         Err(unstarted) => return Err(Fault::Desk(unstarted.refusal)),
     };

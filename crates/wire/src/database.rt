@@ -74,7 +74,7 @@ where
     {
         let schema = catalog.schema().copy()?;
         let cells = site_cells(alloc, &catalog, sites)?;
-        let cell = desk_cell(alloc, catalog, desk)?;
+        let cell = desk_cell(alloc, &catalog, desk)?;
         let Posts { ways, posts } = posts_of(alloc, cells)?;
         let threads = room_for(alloc, posts.len())?;
         let cells = room_for(alloc, posts.len())?;

@@ -52,6 +52,7 @@ goes_on (call.State txn text) refusal = refl
 goes_on (call.Commit txn) refusal = refl
 goes_on (call.Rollback txn) refusal = refl
 goes_on (call.GiveUp txn) refusal = refl
+goes_on (call.Refragment asked) refusal = refl
 
 module _ (db : Database) (fits : Place → Content → Bool) (reached : ReachedLaw (language db)) (obeys : ObeysUnlessRefused db fits) (quiet : GrowsQuiet db fits) (whole : Relations) where
   -- all is quiet after no more moves

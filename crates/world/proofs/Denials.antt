@@ -41,7 +41,7 @@ memory_stops told (inr other) = inr other
 pub as_before : (db : Database) (before after : Machines) → AreFit db before → after ≡ before → IsStill db before after
 as_before db before after fit same = record { fit = subst (AreFit db) (sym same) fit; same = ap (λ (m : Machines). world_of db m [] []) same }
 
-pub still_denied : (db : Database) (before after : Machines) (asked : calls.Call) (told : refusals.Refusal) → AreFit db before → after ≡ before → (told ≡ told_as.Memory) ⊎ IsRefused db before.table asked told → IsTurnedDown db asked before after told
+pub still_denied : (db : Database) (before after : Machines) (asked : calls.Call) (told : refusals.Refusal) → AreFit db before → after ≡ before → (told ≡ told_as.Memory) ⊎ IsRefused db before.later before.table asked told → IsTurnedDown db asked before after told
 still_denied db before after asked told fit same (inl memory) = inl (is_memory told memory)
 still_denied db before after asked told fit same (inr refused) = inr (refused, as_before db before after fit same)
 
@@ -59,10 +59,10 @@ no_refusal f None told none is = cc
 no_refusal f (Some x) told none is = cc
 
 module _ (db : Database) (fits : Place → Content → Bool) (txn : Txn) (machines : Machines) (past : List (Deed (language db))) (told : refusals.Refusal) (ready : IsReady db fits (txn_name txn) machines past) where
-  pub no_commit : IsRefused db machines.table (call.Commit txn) told → ⊥
+  pub no_commit : IsRefused db machines.later machines.table (call.Commit txn) told → ⊥
   no_commit refused = no_refusal refused_as (refusal Commit_call (txn_in db machines.table txn)) told (at_rest db fits txn machines past Commit_call refl ready) refused
 
-  pub no_rollback : IsRefused db machines.table (call.Rollback txn) told → ⊥
+  pub no_rollback : IsRefused db machines.later machines.table (call.Rollback txn) told → ⊥
   no_rollback refused = no_refusal refused_as (refusal Rollback (txn_in db machines.table txn)) told (at_rest db fits txn machines past Rollback refl ready) refused
 
 module _ (db : Database) (fits : Place → Content → Bool) (one : OneCommandOfText) (text : List ℕ) where
@@ -87,7 +87,7 @@ module _ (db : Database) (fits : Place → Content → Bool) (one : OneCommandOf
 
   -- the statement of a ready transaction meets a limit, or is a REFRAGMENT
   pub is_full : (statement : Statement) → IsTextOf db.schemas text (Run statement) → (txn : Txn) (machines : Machines) (past : List (Deed (language db))) (told : refusals.Refusal) → IsReady db fits (txn_name txn) machines past →
-      IsRefused db machines.table (call.State txn text) told → IsRefragment db.schemas text told ⊎ ((told ≡ told_as.Full) × StatesPastLimits db machines.table txn text)
+      IsRefused db machines.later machines.table (call.State txn text) told → IsRefragment db.schemas text told ⊎ ((told ≡ told_as.Full) × StatesPastLimits db machines.table txn text)
   is_full statement spelled txn machines past told ready refused = ⊎_elim
       (λ stays. absurd (no_refusal refused_as (refusal (State (machines.table.version, statement)) (txn_in db machines.table txn)) told (at_rest db fits txn machines past (State (machines.table.version, statement)) refl ready) stays))
       (λ rest. ⊎_elim (⊎_elim (λ unread. absurd (is_read statement spelled told unread)) (λ refragment. inl refragment)) (λ full. inr full) rest.1)

@@ -76,10 +76,10 @@ pub in_force_on : (db : Database) (n m : ℕ) (was now : List (List ℕ) × List
 in_force_on db n m was now same kept is = ap db.catalogue same ∙ is ∙ ap catalogue_of (sym kept)
 
 -- why nothing begins: nobody moves, so only at a limit, and for want of memory
-pub begin_refused : {T : Type 0} (db : Database) (kept : DeskContent) (table : VolatileState) → Fits db kept table → ((t : Name) → is_moving ((desk_of db table).txn t) ≡ false) → (result : Result T Refusal) → IfErr result (λ told. (told ≡ refusals.Memory) ⊎ (told ≡ refusals.Full) ⊎ (told ≡ refusals.NotAlone)) →
-    (result ≡ Err refusals.Full → is_desk_within (desk_began (desk_of db table)) ≡ false) → (result ≡ Err refusals.NotAlone → anyone_moves table ≡ true) → IfErr result (λ told. (told ≡ refusals.Memory) ⊎ IsRefused db table calls.Begin told)
-begin_refused db kept table fits still (Ok out) own full alone = tt
-begin_refused db kept table fits still (Err told) own full alone = ⊎_elim (λ memory. inl memory) (⊎_elim (λ is. inr (is, full (ap Err is))) (λ is. clash (alone (ap Err is)) nobody)) own
+pub begin_refused : {T : Type 0} (db : Database) (later : List (List (List ℕ) × List SplitRelation)) (kept : DeskContent) (table : VolatileState) → Fits db kept table → ((t : Name) → is_moving ((desk_of db table).txn t) ≡ false) → (result : Result T Refusal) → IfErr result (λ told. (told ≡ refusals.Memory) ⊎ (told ≡ refusals.Full) ⊎ (told ≡ refusals.NotAlone)) →
+    (result ≡ Err refusals.Full → is_desk_within (desk_began (desk_of db table)) ≡ false) → (result ≡ Err refusals.NotAlone → anyone_moves table ≡ true) → IfErr result (λ told. (told ≡ refusals.Memory) ⊎ IsRefused db later table calls.Begin told)
+begin_refused db later kept table fits still (Ok out) own full alone = tt
+begin_refused db later kept table fits still (Err told) own full alone = ⊎_elim (λ memory. inl memory) (⊎_elim (λ is. inr (is, full (ap Err is))) (λ is. clash (alone (ap Err is)) nobody)) own
   where
     none : (txns : List Txn) → list_any (λ txn. desk_moving (table.standing txn)) txns ≡ false
     none [] = refl

@@ -29,6 +29,7 @@ module _ (txn : Txn) (P : List Move → Type 0) (rolls_back : (heard : List Noti
   back_cases (Refuses (call.Rollback t) told ∷ []) same = subst (λ (of : Txn). P (Refuses (call.Rollback of) told ∷ [])) (sym same) (is_left told)
   back_cases (Refuses (call.Rollback t) told ∷ (move ∷ moves)) none = absurd none
   back_cases (Refuses (call.GiveUp t) told ∷ moves) none = absurd none
+  back_cases (Refuses (call.Refragment asked) told ∷ moves) none = absurd none
 
 -- a lone statement of which this was told is decided
 module _ (txn : Txn) (told : List Notice) (reply : Result (List Notice) Refusal) (P : List Move → Type 0) (ended : tells is_end told ≡ true → reply ≡ Ok (autocommit_reply told) → P [])
@@ -46,6 +47,7 @@ module _ (txn : Txn) (told : List Notice) (reply : Result (List Notice) Refusal)
   decided_cases (Refuses (call.Commit t) why ∷ back) is = subst (λ (of : Txn). P (Refuses (call.Commit of) why ∷ back)) (sym is.0) (refused why back is.1 is.2 is.3)
   decided_cases (Refuses (call.Rollback t) why ∷ moves) none = absurd none
   decided_cases (Refuses (call.GiveUp t) why ∷ moves) none = absurd none
+  decided_cases (Refuses (call.Refragment asked) why ∷ moves) none = absurd none
 
 -- it is stated, after its transaction has begun
 module _ (text : List ℕ) (txn : Txn) (greeted : List Notice) (reply : Result (List Notice) Refusal) (P : List Move → Type 0) (states : (answered : List Notice) (moves : List Move) → IsDecided txn (greeted ++ answered) moves reply → P (States txn text answered ∷ moves))
@@ -61,6 +63,7 @@ module _ (text : List ℕ) (txn : Txn) (greeted : List Notice) (reply : Result (
   stated_cases (Refuses (call.Commit t) why ∷ moves) none = absurd none
   stated_cases (Refuses (call.Rollback t) why ∷ moves) none = absurd none
   stated_cases (Refuses (call.GiveUp t) why ∷ moves) none = absurd none
+  stated_cases (Refuses (call.Refragment asked) why ∷ moves) none = absurd none
 
 -- a lone statement
 module _ (text : List ℕ) (reply : Result (List Notice) Refusal) (P : List Move → Type 0) (begins : (txn : Txn) (greeted : List Notice) (moves : List Move) → IsStated text txn greeted moves reply → P (Begins txn greeted ∷ moves))
@@ -77,6 +80,7 @@ module _ (text : List ℕ) (reply : Result (List Notice) Refusal) (P : List Move
   lone_cases (Refuses (call.Commit t) why ∷ moves) none = absurd none
   lone_cases (Refuses (call.Rollback t) why ∷ moves) none = absurd none
   lone_cases (Refuses (call.GiveUp t) why ∷ moves) none = absurd none
+  lone_cases (Refuses (call.Refragment asked) why ∷ moves) none = absurd none
 
 -- any command
 module _ (schemas : List RelationSchema) (text : List ℕ) (current later : Option Txn) (reply : Result (List Notice) Refusal) (P : List Move → Type 0) (at_once : later ≡ current → (told : Refusal) → reply ≡ Err told → IsMisplaced schemas text current told → P [])

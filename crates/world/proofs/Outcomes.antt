@@ -150,16 +150,17 @@ module _ (db : Database) (fits : Place → Content → Bool) (reached : ReachedL
         (λ why says made. finds_no_number why says (after_none ∙ sym none) made.1.0.0 none (inr (statement, spelled)) (numbers_run_out db before past served.fit (as_open None none) made.1.0.1))
 
     -- a single call is refused
-    call_refused : (moves : List Move) (made : Made db moves before after) (asked : calls.Call) (told : refusals.Refusal) → reply ≡ Err told → later ≡ current → IsCallOf db.schemas text current asked → IsRefused db before.table asked told → Comes moves made
+    call_refused : (moves : List Move) (made : Made db moves before after) (asked : calls.Call) (told : refusals.Refusal) → reply ≡ Err told → later ≡ current → IsCallOf db.schemas text current asked → IsRefused db before.later before.table asked told → Comes moves made
     call_refused moves made call.Begin told says still is refused = finds_no_number told says still refused.0 is.1 (inl is.0) (numbers_run_out db before past served.fit (as_open None is.1) refused.1)
     call_refused moves made (call.State txn given) told says still is refused =
         ⊎_elim
         (λ refragment. is_refragment_inside told says still txn is.1 refragment)
         (λ full. is_too_much told says still full.0 txn is.1 full.1)
-        (is_full db fits one text is.0.0 is.0.1 txn before past told (as_open (Some txn) is.1) (subst (λ (x : List ℕ). IsRefused db before.table (call.State txn x) told) is.2 refused))
+        (is_full db fits one text is.0.0 is.0.1 txn before past told (as_open (Some txn) is.1) (subst (λ (x : List ℕ). IsRefused db before.later before.table (call.State txn x) told) is.2 refused))
     call_refused moves made (call.Commit txn) told says still is refused = absurd (no_commit db fits txn before past told (as_open (Some txn) is.1) refused)
     call_refused moves made (call.Rollback txn) told says still is refused = absurd (no_rollback db fits txn before past told (as_open (Some txn) is.1) refused)
     call_refused moves made (call.GiveUp txn) told says still is refused = absurd is
+    call_refused moves made (call.Refragment asked) told says still is refused = absurd is
 
     pub command_comes : (moves : List Move) → IsCommand db.schemas text current later moves reply → (made : Made db moves before after) → Comes moves made
     command_comes = command_cases db.schemas text current later reply (λ moves. (made : Made db moves before after) → Comes moves made)

@@ -103,7 +103,7 @@ by_desk_err P (Err refusal) result is holds = subst (λ r. IfErr r P) (sym is) h
 -- ---- events
 module _ (Sound : Type 0) (db : Database) (before after : Machines) (entries : List Entry) where
   -- a call of a client
-  pub call_refused : (done : Result Out Refusal) (asked : Call) → IfErr done (λ why. (why ≡ refusals.Memory) ⊎ IsRefused db before.table asked why) →
+  pub call_refused : (done : Result Out Refusal) (asked : Call) → IfErr done (λ why. (why ≡ refusals.Memory) ⊎ IsRefused db before.later before.table asked why) →
       IfErr done (λ why. IsRefusedFor Sound db before after entries (event.Call asked) (fault.Desk why))
   call_refused (Ok out) asked why = tt
   call_refused (Err told) asked why = ⊎_elim (λ memory. inl (ap fault.Desk memory)) (λ refused. inr (inr (told, (refl, refused)))) why

@@ -1,23 +1,26 @@
 -- Why the coordinator refuses a statement doesn't hang on the statement.
-use Rattle.std.proofs.Common.{◌≡◌, refl, sym, ap, ◌∙◌, subst, ℕ, false, List, [], None, Result, Ok, Err, IfErr, ◌⊎◌, inl, inr, ⊎_elim}
+use Rattle.std.proofs.Common.{◌≡◌, ◌≢◌, refl, sym, ap, ◌∙◌, subst, ℕ, true, false, List, [], None, Result, Ok, Err, IfErr, IfOk, OnOk, ◌⊎◌, inl, inr, ⊎_elim}
 use Rattle.std.specs.Option.{option_map}
 use Rattle.meaning.specs.declared.statement.Statement.{Statement}
 use Rattle.meaning.specs.declared.statement.Statement.TheVariants as statements
 use Rattle.catalog.specs.declared.relation.SplitRelation.{SplitRelation}
 use Rattle.meaning.specs.declared.schema.RelationSchema.{RelationSchema}
+use Rattle.catalog.specs.Catalogue.{Catalogue}
 use Rattle.catalog.specs.FragmentLeaf.{schemas_of}
 use Rattle.catalog.specs.Relation.{catalogue_of}
 use Rattle.store.specs.declared.name.Txn as names
 use Rattle.protocol.specs.Letters.{txn_name}
-use Rattle.protocol.specs.Desk.{is_moving, Idle, Known, Reading, Row, Stage, State, Txn, Unknown, Voting, Writing, refusal, refusal_at}
+use Rattle.protocol.specs.Desk.{is_moving, Idle, Known, Reading, Row, Stage, State, Txn, Unknown, Voting, Writing, began_as, is_desk_within, refusal, refusal_at}
 use Rattle.protocol.specs.Language.{Lang, Name}
 use Rattle.desk.specs.declared.refusal.Refusal.{Refusal}
-use Rattle.desk.specs.declared.refusal.Refusal.TheVariants.{Full, Memory}
+use Rattle.desk.specs.declared.refusal.Refusal.TheVariants.{Full, Memory, NoNext, NotAlone}
 use Rattle.desk.specs.Request.{WhyNotStated, refused_as, txn_in}
 use Rattle.desk.proofs.Raised.{moving_is}
 use Rattle.protocol.proofs.Basics.{clash}
 use Rattle.desk.specs.Database.{Database}
 use Rattle.desk.specs.Does.{IsNoStatement, StatesPastLimits}
+use Rattle.desk.specs.OfCatalogue.{InForce, first_in}
+use Rattle.desk.specs.Refragmented.{FindsNoNext, IsNoRefragment}
 use Rattle.desk.specs.State.{VolatileState, desk_of}
 use Rattle.world.specs.declared.event.Call.TheVariants as call
 use Rattle.world.specs.Refused.{IsRefused}
@@ -46,12 +49,12 @@ abbrev Told : (db : Database) → VolatileState → names.Txn → List ℕ → L
 Told db table txn text catalog s told = (told ≡ Memory) ⊎ WhyNotStated db table txn s told
     ⊎ ((refusal (State (table.version, s)) (txn_in db table txn) ≡ None) × (IsNoStatement (schemas_of (catalogue_of catalog)) text told ⊎ (told ≡ Full)))
 
-pub statement_refused : {T : Type 0} (db : Database) (table : VolatileState) (txn : names.Txn) (text : List ℕ) (catalog : List (List ℕ) × List SplitRelation) → db.schemas ≡ schemas_of (catalogue_of catalog) → (result : Result T Refusal) →
-    ((t : Name) → is_moving ((desk_of db table).txn t) ≡ false) → ((s : Statement) → IfErr result (Told db table txn text catalog s)) → (result ≡ Err Full → StatesPastLimits db table txn text) → IfErr result (λ told. (told ≡ Memory) ⊎ IsRefused db table (call.State txn text) told)
-statement_refused db table txn text catalog is (Ok out) still all past = tt
-statement_refused {T} db table txn text catalog is (Err told) still all past = go (all some)
+pub statement_refused : {T : Type 0} (db : Database) (later : List (List (List ℕ) × List SplitRelation)) (table : VolatileState) (txn : names.Txn) (text : List ℕ) (catalog : List (List ℕ) × List SplitRelation) → db.schemas ≡ schemas_of (catalogue_of catalog) → (result : Result T Refusal) →
+    ((t : Name) → is_moving ((desk_of db table).txn t) ≡ false) → ((s : Statement) → IfErr result (Told db table txn text catalog s)) → (result ≡ Err Full → StatesPastLimits db table txn text) → IfErr result (λ told. (told ≡ Memory) ⊎ IsRefused db later table (call.State txn text) told)
+statement_refused db later table txn text catalog is (Ok out) still all past = tt
+statement_refused {T} db later table txn text catalog is (Err told) still all past = go (all some)
   where
-    go : Told db table txn text catalog some told → (told ≡ Memory) ⊎ IsRefused db table (call.State txn text) told
+    go : Told db table txn text catalog some told → (told ≡ Memory) ⊎ IsRefused db later table (call.State txn text) told
     go (inl memory) = inl memory
     go (inr (inl (inr moving))) = clash (moving_is db (table.standing txn) ∙ moving.0) (still (txn_name txn))
     go (inr (inl (inl refused))) = inr (λ s. inl (ap (option_map refused_as) (same_refusal (table.version, s) (table.version, some) (txn_in db table txn)) ∙ refused))
@@ -61,3 +64,26 @@ statement_refused {T} db table txn text catalog is (Err told) still all past = g
           (λ unread. inl (subst (λ (schemas : List RelationSchema). IsNoStatement schemas text told) (sym is) unread))
           (λ full. inr (full, past (ap Err full))) late.1,
     ))
+
+-- what doesn't hold is said of no result
+pub unless_ok : {T E : Type 0} {P : T → Type 0} {Q : Type 0} (result : Result T E) → (Q → ⊥) → OnOk result Q → IfOk result P
+unless_ok (Ok x) never q = absurd (never q)
+unless_ok (Err e) never q = tt
+
+-- why a REFRAGMENT is refused, as the coordinator's contract says it
+pub refragment_refused : {T : Type 0} (db : Database) (later : List (List (List ℕ) × List SplitRelation)) (table : VolatileState) (catalog : List (List ℕ) × List SplitRelation) → InForce db table.version catalog → db.schemas ≡ schemas_of (db.catalogue table.version) → (text : List ℕ) (result : Result T Refusal) →
+    IfErr result (λ told. (told ≡ Memory) ⊎ (told ≡ Full) ⊎ (told ≡ NotAlone) ⊎ (told ≡ NoNext) ⊎ IsNoRefragment (schemas_of (catalogue_of catalog)) text told) → (result ≡ Err NotAlone → table.txns ≢ []) →
+    (result ≡ Err NoNext → FindsNoNext (catalogue_of catalog) (schemas_of (catalogue_of catalog)) (first_in later) text) → (result ≡ Err Full → is_desk_within (began_as true (desk_of db table)) ≡ false) →
+    IfErr result (λ told. (told ≡ Memory) ⊎ IsRefused db later table (call.Refragment text) told)
+refragment_refused db later table catalog is own text (Ok out) why alone none full = tt
+refragment_refused db later table catalog is own text (Err told) why alone none full = go why
+  where
+    schemas : schemas_of (catalogue_of catalog) ≡ db.schemas
+    schemas = sym (own ∙ ap schemas_of is)
+
+    go : (told ≡ Memory) ⊎ (told ≡ Full) ⊎ (told ≡ NotAlone) ⊎ (told ≡ NoNext) ⊎ IsNoRefragment (schemas_of (catalogue_of catalog)) text told → (told ≡ Memory) ⊎ IsRefused db later table (call.Refragment text) told
+    go (inl memory) = inl memory
+    go (inr (inl past)) = inr (inr (inr (inl (past, full (ap Err past)))))
+    go (inr (inr (inl beside))) = inr (inl (beside, alone (ap Err beside)))
+    go (inr (inr (inr (inl last)))) = inr (inr (inl (last, subst (λ (ss : List RelationSchema). FindsNoNext (db.catalogue table.version) ss (first_in later) text) schemas (subst (λ (c : Catalogue). FindsNoNext c (schemas_of (catalogue_of catalog)) (first_in later) text) (sym is) (none (ap Err last))))))
+    go (inr (inr (inr (inr unread)))) = inr (inr (inr (inr (subst (λ (ss : List RelationSchema). IsNoRefragment ss text told) schemas unread))))

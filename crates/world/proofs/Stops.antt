@@ -13,6 +13,7 @@ use Rattle.desk.specs.declared.refusal.Refusal.{Refusal}
 use Rattle.desk.specs.declared.refusal.Refusal.TheVariants.{Aborted, Busy, Chain, Ended, Full, Memory, NoNext, NoTransaction, NotAlone, Read, Store}
 use Rattle.desk.specs.Request.{refused_as}
 use Rattle.desk.specs.Does.{IsNoStatement}
+use Rattle.desk.specs.Refragmented.{IsNoRefragment}
 use Rattle.desk.specs.declared.reply.Notice.{Notice}
 use Rattle.world.specs.declared.fault.Fault.TheVariants as fault
 use Rattle.world.specs.declared.transaction.Came.{Came}
@@ -63,6 +64,13 @@ full_stops before after told is = subst (StopsFor before after) (sym is) tt
 
 pub begin_stops : (before after : List ℕ) (told : Refusal) → (told ≡ Memory) ⊎ (told ≡ Full) ⊎ (told ≡ NotAlone) → StopsFor before after told
 begin_stops before after told = ⊎_elim (memory_stops before after told) (⊎_elim (full_stops before after told) (λ is. subst (StopsFor before after) (sym is) tt))
+
+pub refragment_stops : (before after : List ℕ) (schemas : List RelationSchema) (text : List ℕ) (told : Refusal) → (told ≡ Memory) ⊎ (told ≡ Full) ⊎ (told ≡ NotAlone) ⊎ (told ≡ NoNext) ⊎ IsNoRefragment schemas text told → StopsFor before after told
+refragment_stops before after schemas text told (inl memory) = memory_stops before after told memory
+refragment_stops before after schemas text told (inr (inl full)) = full_stops before after told full
+refragment_stops before after schemas text told (inr (inr (inl is))) = subst (StopsFor before after) (sym is) tt
+refragment_stops before after schemas text told (inr (inr (inr (inl is)))) = subst (StopsFor before after) (sym is) tt
+refragment_stops before after schemas text told (inr (inr (inr (inr unread)))) = subst (StopsFor before after) (sym unread.is) tt
 
 pub limit_stops : (before after : List ℕ) (told : Refusal) → (told ≡ Memory) ⊎ (told ≡ Full) → StopsFor before after told
 limit_stops before after told = ⊎_elim (memory_stops before after told) (full_stops before after told)

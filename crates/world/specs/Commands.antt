@@ -98,6 +98,7 @@ IsCallOf schemas text current (call.State txn stated) = ((statement : Statement)
 IsCallOf schemas text current (call.Commit txn) = IsTextOf schemas text command.Commit × (current ≡ Some txn)
 IsCallOf schemas text current (call.Rollback txn) = IsTextOf schemas text command.Rollback × (current ≡ Some txn)
 IsCallOf schemas text current (call.GiveUp txn) = ⊥
+IsCallOf schemas text current (call.Refragment asked) = ⊥
 
 -- the moves of a command, and its reply: it makes none; it makes this call, and its client hears what is told of it, or why it is refused; or it is a lone statement
 pub data IsCommand (schemas : List RelationSchema) (text : List ℕ) (current later : Option Txn) (moves : List Move) (reply : Result (List Notice) refusals.Refusal) : Type 0 where

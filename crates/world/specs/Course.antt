@@ -52,7 +52,7 @@ module _ (db : Database) where
   Moves (States txn text heard) before after = DoesState db text txn before after heard
   Moves (Commits txn heard) before after = DoesAsk db Commit_call txn before after heard
   Moves (Rolls_back txn heard) before after = DoesAsk db Rollback txn before after heard
-  Moves (Refuses asked told) before after = IsRefused db before.table asked told × IsStill db before after
+  Moves (Refuses asked told) before after = IsRefused db before.later before.table asked told × IsStill db before after
 
   -- a call is refused: memory ran out or a store failed, which stops the database, or as the coordinator refuses it, and then nothing has been done
   abbrev pub IsTurnedDown : calls.Call → Machines → Machines → Refusal → Type 0

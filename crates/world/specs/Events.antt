@@ -2,7 +2,9 @@
 use Rattle.std.specs.Prelude.{◌≡◌, ℕ, nat_eq, Bool, true, false, not, List, Option, Some, None, slice_get}
 use Rattle.std.specs.Cmp.Lexicographic.{pointwise}
 use Rattle.std.specs.List.{list_any}
+use Rattle.meaning.specs.declared.statement.Refragment.{Refragment}
 use Rattle.meaning.specs.declared.statement.Statement.{Statement}
+use Rattle.meaning.specs.declared.statement.Statement.TheVariants as statements
 use Rattle.reader.specs.declared.command.Command.TheVariants as command
 use Rattle.reader.specs.Command.{IsTextOf}
 use Rattle.store.specs.declared.letter.Letter.{Letter}
@@ -23,6 +25,7 @@ IsEvent db n (event.Call (call.State txn text)) kept e = (statement : Statement)
 IsEvent db n (event.Call (call.Commit txn)) kept e = (choice : protocol.Choice (language db)) × (e ≡ world.Call (txn_name txn) protocol.Commit_call choice)
 IsEvent db n (event.Call (call.Rollback txn)) kept e = (choice : protocol.Choice (language db)) × (e ≡ world.Call (txn_name txn) protocol.Rollback choice)
 IsEvent db n (event.Call (call.GiveUp txn)) kept e = (choice : protocol.Choice (language db)) × (e ≡ world.Call (txn_name txn) protocol.Give_up choice)
+IsEvent db n (event.Call (call.Refragment text)) kept e = (refragment : Refragment) × (choice : protocol.Choice (language db)) × (IsTextOf db.schemas text (command.Run (statements.Refragment refragment)) × (e ≡ world.Refragment (n, statements.Refragment refragment) choice))
 IsEvent db n (event.Deliver number whether) kept e = (choice : protocol.Choice (language db)) × (e ≡ world.Deliver number kept choice)
 IsEvent db n (event.SiteGivesUp site ticket) kept e = e ≡ world.Site_gives_up site (name_of ticket)
 IsEvent db n (event.SiteInquires site) kept e = e ≡ world.Site_inquires site

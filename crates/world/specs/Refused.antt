@@ -1,19 +1,22 @@
 -- Why an event is refused: a call of a client by the coordinator, a letter by its machine, a restart by the machine or its store.
 pub use Rattle.site.specs.Seat.{SiteRestartTells}
 pub use Rattle.desk.specs.Recovery.{DeskRestartTells}
-use Rattle.std.specs.Prelude.{◌≡◌, ◌⊎◌, ⊤, Bool, false, true, List, Some, None, IfSome, slice_get}
+use Rattle.std.specs.Prelude.{◌≡◌, ◌≢◌, ◌⊎◌, ⊤, ℕ, Bool, false, true, List, [], Some, None, IfSome, slice_get}
 use Rattle.std.specs.Option.{option_map}
+use Rattle.catalog.specs.declared.relation.SplitRelation.{SplitRelation}
 use Rattle.store.specs.declared.letter.Letter.{Letter}
 use Rattle.site.specs.declared.fault.SiteFault as site_faults
 use Rattle.site.specs.declared.fault.SiteFault.TheVariants as site_fault
 use Rattle.meaning.specs.declared.statement.Statement.{Statement}
-use Rattle.protocol.specs.Desk.{Commit_call, Rollback, State, desk_began, is_desk_within, refusal}
+use Rattle.protocol.specs.Desk.{Commit_call, Rollback, State, began_as, desk_began, is_desk_within, refusal}
 use Rattle.desk.specs.declared.refusal.Refusal as refusals
 use Rattle.desk.specs.declared.refusal.Refusal.TheVariants as refusal_of
 use Rattle.desk.specs.declared.refusal.Refusal.TheVariants.{Full}
 use Rattle.desk.specs.Request.{refused_as, txn_in}
 use Rattle.desk.specs.Database.{Database}
 use Rattle.desk.specs.Does.{IsNoStatement, StatesPastLimits}
+use Rattle.desk.specs.OfCatalogue.{first_in}
+use Rattle.desk.specs.Refragmented.{FindsNoNext, IsNoRefragment}
 use Rattle.desk.specs.State.{VolatileState, desk_of}
 use Rattle.world.specs.declared.sites.SiteAction as doing
 use Rattle.world.specs.declared.sites.SiteAction.TheVariants as things
@@ -33,14 +36,17 @@ use Rattle.world.specs.Sites.{Seat, seat_of}
 use Rattle.world.specs.Stopping.{StopsFor}
 use Rattle.world.specs.Taking.{stop_of}
 
--- want of memory aside: as the protocol refuses it of this coordinator, the limits on beginnings among that, or a statement's text is read as no statement's, or leads past a limit
-abbrev pub IsRefused : (db : Database) → VolatileState → calls.Call → refusals.Refusal → Type 0
-IsRefused db table call.Begin told = (told ≡ Full) × (is_desk_within (desk_began (desk_of db table)) ≡ false)
-IsRefused db table (call.State txn text) told = (statement : Statement) → (option_map refused_as (refusal (State (table.version, statement)) (txn_in db table txn)) ≡ Some told) ⊎
+-- want of memory aside: as the protocol refuses it of this coordinator, the limits on beginnings among that, or a statement's text is read as no statement's, or leads past a limit; a REFRAGMENT isn't alone,
+-- or no catalogue comes next by its relation. later: the catalogues that come after the one in force
+abbrev pub IsRefused : (db : Database) → List (List (List ℕ) × List SplitRelation) → VolatileState → calls.Call → refusals.Refusal → Type 0
+IsRefused db later table call.Begin told = (told ≡ Full) × (is_desk_within (desk_began (desk_of db table)) ≡ false)
+IsRefused db later table (call.State txn text) told = (statement : Statement) → (option_map refused_as (refusal (State (table.version, statement)) (txn_in db table txn)) ≡ Some told) ⊎
     ((refusal (State (table.version, statement)) (txn_in db table txn) ≡ None) × (IsNoStatement db.schemas text told ⊎ ((told ≡ Full) × StatesPastLimits db table txn text)))
-IsRefused db table (call.Commit txn) told = option_map refused_as (refusal Commit_call (txn_in db table txn)) ≡ Some told
-IsRefused db table (call.Rollback txn) told = option_map refused_as (refusal Rollback (txn_in db table txn)) ≡ Some told
-IsRefused db table (call.GiveUp txn) told = ⊥
+IsRefused db later table (call.Commit txn) told = option_map refused_as (refusal Commit_call (txn_in db table txn)) ≡ Some told
+IsRefused db later table (call.Rollback txn) told = option_map refused_as (refusal Rollback (txn_in db table txn)) ≡ Some told
+IsRefused db later table (call.GiveUp txn) told = ⊥
+IsRefused db later table (call.Refragment text) told = ((told ≡ refusal_of.NotAlone) × (table.txns ≢ [])) ⊎ ((told ≡ refusal_of.NoNext) × FindsNoNext (db.catalogue table.version) db.schemas (first_in later) text)
+    ⊎ ((told ≡ Full) × (is_desk_within (began_as true (desk_of db table)) ≡ false)) ⊎ IsNoRefragment db.schemas text told
 
 -- why something isn't done at a site: giving up a visit never fails, and inquiries need memory alone; of letters nothing is said here
 abbrev pub PlaceTells : (Sound Refused : Type 0) → doing.SiteAction → Bool → Seat → site_faults.SiteFault → Type 0
@@ -51,7 +57,7 @@ PlaceTells Sound Refused (things.Restart place) kept seat told = SiteRestartTell
 
 -- The reason of an event's own kind for its refusal. A letter's machine says why it isn't taken, and names its store only where that refused or wasn't to be called (kept is false)
 abbrev pub HasOwnReason : (Sound : Type 0) (db : Database) (before after : Machines) → List Entry → events.Event → faults.Fault → Type 0
-HasOwnReason Sound db before after entries (event.Call asked) told = (refused : refusals.Refusal) × ((told ≡ fault.Desk refused) × IsRefused db before.table asked refused)
+HasOwnReason Sound db before after entries (event.Call asked) told = (refused : refusals.Refusal) × ((told ≡ fault.Desk refused) × IsRefused db before.later before.table asked refused)
 HasOwnReason Sound db before after entries (event.Deliver number kept) told =
     (letter : Letter) × (slice_get (letters_in entries) number ≡ Some letter) × Tells db before letter told × (Sound → (kept ≡ false) ⊎ IfSome (stop_of told) (StopsFor before.refused after.refused))
 HasOwnReason Sound db before after entries (event.SiteGivesUp place ticket) told = ⊥

@@ -19,6 +19,9 @@ pub enum Call {
     Rollback(Txn),
     /// A transaction is given up.
     GiveUp(Txn),
+    /// A relation gets the split of the next catalogue, by the text of the REFRAGMENT: a transaction of its own begins and states
+    /// that.
+    Refragment(Text),
 }
 
 /// Something that happens. Where a flag `kept` is false, the store call that the event makes isn't made,
@@ -54,6 +57,7 @@ impl TryCopy for Call {
             Call::Commit(txn) => Ok(Call::Commit(*txn)),
             Call::Rollback(txn) => Ok(Call::Rollback(*txn)),
             Call::GiveUp(txn) => Ok(Call::GiveUp(*txn)),
+            Call::Refragment(text) => Ok(Call::Refragment(text.copy()?)),
         }
     }
 }

@@ -10,6 +10,7 @@
 
 mod autocommit;
 mod batch;
+pub mod chain;
 mod client;
 pub mod committed;
 pub mod event;

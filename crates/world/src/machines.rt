@@ -57,7 +57,7 @@ pub struct Machines<D: DeskStore, S: SiteStore> {
 }
 
 impl<D: DeskStore, S: SiteStore> Machines<D, S> {
-    ghost use Rattle.std.specs.Prelude.{◌≡◌, ◌≢◌, ◌⊎◌, ℕ, List, false, true, Some, Err, IfOk, IfErr, IfSome, OnOk, OnErr};
+    ghost use Rattle.std.specs.Prelude.{◌≡◌, ◌≢◌, ◌⊎◌, ℕ, List, [], false, true, Some, Err, IfOk, IfErr, IfSome, OnOk, OnErr};
     ghost use Rattle.protocol.specs.Desk.{Choice, Commit_call, Give_up, Rollback, desk_began, is_desk_within};
     ghost use Rattle.desk.specs.State.{desk_of, volatile_of};
     ghost use Rattle.desk.specs.declared.refusal.Refusal.TheVariants as refusals;
@@ -94,7 +94,7 @@ impl<D: DeskStore, S: SiteStore> Machines<D, S> {
         ensures within { (db : Database) → IsOver db self.old.desk.catalog.0 → AreFit db (held D.kept S.kept self.old)
             → IfOk result (λ out. is_desk_within (desk_began (desk_of db (held D.kept S.kept self.old).table)) ≡ true) }
         ensures full { (db : Database) → IsOver db self.old.desk.catalog.0 → AreFit db (held D.kept S.kept self.old)
-            → IfErr result (λ told. (told ≡ refusals.Memory) ⊎ IsRefused db (volatile_of self.old.desk.volatile) calls.Begin told) }
+            → IfErr result (λ told. (told ≡ refusals.Memory) ⊎ IsRefused db self.old.desk.later.items (volatile_of self.old.desk.volatile) calls.Begin told) }
         ensures uncalled { CallsNoStore self.old self.new }
         ensures blames { IfErr result (StopsFor (counts D.refused S.refused self.old) (counts D.refused S.refused self.new)) }
         ensures err { OnErr result (held D.kept S.kept self.new ≡ held D.kept S.kept self.old) }
@@ -107,7 +107,7 @@ impl<D: DeskStore, S: SiteStore> Machines<D, S> {
         ensures leaves { LeavesMachines D.is_clean S.is_clean D.is_sound S.is_sound D.refused S.refused self.old self.new }
         ensures ok { (db : Database) (choice : Choice (language db)) → IsOver db self.old.desk.catalog.0 → AreFit db (held D.kept S.kept self.old)
             → IfOk result (λ out. Asked db txn choice Commit_call (held D.kept S.kept self.old) (held D.kept S.kept self.new) out.letters out.replies) }
-        ensures told { (db : Database) → IfErr result (λ told. (told ≡ refusals.Memory) ⊎ IsRefused db (volatile_of self.old.desk.volatile) (calls.Commit txn) told) }
+        ensures told { (db : Database) → IfErr result (λ told. (told ≡ refusals.Memory) ⊎ IsRefused db self.old.desk.later.items (volatile_of self.old.desk.volatile) (calls.Commit txn) told) }
         ensures uncalled { CallsNoStore self.old self.new }
         ensures blames { IfErr result (StopsFor (counts D.refused S.refused self.old) (counts D.refused S.refused self.new)) }
         ensures err { OnErr result (held D.kept S.kept self.new ≡ held D.kept S.kept self.old) }
@@ -120,7 +120,7 @@ impl<D: DeskStore, S: SiteStore> Machines<D, S> {
         ensures leaves { LeavesMachines D.is_clean S.is_clean D.is_sound S.is_sound D.refused S.refused self.old self.new }
         ensures ok { (db : Database) (choice : Choice (language db)) → IsOver db self.old.desk.catalog.0 → AreFit db (held D.kept S.kept self.old)
             → IfOk result (λ out. Asked db txn choice Rollback (held D.kept S.kept self.old) (held D.kept S.kept self.new) out.letters out.replies) }
-        ensures told { (db : Database) → IfErr result (λ told. (told ≡ refusals.Memory) ⊎ IsRefused db (volatile_of self.old.desk.volatile) (calls.Rollback txn) told) }
+        ensures told { (db : Database) → IfErr result (λ told. (told ≡ refusals.Memory) ⊎ IsRefused db self.old.desk.later.items (volatile_of self.old.desk.volatile) (calls.Rollback txn) told) }
         ensures uncalled { CallsNoStore self.old self.new }
         ensures blames { IfErr result (StopsFor (counts D.refused S.refused self.old) (counts D.refused S.refused self.new)) }
         ensures err { OnErr result (held D.kept S.kept self.new ≡ held D.kept S.kept self.old) }
@@ -159,12 +159,25 @@ impl<D: DeskStore, S: SiteStore> Machines<D, S> {
         ensures ok { (db : Database) → IsOfCatalogue db → InForce db self.old.desk.volatile.version self.old.desk.catalog → AreFit db (held D.kept S.kept self.old)
             → IfOk result (λ out. Stated db txn text.now (held D.kept S.kept self.old) (held D.kept S.kept self.new) out.letters out.replies) }
         ensures told { (db : Database) → IsOfCatalogue db → InForce db self.old.desk.volatile.version self.old.desk.catalog → AreFit db (held D.kept S.kept self.old)
-            → IfErr result (λ told. (told ≡ refusals.Memory) ⊎ IsRefused db (volatile_of self.old.desk.volatile) (calls.State txn text.now) told) }
+            → IfErr result (λ told. (told ≡ refusals.Memory) ⊎ IsRefused db self.old.desk.later.items (volatile_of self.old.desk.volatile) (calls.State txn text.now) told) }
         ensures uncalled { CallsNoStore self.old self.new }
         ensures blames { IfErr result (StopsFor (counts D.refused S.refused self.old) (counts D.refused S.refused self.new)) }
         ensures err { OnErr result (held D.kept S.kept self.new ≡ held D.kept S.kept self.old) }
     {
         self.desk.statement(txn, text)
+    }
+
+    /// A relation gets the split of the next catalogue, by the text of the REFRAGMENT: a transaction of its own begins and states that.
+    pub(crate) fn refragment(&mut self, text: &str) -> Result<Out, Refusal>
+        ensures leaves { LeavesMachines D.is_clean S.is_clean D.is_sound S.is_sound D.refused S.refused self.old self.new }
+        ensures next { OnOk result (self.old.desk.later.items ≢ []) }
+        ensures told { (db : Database) → IsOfCatalogue db → InForce db self.old.desk.volatile.version self.old.desk.catalog → AreFit db (held D.kept S.kept self.old)
+            → IfErr result (λ told. (told ≡ refusals.Memory) ⊎ IsRefused db self.old.desk.later.items (volatile_of self.old.desk.volatile) (calls.Refragment text.now) told) }
+        ensures uncalled { CallsNoStore self.old self.new }
+        ensures blames { IfErr result (StopsFor (counts D.refused S.refused self.old) (counts D.refused S.refused self.new)) }
+        ensures err { OnErr result (held D.kept S.kept self.new ≡ held D.kept S.kept self.old) }
+    {
+        self.desk.refragment(text)
     }
 
     /// A letter of a site comes.
@@ -330,7 +343,7 @@ fn call<D: DeskStore, S: SiteStore>(
     ensures ok { (db : Database) (whole : Relations) (entries : List EntryNow) (past : List (Deed (language db))) → IsOfCatalogue db → InForce db machines.old.desk.volatile.version machines.old.desk.catalog
         → IsRun db whole (held D.kept S.kept machines.old) entries past → IfOk result (λ out. StepsOn db whole (held D.kept S.kept machines.old) (held D.kept S.kept machines.new) entries (entries ++ entry_of (events.Call call.now) out ∷ []) past) }
     ensures refused { (db : Database) → IsOfCatalogue db → InForce db machines.old.desk.volatile.version machines.old.desk.catalog → AreFit db (held D.kept S.kept machines.old)
-        → IfErr result (λ told. (told ≡ refusals.Memory) ⊎ IsRefused db (volatile_of machines.old.desk.volatile) call.now told) }
+        → IfErr result (λ told. (told ≡ refusals.Memory) ⊎ IsRefused db machines.old.desk.later.items (volatile_of machines.old.desk.volatile) call.now told) }
     ensures uncalled { CallsNoStore machines.old machines.new }
     ensures err { OnErr result (held D.kept S.kept machines.new ≡ held D.kept S.kept machines.old) }
 {
@@ -340,6 +353,7 @@ fn call<D: DeskStore, S: SiteStore>(
         Call::Commit(txn) => machines.commit(*txn),
         Call::Rollback(txn) => machines.rollback(*txn),
         Call::GiveUp(txn) => machines.give_up(*txn),
+        Call::Refragment(text) => machines.refragment(text.as_str()),
     }
 }
 

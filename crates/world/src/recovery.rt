@@ -1,7 +1,7 @@
 //! A database comes up over stores that are given: over new ones it is empty, and over those of an earlier run it
 //! goes on from what they kept.
 
-ghost use Rattle.std.specs.Prelude.{◌≡◌, [], ◌∷◌, length, map, IfOk, IfErr, OnOk};
+ghost use Rattle.std.specs.Prelude.{◌≡◌, [], length, map, IfOk, IfErr, OnOk};
 ghost use Rattle.std.specs.List.{AllByRecursion};
 ghost use Rattle.catalog.specs.Relation.{catalogue_of};
 ghost use Rattle.site.specs.Fault.{StopsStart};
@@ -14,6 +14,7 @@ ghost use Rattle.world.specs.Seated.{seats_in};
 ghost use Rattle.world.specs.Settled.{AreDecided};
 ghost use Rattle.world.specs.Sites.{IsSeated};
 
+use crate::chain::alone;
 use crate::fault::Fault;
 use crate::machines::Machines;
 use crate::mailbox::deliver_all;
@@ -21,7 +22,6 @@ use crate::rebuild::decided;
 use crate::site_leaves::known_leaves;
 use crate::traffic::Traffic;
 use catalog::catalogue::Catalog;
-use catalog::chain::Chain;
 use desk::desk::Desk;
 use desk::refusal::Refusal;
 use desk::reply::Out;
@@ -73,18 +73,6 @@ pub(crate) fn sites_up<S: SiteStore + Drop>(
         sites.push(site)?;
     }
     Ok(sites)
-}
-
-/// The chain of this catalogue alone.
-pub(crate) fn alone(alloc: Global, catalog: &Catalog) -> Result<Chain, Memory>
-    ensures { IfOk result (λ chain. map catalogue_of chain ≡ catalogue_of catalog.now ∷ []) }
-{
-    let mut catalogs = Vec::new(alloc);
-    catalogs.push(catalog.copy()?)?;
-    match Chain::new(catalogs) {
-        Ok(chain) => Ok(chain),
-        Err(_) => unreachable!(),
-    }
 }
 
 /// The machines of a database come up over these stores: those of its sites, in the catalogue's order, and the

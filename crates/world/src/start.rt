@@ -26,9 +26,10 @@ ghost use Rattle.store.specs.Content.{made_by};
 ghost use Rattle.world.specs.Filling.{filled, kept_with};
 ghost use Rattle.world.specs.Leaves.{known_leaves};
 
+use crate::chain::alone;
 use crate::fault::Fault;
 use crate::machines::Machines;
-use crate::recovery::{alone, machines_up};
+use crate::recovery::machines_up;
 use crate::site_leaves::known_leaves;
 use crate::traffic::Traffic;
 use catalog::catalogue::Catalog;

@@ -42,3 +42,6 @@ returns-in_err-txn-clause-full c = λ db kept fits full.
 
 pub returns-then-not-is_alone-clause-alone : goal.returns-then-not-is_alone-clause-alone
 returns-then-not-is_alone-clause-alone c = λ alone none. c.is_alone.ensures.no c.if-not-is_alone.true (no_keys _ none)
+
+pub returns-clause-next : goal.returns-clause-next
+returns-clause-next c = let yes = c.is_next.ensures.yes c.if-not-is_next.false in λ none. (let never = sym yes.1 ∙ none in cc)

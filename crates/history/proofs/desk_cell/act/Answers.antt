@@ -1,7 +1,8 @@
 -- Why what the coordinator is called for is a move of it.
-use Rattle.std.proofs.Common.{◌≡◌, ap, sym, subst, ℕ, true, IfOk, List}
+use Rattle.std.proofs.Common.{◌≡◌, ◌==◌, ap, sym, subst, ℕ, true, IfOk, List}
 use Rattle.desk.specs.Receive.{is_strange}
 use Rattle.desk.specs.State.{volatile_of}
+use Rattle.world.proofs.OneCatalogue.{no_next, single_stays}
 use Rattle.world.proofs.Running.{over_of}
 use Rattle.history.specs.declared.entry.Input.{Input}
 use Rattle.history.specs.declared.entry.Input.TheVariants as input
@@ -11,32 +12,38 @@ use Rattle.history.proofs.DeskMachine.{desk_same, restart_accepts, take_accepts,
 use Rattle.history.proofs.desk_cell.act.Goals as goal
 
 pub returns-in-Call-clause-ok : goal.returns-in-Call-clause-ok
-returns-in-Call-clause-ok g c = λ db of is clean sound fit.
+returns-in-Call-clause-ok g c = λ db single of is clean sound fit.
     let kept = g.D.DeskStore.kept in
     let before = desk_from kept c.args.desk.now in
     let after = desk_from kept c.ask.new.desk in
     subst (λ (asked : Input). IfOk c.by_desk.result (λ out. (number : ℕ) → DeskAccepts db before (accepted number asked out) after)) (sym c.in-Call.is)
-    (told_accepts db before after c.ask.result (input.Call c.in-Call.call) c.by_desk.result c.by_desk.ensures (c.ask.ensures.ok db of is fit))
+    (told_accepts db before after c.ask.result (input.Call c.in-Call.call) c.by_desk.result c.by_desk.ensures (c.ask.ensures.ok db single of is fit))
 
 pub returns-in-Take-clause-ok : goal.returns-in-Take-clause-ok
-returns-in-Take-clause-ok g c = λ db of is clean sound fit.
+returns-in-Take-clause-ok g c = λ db single of is clean sound fit.
     let kept = g.D.DeskStore.kept in
     let old = c.args.desk.now in
     let new = c.take.new.self in
     let letter = c.in-Take.letter in
-    let takes = c.take.ensures.takes in
+    let takes = c.take.ensures.takes.takes in
     let sites = (over_of db _ old.catalog of is).sites in
     let so : is_strange db.sites letter ≡ true → is_strange old.catalog.0 letter ≡ true = λ strange. subst (λ (those : List (List ℕ)). is_strange those letter ≡ true) sites strange in
     told_accepts db (desk_from kept old) (desk_from kept new) c.take.result c.args.input.now c.by_desk-in-Take.result c.by_desk-in-Take.ensures
     (take_accepts db (desk_from kept old) (desk_from kept new) c.take.result letter c.args.input.now c.in-Take.is fit
     (λ strange. let still = (takes.strange (so strange)).1 in desk_same kept old new still.1 (ap volatile_of still.0)) (λ strange. takes.silent (so strange))
-    (λ reply said here. takes.ok db reply of is tt clean sound fit.fits said here))
+    (λ reply said here. takes.ok db reply of is (no_next db old.volatile.version old.later.items single) clean sound fit.fits said here))
 
 pub returns-in-Restart-clause-ok : goal.returns-in-Restart-clause-ok
-returns-in-Restart-clause-ok g c = λ db of is clean sound fit.
+returns-in-Restart-clause-ok g c = λ db single of is clean sound fit.
     let kept = g.D.DeskStore.kept in
     let old = c.args.desk.now in
     let new = c.restart.new.self in
     let restarts = c.restart.ensures.restarts in
     told_accepts db (desk_from kept old) (desk_from kept new) c.restart.result c.args.input.now c.by_desk-in-Restart.result c.by_desk-in-Restart.ensures
     (restart_accepts db (desk_from kept old) (desk_from kept new) c.restart.result c.args.input.now c.in-Restart.is (restarts.ok db (over_of db _ old.catalog of is) clean fit.fits) restarts.says_kept)
+
+pub returns-in-Take-clause-catalogs : goal.returns-in-Take-clause-catalogs
+returns-in-Take-clause-catalogs g c =
+    let old = c.args.desk.now in
+    let new = c.take.new.self in
+    single_stays old.catalog new.catalog old.later.items new.later.items (new.volatile.version == old.volatile.version) c.take.ensures.takes.catalogs

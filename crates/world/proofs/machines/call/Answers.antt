@@ -17,6 +17,7 @@ use Rattle.world.specs.Contents.{held}
 use Rattle.world.specs.Machines.{world_of}
 use Rattle.world.specs.Refused.{IsRefused}
 use Rattle.world.specs.Runs.{StepsOn, entry_of}
+use Rattle.world.proofs.Refusing.{unless_ok}
 use Rattle.world.proofs.SiteSteps.{if_both, if_ok}
 use Rattle.world.proofs.Reasoned.{no_choice}
 use Rattle.world.proofs.Running.{called_on, over_of, runs_on}
@@ -79,18 +80,27 @@ returns-in-State-clause-ok g c = λ db whole entries past of is so.
 
 pub returns-in-Begin-clause-refused : goal.returns-in-Begin-clause-refused
 returns-in-Begin-clause-refused g c = λ db of is fit.
-    subst (λ (asked : calls.Call). IfErr c.begin.result (λ told. (told ≡ refusals.Memory) ⊎ IsRefused db (volatile_of c.args.machines.now.desk.volatile) asked told)) (sym c.in-Begin.is)
+    subst (λ (asked : calls.Call). IfErr c.begin.result (λ told. (told ≡ refusals.Memory) ⊎ IsRefused db c.args.machines.now.desk.later.items (volatile_of c.args.machines.now.desk.volatile) asked told)) (sym c.in-Begin.is)
     (c.begin.ensures.full db (over_of db _ c.args.machines.now.desk.catalog of is) fit)
 
 pub returns-in-State-clause-refused : goal.returns-in-State-clause-refused
 returns-in-State-clause-refused g c = λ db of is fit.
-    subst (λ (asked : calls.Call). IfErr c.statement.result (λ told. (told ≡ refusals.Memory) ⊎ IsRefused db (volatile_of c.args.machines.now.desk.volatile) asked told)) (sym c.in-State.is)
-    (subst (λ text. IfErr c.statement.result (λ told. (told ≡ refusals.Memory) ⊎ IsRefused db (volatile_of c.args.machines.now.desk.volatile) (call.State c.in-State.txn text) told)) c.as_str.ensures (c.statement.ensures.told db of is fit))
+    subst (λ (asked : calls.Call). IfErr c.statement.result (λ told. (told ≡ refusals.Memory) ⊎ IsRefused db c.args.machines.now.desk.later.items (volatile_of c.args.machines.now.desk.volatile) asked told)) (sym c.in-State.is)
+    (subst (λ text. IfErr c.statement.result (λ told. (told ≡ refusals.Memory) ⊎ IsRefused db c.args.machines.now.desk.later.items (volatile_of c.args.machines.now.desk.volatile) (call.State c.in-State.txn text) told)) c.as_str.ensures (c.statement.ensures.told db of is fit))
 
 pub returns-in-Commit-clause-refused : goal.returns-in-Commit-clause-refused
 returns-in-Commit-clause-refused g c = λ db of is fit.
-    subst (λ (asked : calls.Call). IfErr c.commit.result (λ told. (told ≡ refusals.Memory) ⊎ IsRefused db (volatile_of c.args.machines.now.desk.volatile) asked told)) (sym c.in-Commit.is) (c.commit.ensures.told db)
+    subst (λ (asked : calls.Call). IfErr c.commit.result (λ told. (told ≡ refusals.Memory) ⊎ IsRefused db c.args.machines.now.desk.later.items (volatile_of c.args.machines.now.desk.volatile) asked told)) (sym c.in-Commit.is) (c.commit.ensures.told db)
 
 pub returns-in-Rollback-clause-refused : goal.returns-in-Rollback-clause-refused
 returns-in-Rollback-clause-refused g c = λ db of is fit.
-    subst (λ (asked : calls.Call). IfErr c.rollback.result (λ told. (told ≡ refusals.Memory) ⊎ IsRefused db (volatile_of c.args.machines.now.desk.volatile) asked told)) (sym c.in-Rollback.is) (c.rollback.ensures.told db)
+    subst (λ (asked : calls.Call). IfErr c.rollback.result (λ told. (told ≡ refusals.Memory) ⊎ IsRefused db c.args.machines.now.desk.later.items (volatile_of c.args.machines.now.desk.volatile) asked told)) (sym c.in-Rollback.is) (c.rollback.ensures.told db)
+
+-- where no catalogue comes next no relation gets another split
+pub returns-in-Refragment-clause-ok : goal.returns-in-Refragment-clause-ok
+returns-in-Refragment-clause-ok g c = λ db whole entries past of is so. unless_ok c.refragment.result (λ next. next so.fit.single) c.refragment.ensures.next
+
+pub returns-in-Refragment-clause-refused : goal.returns-in-Refragment-clause-refused
+returns-in-Refragment-clause-refused g c = λ db of is fit.
+    subst (λ (asked : calls.Call). IfErr c.refragment.result (λ told. (told ≡ refusals.Memory) ⊎ IsRefused db c.args.machines.now.desk.later.items (volatile_of c.args.machines.now.desk.volatile) asked told)) (sym c.in-Refragment.is)
+    (subst (λ text. IfErr c.refragment.result (λ told. (told ≡ refusals.Memory) ⊎ IsRefused db c.args.machines.now.desk.later.items (volatile_of c.args.machines.now.desk.volatile) (call.Refragment text) told)) c.as_str.ensures (c.refragment.ensures.told db of is fit))

@@ -1,5 +1,5 @@
 -- Why the coordinator's first history replays.
-use Rattle.std.proofs.Common.{subst, ℕ, List}
+use Rattle.std.proofs.Common.{◌∙◌, subst, ℕ, List}
 use Rattle.catalog.specs.declared.relation.SplitRelation.{SplitRelation}
 use Rattle.catalog.specs.Relation.{catalogue_of}
 use Rattle.desk.specs.CatalogueDatabase.{IsBase, database}
@@ -12,4 +12,4 @@ invariant_of-result g c =
     let told = c.in-Ok.ensures in
     let base = subst (λ (catalog : List (List ℕ) × List SplitRelation). IsBase (database (catalogue_of catalog))) c.catalog.ensures c.database_is_of_catalogue.ensures in
     desk_opens D.is_clean D.is_sound D.refused D.kept c.in-Ok.opening c.new.result.items c.args.desk c.kept.new.self
-    c.new.ensures.items told.leaves_store told.memory told.catalog told.learnt told.all told.same c.requires.rises base
+    c.new.ensures.items told.leaves_store told.memory told.catalog told.learnt told.all told.same c.requires.rises base (told.later ∙ c.requires.single)

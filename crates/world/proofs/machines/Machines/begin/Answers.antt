@@ -23,7 +23,7 @@ returns-clause-within g c = λ db over fit. if_ok c.begin.result (λ out begun. 
 
 pub returns-clause-full : goal.returns-clause-full
 returns-clause-full g c = λ db over fit.
-    begin_refused db (g.D.DeskStore.kept c.args.self.now.desk.store) (volatile_of c.args.self.now.desk.volatile) fit.desk fit.still c.begin.result c.begin.ensures.own (λ full. c.begin.ensures.full db over fit.desk full) c.begin.ensures.alone
+    begin_refused db c.args.self.now.desk.later.items (g.D.DeskStore.kept c.args.self.now.desk.store) (volatile_of c.args.self.now.desk.volatile) fit.desk fit.still c.begin.result c.begin.ensures.own (λ full. c.begin.ensures.full db over fit.desk full) c.begin.ensures.alone
 
 pub returns-clause-blames : goal.returns-clause-blames
 returns-clause-blames g c = if_err c.begin.result (begin_stops (counts g.D.DeskStore.refused g.S.SiteStore.refused c.args.self.now) (g.D.DeskStore.refused c.begin.new.self.store ∷ counts_of g.S.SiteStore.refused c.args.self.now.sites.items)) c.begin.ensures.own

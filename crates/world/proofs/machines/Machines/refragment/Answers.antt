@@ -1,0 +1,28 @@
+-- Why `refragment` meets its contract.
+use Rattle.std.proofs.Common.{◌∷◌, rules, ap, sym, inl, inr, ⊎_elim}
+use Rattle.catalog.specs.FragmentLeaf.{schemas_of}
+use Rattle.catalog.specs.Relation.{catalogue_of}
+use Rattle.desk.specs.State.{volatile_of}
+use Rattle.world.specs.Counted.{counts, counts_of}
+use Rattle.world.proofs.Counting.{none_fewer}
+use Rattle.world.proofs.Refusing.{if_err, refragment_refused}
+use Rattle.world.proofs.Stops.{refragment_stops}
+use Rattle.world.proofs.machines.Machines.refragment.Goals as goal
+
+pub returns-clause-told : goal.returns-clause-told
+returns-clause-told g c = λ db of is fit.
+    let old = c.args.self.now.desk in
+    let asked = c.refragment.ensures.refragments in
+    refragment_refused db old.later.items (volatile_of old.volatile) old.catalog is (of.schemas _) c.args.text.now c.refragment.result asked.own asked.alone asked.none (asked.full db fit.desk)
+
+pub returns-clause-blames : goal.returns-clause-blames
+returns-clause-blames g c = if_err c.refragment.result (refragment_stops (counts g.D.DeskStore.refused g.S.SiteStore.refused c.args.self.now) (g.D.DeskStore.refused c.refragment.new.self.store ∷ counts_of g.S.SiteStore.refused c.args.self.now.sites.items) (schemas_of (catalogue_of c.args.self.now.desk.catalog)) c.args.text.now) c.refragment.ensures.refragments.own
+
+pub returns-clause-leaves : goal.returns-clause-leaves
+returns-clause-leaves g c = record {
+  clean = search rules;
+  sound = search rules;
+  counts = none_fewer (counts g.D.DeskStore.refused g.S.SiteStore.refused c.args.self.now) (g.D.DeskStore.refused c.refragment.new.self.store ∷ counts_of g.S.SiteStore.refused c.args.self.now.sites.items)
+      (ap (λ store. g.D.DeskStore.refused store ∷ counts_of g.S.SiteStore.refused c.args.self.now.sites.items) c.refragment.ensures.refragments.plainly.store);
+  catalogs = search rules;
+}
