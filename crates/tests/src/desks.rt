@@ -2,10 +2,9 @@
 
 use crate::catalogues::{EMP_AND_DEPT, EMP_BY_ROWS};
 use crate::letters::{letter_of_site, part_of, text_of, txn};
-use crate::refragments::refragment;
 use crate::told::{Again, TRIES, Told, joined};
 use catalog::catalogue::Catalog;
-use desk::coordinator::Coordinator;
+use catalog::chain::Chain;
 use desk::desk::Desk;
 use desk::refusal::Refusal;
 use desk::reply::{Notice, Out, Reply, Why};
@@ -34,32 +33,23 @@ enum Call<'a> {
     Restart,
 }
 
-fn make<S: DeskStore>(
-    alloc: Global,
-    coordinator: &mut Coordinator<S>,
-    call: &Call,
-) -> Result<Out, Refusal> {
-    let desk = &mut coordinator.desk;
+fn make<S: DeskStore>(desk: &mut Desk<S>, call: &Call) -> Result<Out, Refusal> {
     match call {
         Call::Begin => desk.begin(),
-        Call::Refragment(text) => refragment(alloc, coordinator, text),
+        Call::Refragment(text) => desk.refragment(text),
         Call::State(txn, text) => desk.statement(*txn, text),
         Call::Commit(txn) => desk.commit(*txn),
         Call::Rollback(txn) => desk.rollback(*txn),
         Call::GiveUp(txn) => desk.give_up(*txn),
-        Call::Take(letter) => coordinator.take(letter),
+        Call::Take(letter) => desk.take(letter),
         Call::Restart => desk.restart(),
     }
 }
 
 /// Makes a call, once more where memory ran out.
-fn make_call<S: DeskStore>(
-    alloc: Global,
-    coordinator: &mut Coordinator<S>,
-    call: &Call,
-) -> Result<Out, Refusal> {
-    match make(alloc, coordinator, call) {
-        Err(Refusal::Memory) => make(alloc, coordinator, call),
+fn make_call<S: DeskStore>(desk: &mut Desk<S>, call: &Call) -> Result<Out, Refusal> {
+    match make(desk, call) {
+        Err(Refusal::Memory) => make(desk, call),
         other => other,
     }
 }
@@ -73,23 +63,24 @@ fn put_refusal(told: &mut Told, refusal: Refusal) -> Result<bool, Memory> {
     Ok(told.again.store && matches!(refusal, Refusal::Store(_)))
 }
 
+/// The chain of two catalogues.
+fn chain(alloc: Global) -> Result<Chain, Memory> {
+    let mut catalogs = Vec::new(alloc);
+    catalogs.push(Catalog::read(alloc, EMP_AND_DEPT).map_err(|_| Memory)?)?;
+    catalogs.push(Catalog::read(alloc, EMP_BY_ROWS).map_err(|_| Memory)?)?;
+    Chain::new(catalogs).map_err(|_| Memory)
+}
+
 /// Starts a coordinator, with one more catalogue that comes next.
-fn start<S: DeskStore + Drop>(
-    alloc: Global,
-    told: &mut Told,
-    store: S,
-) -> Result<Coordinator<S>, Memory> {
+fn start<S: DeskStore + Drop>(alloc: Global, told: &mut Told, store: S) -> Result<Desk<S>, Memory> {
     told.line("start")?;
-    let mut catalog = Catalog::read(alloc, EMP_AND_DEPT).map_err(|_| Memory)?;
-    let mut later = Vec::new(alloc);
-    later.push(Catalog::read(alloc, EMP_BY_ROWS).map_err(|_| Memory)?)?;
+    let chain = chain(alloc)?;
     let mut store = store;
     for _ in 0..TRIES {
-        match Desk::start(alloc, catalog, store) {
-            Ok(desk) => return Ok(Coordinator::new(desk, later)),
+        match Desk::start(alloc, &chain, store) {
+            Ok(desk) => return Ok(desk),
             Err(unstarted) => {
                 put_refusal(told, unstarted.refusal)?;
-                catalog = unstarted.catalog;
                 store = unstarted.store;
             }
         }
@@ -150,9 +141,9 @@ fn put_row(told: &mut String, row: &CommitRow) -> Result<(), Memory> {
 }
 
 /// Tells the commit rows.
-fn show<S: DeskStore>(told: &mut Told, coordinator: &mut Coordinator<S>) -> Result<(), Memory> {
+fn show<S: DeskStore>(told: &mut Told, desk: &mut Desk<S>) -> Result<(), Memory> {
     for _ in 0..TRIES {
-        match coordinator.desk.kept() {
+        match desk.kept() {
             Ok(kept) => {
                 for row in kept.commits.as_slice() {
                     put_row(&mut told.text, row)?;
@@ -197,11 +188,11 @@ fn call_of<'a>(
 fn answer<S: DeskStore>(
     alloc: Global,
     told: &mut Told,
-    coordinator: &mut Coordinator<S>,
+    desk: &mut Desk<S>,
     asked: &Call,
 ) -> Result<(), Memory> {
     for _ in 0..TRIES {
-        let is_again = match make(alloc, coordinator, asked) {
+        let is_again = match make(desk, asked) {
             Ok(out) => put_out(alloc, told, &out)?,
             Err(refusal) => put_refusal(told, refusal)?,
         };
@@ -216,7 +207,7 @@ fn answer<S: DeskStore>(
 fn play_line<S: DeskStore>(
     alloc: Global,
     told: &mut Told,
-    coordinator: &mut Coordinator<S>,
+    desk: &mut Desk<S>,
     rows: &mut Vec<Part>,
     line: &str,
 ) -> Result<(), Memory> {
@@ -225,10 +216,10 @@ fn play_line<S: DeskStore>(
         rows.push(part_of(alloc, part)?)?;
     } else if line == "rows" {
         told.line(line)?;
-        show(told, coordinator)?;
+        show(told, desk)?;
     } else if let Some(asked) = call_of(alloc, line, rows)? {
         told.line(line)?;
-        answer(alloc, told, coordinator, &asked)?;
+        answer(alloc, told, desk, &asked)?;
     }
     Ok(())
 }
@@ -242,12 +233,11 @@ pub(crate) fn played<S: DeskStore + Drop>(
     again: Again,
 ) -> Result<(String, S), Memory> {
     let mut told = Told::new(alloc, again);
-    let mut coordinator = start(alloc, &mut told, store)?;
+    let mut desk = start(alloc, &mut told, store)?;
     let mut rows = Vec::new(alloc);
     for line in script.lines() {
-        play_line(alloc, &mut told, &mut coordinator, &mut rows, line)?;
+        play_line(alloc, &mut told, &mut desk, &mut rows, line)?;
     }
-    let (desk, _later) = coordinator.into_parts();
     Ok((told.text, desk.into_store()))
 }
 
@@ -457,20 +447,14 @@ fn begins(alloc: Global) -> Result<bool, Memory> {
     let mut told = Told::new(alloc, Again::ALL);
     let mut desk = start(alloc, &mut told, PlainDesk::new(alloc))?;
     for _ in 0..UNDECIDED_MOST {
-        if make_call(alloc, &mut desk, &Call::Begin).is_err() {
+        if make_call(&mut desk, &Call::Begin).is_err() {
             return Ok(false);
         }
     }
-    let full = matches!(
-        make_call(alloc, &mut desk, &Call::Begin),
-        Err(Refusal::Full)
-    );
-    let given_up = make_call(alloc, &mut desk, &Call::GiveUp(txn("T7"))).is_ok();
-    let room = make_call(alloc, &mut desk, &Call::Begin).is_ok();
-    let full_again = matches!(
-        make_call(alloc, &mut desk, &Call::Begin),
-        Err(Refusal::Full)
-    );
+    let full = matches!(make_call(&mut desk, &Call::Begin), Err(Refusal::Full));
+    let given_up = make_call(&mut desk, &Call::GiveUp(txn("T7"))).is_ok();
+    let room = make_call(&mut desk, &Call::Begin).is_ok();
+    let full_again = matches!(make_call(&mut desk, &Call::Begin), Err(Refusal::Full));
     Ok(full && given_up && room && full_again)
 }
 

@@ -1,43 +1,8 @@
 //! A relation gets the split of the next catalogue: what its coordinator puts out, line by line.
 
-ghost use Rattle.std.specs.Prelude.{IfOk};
-ghost use Rattle.meaning.specs.Statement.{IsStatementOf};
-ghost use Rattle.meaning.specs.declared.statement.Statement.TheVariants as statements;
-ghost use Rattle.catalog.specs.FragmentLeaf.{schemas_of};
-ghost use Rattle.catalog.specs.Relation.{catalogue_of};
-
 use crate::desks::plays;
-use catalog::catalogue::Catalog;
-use desk::coordinator::Coordinator;
-use desk::refusal::Refusal;
-use desk::reply::Out;
-use meaning::statement::{Refragment, Statement};
-use reader::command::Command;
-use reader::read::read;
 use std::alloc::Global;
 use std::test::*;
-use store::desk_store::DeskStore;
-
-/// The REFRAGMENT of a text.
-fn refragment_of(alloc: Global, catalog: &Catalog, text: &str) -> Result<Refragment, Refusal>
-    ensures { IfOk result (λ refragment. IsStatementOf (schemas_of (catalogue_of catalog.now)) (statements.Refragment refragment)) }
-{
-    match read(alloc, text, catalog.schema()) {
-        Ok(Command::Run(Statement::Refragment(refragment))) => Ok(refragment),
-        Ok(_) => Err(Refusal::Busy),
-        Err(_) => Err(Refusal::Memory),
-    }
-}
-
-/// A relation gets the split that the next catalogue has for it.
-pub(crate) fn refragment<S: DeskStore>(
-    alloc: Global,
-    coordinator: &mut Coordinator<S>,
-    text: &str,
-) -> Result<Out, Refusal> {
-    let refragment = refragment_of(alloc, coordinator.desk.catalog(), text)?;
-    coordinator.refragment(&refragment)
-}
 
 /// A relation that was split by columns and rows is split by rows alone: its parts move, and nothing begins beside it.
 const MOVES: &str = "start

@@ -23,7 +23,7 @@ use Rattle.world.specs.Commands.{IsCommand, IsLone, IsTakenBack, IsUnreadable, T
 use Rattle.world.specs.Counted.{counts}
 use Rattle.world.specs.Contents.{OfStores, counted}
 use Rattle.world.specs.Course.{IsOne, IsTurnedDown, Move, Moves, Refuses}
-use Rattle.world.specs.Frame.{Blames, ComesTo, HasMade, LeavesMachines, MakesMoves, OverDatabase, StaysServed}
+use Rattle.world.specs.Frame.{Blames, ComesTo, HasMade, LeavesDatabase, MakesMoves, OverDatabase, StaysServed}
 use Rattle.world.specs.Machines.{Machines}
 use Rattle.world.specs.Stopping.{StopsFor, is_stop}
 use Rattle.world.proofs.Counting.{no_fewer, no_fewer_then}
@@ -196,7 +196,7 @@ module _ {D S : Type 0} (desk_is_clean : D → Type 0) (site_is_clean : S → Ty
   one_move db move asked before after (Err told) none (inl stops) = inl stops
   one_move db move asked before after (Err told) none (inr refused) = inr (record { moves = Refuses asked told ∷ []; made = (after, refused, refl); is = refl })
 
-  pub one_call : {T : Type 0} (move : T → Move) (asked : calls.Call) (old new : code.Machines D S) (result : Result T Refusal) → LeavesMachines desk_is_clean site_is_clean desk_is_sound site_is_sound desk_refused site_refused old new →
+  pub one_call : {T : Type 0} (move : T → Move) (asked : calls.Call) (old new : code.Machines D S) (result : Result T Refusal) → LeavesDatabase desk_is_clean site_is_clean desk_is_sound site_is_sound desk_refused site_refused old new →
       Blames IsClean IsSound (counts desk_refused site_refused) old new result → StaysServed IsClean IsSound view old new → OverDatabase IsClean IsSound view old new (λ db before after. IfOk result (λ x. Moves db (move x) before after)) →
       OverDatabase IsClean IsSound view old new (λ db before after. IfErr result (IsTurnedDown db asked before after)) → ComesTo IsClean IsSound view old new result (λ db. IsOne move asked)
   one_call move asked old new result leaves blames served ok denied = record {
@@ -210,5 +210,5 @@ module _ {D S : Type 0} (desk_is_clean : D → Type 0) (site_is_clean : S → Ty
   }
 
   -- what it leaves
-  pub leaves_of : {T : Type 0} {K : Kind T} (old new : code.Machines D S) (result : Result T Refusal) → ComesTo IsClean IsSound view old new result K → LeavesMachines desk_is_clean site_is_clean desk_is_sound site_is_sound desk_refused site_refused old new
+  pub leaves_of : {T : Type 0} {K : Kind T} (old new : code.Machines D S) (result : Result T Refusal) → ComesTo IsClean IsSound view old new result K → LeavesDatabase desk_is_clean site_is_clean desk_is_sound site_is_sound desk_refused site_refused old new
   leaves_of old new result comes = record { clean = comes.clean; sound = comes.sound; counts = comes.counts; catalogs = comes.catalogs }

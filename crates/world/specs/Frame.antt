@@ -22,8 +22,16 @@ abbrev pub SameCatalogs : {D S : Type 0} → (code.Machines D S → List (List (
 SameCatalogs later old new = later old ≡ [] → (new.desk.catalog ≡ old.desk.catalog) × (later new ≡ [])
 
 -- what a call leaves of the machines, whatever it answers: stores that are clean now were clean, sound ones stay sound, no refusal is
--- forgotten, and the catalogue is the same where none comes after it
+-- forgotten, and the catalogues are the same
 pub record LeavesMachines {D S : Type 0} (desk_is_clean : D → Type 0) (site_is_clean : S → Type 0) (desk_is_sound : D → Type 0) (site_is_sound : S → Type 0) (desk_refused : D → ℕ) (site_refused : S → ℕ) (old new : code.Machines D S) : Type 0 where
+  pub clean : OfStores desk_is_clean site_is_clean new → OfStores desk_is_clean site_is_clean old
+  pub sound : OfStores desk_is_clean site_is_clean new → OfStores desk_is_sound site_is_sound old → OfStores desk_is_sound site_is_sound new
+  pub counts : AllZip (λ (count now : ℕ). count ≤ now) (counts desk_refused site_refused old) (counts desk_refused site_refused new)
+  pub catalog : new.desk.catalog ≡ old.desk.catalog
+  pub later : new.desk.later.items ≡ old.desk.later.items
+
+-- so a call by which letters may come: the catalogue is the same where none comes after it
+pub record LeavesDatabase {D S : Type 0} (desk_is_clean : D → Type 0) (site_is_clean : S → Type 0) (desk_is_sound : D → Type 0) (site_is_sound : S → Type 0) (desk_refused : D → ℕ) (site_refused : S → ℕ) (old new : code.Machines D S) : Type 0 where
   pub clean : OfStores desk_is_clean site_is_clean new → OfStores desk_is_clean site_is_clean old
   pub sound : OfStores desk_is_clean site_is_clean new → OfStores desk_is_sound site_is_sound old → OfStores desk_is_sound site_is_sound new
   pub counts : AllZip (λ (count now : ℕ). count ≤ now) (counts desk_refused site_refused old) (counts desk_refused site_refused new)

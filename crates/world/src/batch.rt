@@ -10,7 +10,7 @@ ghost use Rattle.world.specs.declared.transaction.End.TheVariants as end;
 ghost use Rattle.world.specs.declared.transaction.Came.TheVariants.{Heard, Refused};
 ghost use Rattle.world.specs.Batch.{Makes, MakesMore, RunsAll, RunsOne, StopsAt, calls_of, calls_of_end, has_ended};
 ghost use Rattle.world.specs.Counted.{counts};
-ghost use Rattle.world.specs.Frame.{HasMade, LeavesMachines, OverDatabase, RunsTo, StaysServed};
+ghost use Rattle.world.specs.Frame.{HasMade, LeavesDatabase, OverDatabase, RunsTo, StaysServed};
 ghost use Rattle.world.specs.Contents.{OfStores, counted};
 ghost use Rattle.world.specs.Stopping.{StopsFor, is_stop};
 
@@ -212,7 +212,7 @@ pub(crate) fn run_all<D: DeskStore, S: SiteStore>(
     machines: &mut Machines<D, S>,
     transactions: &[Transaction],
 ) -> Result<Vec<Outcome>, Stop>
-    ensures leaves { LeavesMachines D.is_clean S.is_clean D.is_sound S.is_sound D.refused S.refused machines.old machines.new }
+    ensures leaves { LeavesDatabase D.is_clean S.is_clean D.is_sound S.is_sound D.refused S.refused machines.old machines.new }
     ensures blames { OfStores D.is_clean S.is_clean machines.new → OfStores D.is_sound S.is_sound machines.old → IfErr result (λ stop. StopsFor (counts D.refused S.refused machines.old) (counts D.refused S.refused machines.new) stop.refusal) }
     ensures own { IfErr result (λ stop. is_stop stop.refusal ≡ true) }
     ensures ok { OverDatabase (OfStores D.is_clean S.is_clean) (OfStores D.is_sound S.is_sound) (counted D.kept S.kept D.refused S.refused) machines.old machines.new

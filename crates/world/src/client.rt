@@ -7,7 +7,7 @@ ghost use Rattle.world.specs.declared.event.Call.TheVariants as call;
 ghost use Rattle.world.specs.Counted.{counts};
 ghost use Rattle.world.specs.Course.{Begins, Commits, IsOne, IsTurnedDown, Rolls_back, States};
 ghost use Rattle.world.specs.Mailbox.{Serves, To_begin};
-ghost use Rattle.world.specs.Frame.{Blames, ComesTo, LeavesMachines, OverDatabase, StaysServed};
+ghost use Rattle.world.specs.Frame.{Blames, ComesTo, LeavesDatabase, OverDatabase, StaysServed};
 ghost use Rattle.world.specs.Contents.{OfStores, counted};
 
 use crate::machines::Machines;
@@ -43,7 +43,7 @@ fn named(heard: Vec<Notice>) -> Result<Begun, Refusal>
 
 /// A transaction begins. Its client hears of it.
 fn greet<D: DeskStore, S: SiteStore>(machines: &mut Machines<D, S>) -> Result<Vec<Notice>, Refusal>
-    ensures leaves { LeavesMachines D.is_clean S.is_clean D.is_sound S.is_sound D.refused S.refused machines.old machines.new }
+    ensures leaves { LeavesDatabase D.is_clean S.is_clean D.is_sound S.is_sound D.refused S.refused machines.old machines.new }
     ensures blames { Blames (OfStores D.is_clean S.is_clean) (OfStores D.is_sound S.is_sound) (counts D.refused S.refused) machines.old machines.new result }
     ensures ok { OverDatabase (OfStores D.is_clean S.is_clean) (OfStores D.is_sound S.is_sound) (counted D.kept S.kept D.refused S.refused) machines.old machines.new
         (λ db before after. IfOk result (λ heard. Serves db To_begin before after heard.items)) }

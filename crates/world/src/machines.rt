@@ -10,7 +10,7 @@ ghost use Rattle.catalog.specs.Relation.{catalogue_of};
 ghost use Rattle.protocol.specs.Desk.{Deed};
 ghost use Rattle.desk.specs.Database.{Database, language};
 ghost use Rattle.desk.specs.OfCatalogue.{InForce, IsOfCatalogue};
-ghost use Rattle.world.specs.Frame.{CallsNoStore, LeavesMachines, StaysOnErr};
+ghost use Rattle.world.specs.Frame.{CallsNoStore, LeavesDatabase, LeavesMachines, StaysOnErr};
 ghost use Rattle.world.specs.Contents.{OfStores, counted, held};
 ghost use Rattle.desk.specs.State.{volatile_of};
 ghost use Rattle.world.specs.Counted.{HaveRefused, counts};
@@ -78,7 +78,7 @@ impl<D: DeskStore, S: SiteStore> Machines<D, S> {
     ghost use Rattle.world.specs.Taking.{CameUnless, stop_of};
     ghost use Rattle.site.specs.Refusals.{AsksToKeep};
     ghost use Rattle.world.specs.EventApplied.{may_call_at};
-    ghost use Rattle.world.specs.Frame.{CallsNoStore, LeavesMachines, StaysOnErr};
+    ghost use Rattle.world.specs.Frame.{CallsNoStore, LeavesDatabase, LeavesMachines, StaysOnErr};
     ghost use Rattle.world.specs.Contents.{OfStores, held};
     ghost use Rattle.world.specs.Machines.{AreFit, Asked, Came, Leads, Stated, happens_at, is_for_site, is_of_site, is_order, world_of};
     ghost use Rattle.catalog.specs.Relation.{catalogue_of};
@@ -182,7 +182,7 @@ impl<D: DeskStore, S: SiteStore> Machines<D, S> {
 
     /// A letter of a site comes.
     fn reply(&mut self, letter: &Letter, kept: bool) -> Result<Out, Refusal>
-        ensures leaves { LeavesMachines D.is_clean S.is_clean D.is_sound S.is_sound D.refused S.refused self.old self.new }
+        ensures leaves { LeavesDatabase D.is_clean S.is_clean D.is_sound S.is_sound D.refused S.refused self.old self.new }
         ensures ok { (db : Database) → IsOfCatalogue db → InForce db self.old.desk.volatile.version self.old.desk.catalog → OfStores D.is_clean S.is_clean self.new → OfStores D.is_sound S.is_sound self.old → AreFit db (held D.kept S.kept self.old) → is_order letter.now.body ≡ false → is_of_site db letter.now ≡ true
             → IfOk result (λ out. Came db letter.now out.kept (held D.kept S.kept self.old) (held D.kept S.kept self.new) out.letters out.replies) }
         ensures told { (db : Database) → IsOfCatalogue db → InForce db self.old.desk.volatile.version self.old.desk.catalog → AreFit db (held D.kept S.kept self.old) → is_order letter.now.body ≡ false → is_of_site db letter.now ≡ true
@@ -197,7 +197,7 @@ impl<D: DeskStore, S: SiteStore> Machines<D, S> {
 
     /// A letter comes to the machine that it is for.
     pub(crate) fn deliver(&mut self, letter: Letter, kept: bool) -> Result<Out, Fault>
-        ensures leaves { LeavesMachines D.is_clean S.is_clean D.is_sound S.is_sound D.refused S.refused self.old self.new }
+        ensures leaves { LeavesDatabase D.is_clean S.is_clean D.is_sound S.is_sound D.refused S.refused self.old self.new }
         ensures ok { (db : Database) → IsOfCatalogue db → InForce db self.old.desk.volatile.version self.old.desk.catalog → OfStores D.is_clean S.is_clean self.new → OfStores D.is_sound S.is_sound self.old → AreFit db (held D.kept S.kept self.old) → is_of_site db letter ≡ true
             → IfOk result (λ out. Came db letter out.kept (held D.kept S.kept self.old) (held D.kept S.kept self.new) out.letters out.replies) }
         ensures keeps { (db : Database) → IsOfCatalogue db → InForce db self.old.desk.volatile.version self.old.desk.catalog → OfStores D.is_clean S.is_clean self.new → OfStores D.is_sound S.is_sound self.old → AreFit db (held D.kept S.kept self.old) → is_of_site db letter ≡ true
@@ -312,7 +312,7 @@ fn deliver<D: DeskStore, S: SiteStore>(
     number: usize,
     kept: bool,
 ) -> Result<Out, Fault>
-    ensures leaves { LeavesMachines D.is_clean S.is_clean D.is_sound S.is_sound D.refused S.refused machines.old machines.new }
+    ensures leaves { LeavesDatabase D.is_clean S.is_clean D.is_sound S.is_sound D.refused S.refused machines.old machines.new }
     ensures ok { (db : Database) (whole : Relations) (past : List (Deed (language db))) → IsOfCatalogue db → InForce db machines.old.desk.volatile.version machines.old.desk.catalog → OfStores D.is_clean S.is_clean machines.new → OfStores D.is_sound S.is_sound machines.old
         → IsRun db whole (held D.kept S.kept machines.old) log.now.items past → IfOk result (λ out. StepsOn db whole (held D.kept S.kept machines.old) (held D.kept S.kept machines.new) log.now.items (log.now.items ++ entry_of (events.Deliver number kept) out ∷ []) past) }
     ensures spared { (db : Database) (whole : Relations) (past : List (Deed (language db))) → IsOfCatalogue db → InForce db machines.old.desk.volatile.version machines.old.desk.catalog → OfStores D.is_clean S.is_clean machines.new → OfStores D.is_sound S.is_sound machines.old
@@ -389,7 +389,7 @@ pub(crate) fn apply_event<D: DeskStore, S: SiteStore>(
     log: &Log,
     event: &Event,
 ) -> Result<Out, Fault>
-    ensures leaves { LeavesMachines D.is_clean S.is_clean D.is_sound S.is_sound D.refused S.refused machines.old machines.new }
+    ensures leaves { LeavesDatabase D.is_clean S.is_clean D.is_sound S.is_sound D.refused S.refused machines.old machines.new }
     ensures ok { (db : Database) (whole : Relations) (past : List (Deed (language db))) → IsOfCatalogue db → InForce db machines.old.desk.volatile.version machines.old.desk.catalog → OfStores D.is_clean S.is_clean machines.new → OfStores D.is_sound S.is_sound machines.old
         → IsRun db whole (held D.kept S.kept machines.old) log.now.items past → IfOk result (λ out. StepsOn db whole (held D.kept S.kept machines.old) (held D.kept S.kept machines.new) log.now.items (log.now.items ++ entry_of event.now out ∷ []) past) }
     ensures spared { (db : Database) (whole : Relations) (past : List (Deed (language db))) → IsOfCatalogue db → InForce db machines.old.desk.volatile.version machines.old.desk.catalog → OfStores D.is_clean S.is_clean machines.new → OfStores D.is_sound S.is_sound machines.old

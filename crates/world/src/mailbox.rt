@@ -8,7 +8,7 @@ ghost use Rattle.protocol.specs.Rounds.{RanksUnder};
 ghost use Rattle.desk.specs.declared.refusal.Refusal.TheVariants as refusals;
 ghost use Rattle.world.specs.Counted.{counts};
 ghost use Rattle.world.specs.Mailbox.{Breaks, Goes, settled};
-ghost use Rattle.world.specs.Frame.{Blames, LeavesMachines, OverDatabase, StaysOnErr};
+ghost use Rattle.world.specs.Frame.{Blames, LeavesDatabase, OverDatabase, StaysOnErr};
 ghost use Rattle.world.specs.Contents.{OfStores, counted, held};
 ghost use Rattle.world.specs.Machines.{AreFit};
 ghost use Rattle.world.specs.Reasons.{Tells};
@@ -50,7 +50,7 @@ fn take<D: DeskStore, S: SiteStore>(
     machines: &mut Machines<D, S>,
     letter: Letter,
 ) -> Result<Out, Fault>
-    ensures leaves { LeavesMachines D.is_clean S.is_clean D.is_sound S.is_sound D.refused S.refused machines.old machines.new }
+    ensures leaves { LeavesDatabase D.is_clean S.is_clean D.is_sound S.is_sound D.refused S.refused machines.old machines.new }
     ensures blames { OfStores D.is_clean S.is_clean machines.new → OfStores D.is_sound S.is_sound machines.old → IfErr result (λ fault. IfSome (stop_of fault) (StopsFor (counts D.refused S.refused machines.old) (counts D.refused S.refused machines.new))) }
     ensures ok { OverDatabase (OfStores D.is_clean S.is_clean) (OfStores D.is_sound S.is_sound) (counted D.kept S.kept D.refused S.refused) machines.old machines.new
         (λ db before after. IfOk result (λ out. IsDone db letter before after out.letters out.replies)) }
@@ -70,7 +70,7 @@ fn deliver_one<D: DeskStore, S: SiteStore>(
     machines: &mut Machines<D, S>,
     letter: Letter,
 ) -> Result<Out, Refusal>
-    ensures leaves { LeavesMachines D.is_clean S.is_clean D.is_sound S.is_sound D.refused S.refused machines.old machines.new }
+    ensures leaves { LeavesDatabase D.is_clean S.is_clean D.is_sound S.is_sound D.refused S.refused machines.old machines.new }
     ensures blames { Blames (OfStores D.is_clean S.is_clean) (OfStores D.is_sound S.is_sound) (counts D.refused S.refused) machines.old machines.new result }
     ensures ok { OverDatabase (OfStores D.is_clean S.is_clean) (OfStores D.is_sound S.is_sound) (counted D.kept S.kept D.refused S.refused) machines.old machines.new
         (λ db before after. IfOk result (λ out. IsDone db letter before after out.letters out.replies)) }
@@ -134,7 +134,7 @@ fn deliver_next<D: DeskStore, S: SiteStore>(
     machines: &mut Machines<D, S>,
     post: &mut Post,
 ) -> Result<(), Refusal>
-    ensures leaves { LeavesMachines D.is_clean S.is_clean D.is_sound S.is_sound D.refused S.refused machines.old machines.new }
+    ensures leaves { LeavesDatabase D.is_clean S.is_clean D.is_sound S.is_sound D.refused S.refused machines.old machines.new }
     ensures blames { Blames (OfStores D.is_clean S.is_clean) (OfStores D.is_sound S.is_sound) (counts D.refused S.refused) machines.old machines.new result }
     ensures ok { OverDatabase (OfStores D.is_clean S.is_clean) (OfStores D.is_sound S.is_sound) (counted D.kept S.kept D.refused S.refused) machines.old machines.new
         (λ db before after. OnOk result (Goes db (λ w. w) (scene before post.old) (scene after post.new))) }
@@ -162,7 +162,7 @@ fn deliver_round<D: DeskStore, S: SiteStore>(
     machines: &mut Machines<D, S>,
     post: &mut Post,
 ) -> Result<(), Refusal>
-    ensures leaves { LeavesMachines D.is_clean S.is_clean D.is_sound S.is_sound D.refused S.refused machines.old machines.new }
+    ensures leaves { LeavesDatabase D.is_clean S.is_clean D.is_sound S.is_sound D.refused S.refused machines.old machines.new }
     ensures blames { Blames (OfStores D.is_clean S.is_clean) (OfStores D.is_sound S.is_sound) (counts D.refused S.refused) machines.old machines.new result }
     ensures ok { OverDatabase (OfStores D.is_clean S.is_clean) (OfStores D.is_sound S.is_sound) (counted D.kept S.kept D.refused S.refused) machines.old machines.new
         (λ db before after. OnOk result (Goes db (λ w. w) (scene before post.old) (scene after post.new))) }
@@ -184,7 +184,7 @@ pub(crate) fn deliver_all<D: DeskStore, S: SiteStore>(
     machines: &mut Machines<D, S>,
     out: Out,
 ) -> Result<Vec<Notice>, Refusal>
-    ensures leaves { LeavesMachines D.is_clean S.is_clean D.is_sound S.is_sound D.refused S.refused machines.old machines.new }
+    ensures leaves { LeavesDatabase D.is_clean S.is_clean D.is_sound S.is_sound D.refused S.refused machines.old machines.new }
     ensures blames { Blames (OfStores D.is_clean S.is_clean) (OfStores D.is_sound S.is_sound) (counts D.refused S.refused) machines.old machines.new result }
     ensures ok { OverDatabase (OfStores D.is_clean S.is_clean) (OfStores D.is_sound S.is_sound) (counted D.kept S.kept D.refused S.refused) machines.old machines.new
         (λ db before after. IfOk result (λ heard. Goes db (λ w. w) (put_out_by before out) (settled after heard.items))) }

@@ -7,7 +7,7 @@ ghost use Rattle.catalog.specs.Relation.{catalogue_of};
 ghost use Rattle.site.specs.Fault.{StopsStart};
 ghost use Rattle.desk.specs.Database.{Database};
 ghost use Rattle.world.specs.Contents.{OfStores, counted, held};
-ghost use Rattle.world.specs.Frame.{LeavesMachines, OverDatabase, StaysAsItIs};
+ghost use Rattle.world.specs.Frame.{LeavesDatabase, LeavesMachines, OverDatabase, StaysAsItIs};
 ghost use Rattle.world.specs.Machines.{AreFit};
 ghost use Rattle.world.specs.Recovery.{AreUp, Inquires, IsUp, MachinesUp, Recovers, StopsOpening};
 ghost use Rattle.world.specs.Seated.{seats_in};
@@ -116,7 +116,7 @@ fn inquire_all<S: SiteStore>(sites: &[Site<S>], letters: &mut Vec<Letter>) -> Re
 pub(crate) fn recover<D: DeskStore, S: SiteStore>(
     machines: &mut Machines<D, S>,
 ) -> Result<(), Fault>
-    ensures leaves { LeavesMachines D.is_clean S.is_clean D.is_sound S.is_sound D.refused S.refused machines.old machines.new }
+    ensures leaves { LeavesDatabase D.is_clean S.is_clean D.is_sound S.is_sound D.refused S.refused machines.old machines.new }
     ensures ok { OverDatabase (OfStores D.is_clean S.is_clean) (OfStores D.is_sound S.is_sound) (counted D.kept S.kept D.refused S.refused) machines.old machines.new (λ db before after. OnOk result (Recovers db before after)) }
     ensures own { IfErr result StopsOpening }
 {

@@ -21,7 +21,7 @@ ghost use Rattle.desk.specs.CatalogueDatabase.{database, fits};
 ghost use Rattle.world.specs.Counted.{counts};
 ghost use Rattle.world.specs.BatchRuns.{HasRun, WasStopped};
 ghost use Rattle.world.specs.Fault.{FailsFor, is_memory};
-ghost use Rattle.world.specs.Frame.{ComesTo, LeavesMachines, StaysAsItIs};
+ghost use Rattle.world.specs.Frame.{ComesTo, LeavesDatabase, LeavesMachines, StaysAsItIs};
 ghost use Rattle.world.specs.Contents.{OfGiven, OfStores, counted, held, unrefused};
 ghost use Rattle.world.specs.Machines.{AreFit};
 ghost use Rattle.world.specs.Executed.{Stands};
@@ -355,7 +355,7 @@ impl<D: DeskStore, S: SiteStore> Solo<D, S> {
     /// itself too, the next one finds all quiet or the open transaction ready. A refusal that stops the database, since memory ran out or
     /// the medium of a store has refused meanwhile, is the answer of every later command.
     pub fn execute(&mut self, text: &str) -> Result<Vec<Notice>, Refusal>
-        ensures leaves { LeavesMachines D.is_clean S.is_clean D.is_sound S.is_sound D.refused S.refused self.old.machines self.new.machines }
+        ensures leaves { LeavesDatabase D.is_clean S.is_clean D.is_sound S.is_sound D.refused S.refused self.old.machines self.new.machines }
         ensures executes { (whole : Relations) (past : List (Deed (language (database (catalogue_of self.old.machines.desk.catalog))))) → self.old.stopped ≡ None → OfStores D.is_clean S.is_clean self.new.machines → OfStores D.is_sound S.is_sound self.old.machines
             → IsServed (database (catalogue_of self.old.machines.desk.catalog)) whole (counted D.kept S.kept D.refused S.refused self.old.machines) past
             → UnlessStopped (λ heard. heard.items) (Executes (database (catalogue_of self.old.machines.desk.catalog)) (fits (catalogue_of self.old.machines.desk.catalog)) whole text.now self.old.current (counted D.kept S.kept D.refused S.refused self.old.machines) self.new.current (counted D.kept S.kept D.refused S.refused self.new.machines) past) result }
@@ -386,7 +386,7 @@ impl<D: DeskStore, S: SiteStore> Solo<D, S> {
     /// they do one after another over whole relations. Where memory runs out or a store fails, the transaction at that place and the
     /// database are stopped, and that is the answer of every later command. None is run while one of the client is open.
     pub fn run(&mut self, transactions: &[Transaction]) -> Result<Vec<Outcome>, Unfinished>
-        ensures leaves { LeavesMachines D.is_clean S.is_clean D.is_sound S.is_sound D.refused S.refused self.old.machines self.new.machines }
+        ensures leaves { LeavesDatabase D.is_clean S.is_clean D.is_sound S.is_sound D.refused S.refused self.old.machines self.new.machines }
         ensures ran { (whole : Relations) (entries : List EntryNow) (past : List (Deed (language (database (catalogue_of self.old.machines.desk.catalog))))) → OfStores D.is_clean S.is_clean self.new.machines → OfStores D.is_sound S.is_sound self.old.machines
             → IsServed (database (catalogue_of self.old.machines.desk.catalog)) whole (counted D.kept S.kept D.refused S.refused self.old.machines) past → Tells (database (catalogue_of self.old.machines.desk.catalog)) entries past
             → IfOk result (λ outcomes. HasRun (database (catalogue_of self.old.machines.desk.catalog)) (fits (catalogue_of self.old.machines.desk.catalog)) whole transactions.now outcomes.items (counted D.kept S.kept D.refused S.refused self.old.machines) (counted D.kept S.kept D.refused S.refused self.new.machines) entries past) }

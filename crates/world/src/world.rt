@@ -24,7 +24,7 @@ ghost use Rattle.world.specs.Events.{is_unsent};
 ghost use Rattle.world.specs.Counted.{HaveRefused, counts};
 ghost use Rattle.world.specs.Fault.{FailsFor, is_memory};
 ghost use Rattle.world.specs.Following.{Follows, FollowsAtLeast, Happens};
-ghost use Rattle.world.specs.Frame.{CallsNoStore, LeavesMachines, StaysAsItIs, StaysOnErr};
+ghost use Rattle.world.specs.Frame.{CallsNoStore, LeavesDatabase, LeavesMachines, StaysAsItIs, StaysOnErr};
 ghost use Rattle.world.specs.Contents.{OfGiven, OfStores, counted, held};
 ghost use Rattle.world.specs.Committed.{AnswerInTurn, committed_of};
 ghost use Rattle.world.specs.Machines.{AreFit, world_of};
@@ -146,7 +146,7 @@ impl<D: DeskStore, S: SiteStore> World<D, S> {
 
     /// An event happens, and has an entry, the last one from now on.
     fn happens(&mut self, event: Event) -> Result<(), Fault>
-        ensures leaves { LeavesMachines D.is_clean S.is_clean D.is_sound S.is_sound D.refused S.refused self.old.machines self.new.machines }
+        ensures leaves { LeavesDatabase D.is_clean S.is_clean D.is_sound S.is_sound D.refused S.refused self.old.machines self.new.machines }
         ensures ok { (whole : Relations) (past : List (Deed (language (database (catalogue_of self.old.machines.desk.catalog)))))
             → OfStores D.is_clean S.is_clean self.new.machines → OfStores D.is_sound S.is_sound self.old.machines
             → IsRun (database (catalogue_of self.old.machines.desk.catalog)) whole (held D.kept S.kept self.old.machines) self.old.entries.items past
@@ -185,7 +185,7 @@ impl<D: DeskStore, S: SiteStore> World<D, S> {
     /// Events apply_event one after another; one that is refused is passed over. Want of memory ends it: the answer is
     /// then how many events came before.
     pub fn run(&mut self, events: &[Event]) -> Result<(), usize>
-        ensures leaves { LeavesMachines D.is_clean S.is_clean D.is_sound S.is_sound D.refused S.refused self.old.machines self.new.machines }
+        ensures leaves { LeavesDatabase D.is_clean S.is_clean D.is_sound S.is_sound D.refused S.refused self.old.machines self.new.machines }
         ensures runs { (whole : Relations) (past : List (Deed (language (database (catalogue_of self.old.machines.desk.catalog)))))
             → OfStores D.is_clean S.is_clean self.new.machines → OfStores D.is_sound S.is_sound self.old.machines
             → IsRun (database (catalogue_of self.old.machines.desk.catalog)) whole (held D.kept S.kept self.old.machines) self.old.entries.items past
@@ -212,7 +212,7 @@ impl<D: DeskStore, S: SiteStore> World<D, S> {
 
     /// An event happens, or is refused. Without memory nothing has changed.
     fn pass(&mut self, event: &Event) -> Result<(), Memory>
-        ensures leaves { LeavesMachines D.is_clean S.is_clean D.is_sound S.is_sound D.refused S.refused self.old.machines self.new.machines }
+        ensures leaves { LeavesDatabase D.is_clean S.is_clean D.is_sound S.is_sound D.refused S.refused self.old.machines self.new.machines }
         ensures runs { (whole : Relations) (past : List (Deed (language (database (catalogue_of self.old.machines.desk.catalog)))))
             → OfStores D.is_clean S.is_clean self.new.machines → OfStores D.is_sound S.is_sound self.old.machines
             → IsRun (database (catalogue_of self.old.machines.desk.catalog)) whole (held D.kept S.kept self.old.machines) self.old.entries.items past

@@ -1,5 +1,5 @@
 -- Why `greet` meets its contract.
-use Rattle.std.proofs.Common.{rules, List, inl}
+use Rattle.std.proofs.Common.{rules, List, inl, ◌∙◌}
 use Rattle.desk.specs.Database.{language}
 use Rattle.desk.specs.declared.reply.Notice.{Notice}
 use Rattle.world.specs.Counted.{counts}
@@ -30,7 +30,7 @@ returns-in-Ok-clause-ok g c = λ db of is clean sound fit.
     let leads = leads_counted db (asked ask) before mid old new c.in-Ok.out.letters c.in-Ok.out.replies made in
     let serves : (heard : List Notice) → Goes db (λ w. w) (put_out_by (with_counts mid new) c.in-Ok.out) (settled after heard) → Serves db ask (with_counts before old) after heard = λ heard goes. call_serves db ask (with_counts before old) (with_counts mid new) c.in-Ok.out leads (none_fewer old new (uncounted g.D.DeskStore.refused g.S.SiteStore.refused c.begin.ensures.uncalled)) after heard goes in
     if_ok c.deliver_all.result (λ heard goes. serves heard.items goes)
-    (c.deliver_all.ensures.ok db of (in_force_on db _ _ _ _ leads.version (c.begin.ensures.leaves.catalogs fit.single).0 is) clean (c.begin.ensures.leaves.sound (c.deliver_all.ensures.leaves.clean clean) sound) leads.fit)
+    (c.deliver_all.ensures.ok db of (in_force_on db _ _ _ _ leads.version c.begin.ensures.leaves.catalog is) clean (c.begin.ensures.leaves.sound (c.deliver_all.ensures.leaves.clean clean) sound) leads.fit)
 
 pub returns-in-Ok-clause-served : goal.returns-in-Ok-clause-served
 returns-in-Ok-clause-served g c = λ db whole past of law is clean sound served.
@@ -43,7 +43,7 @@ returns-in-Ok-clause-served g c = λ db whole past of law is clean sound served.
     let made = c.in-Ok.ensures.ok db (over_of db _ c.args.machines.now.desk.catalog of is) (fit_uncounted db before old fit) in
     let ask : Ask (language db) = To_begin in
     let leads = leads_counted db (asked ask) before mid old new c.in-Ok.out.letters c.in-Ok.out.replies made in
-    let is_mid = in_force_on db _ _ _ _ leads.version (c.begin.ensures.leaves.catalogs fit.single).0 is in
+    let is_mid = in_force_on db _ _ _ _ leads.version c.begin.ensures.leaves.catalog is in
     let sound_mid = c.begin.ensures.leaves.sound (c.deliver_all.ensures.leaves.clean clean) sound in
     call_served db law whole ask (with_counts before old) (with_counts mid new) after c.in-Ok.out past c.deliver_all.result (λ heard. heard.items) tt served leads (none_fewer old new (uncounted g.D.DeskStore.refused g.S.SiteStore.refused c.begin.ensures.uncalled))
     (c.deliver_all.ensures.ok db of is_mid clean sound_mid leads.fit) (c.deliver_all.ensures.err db of is_mid clean sound_mid leads.fit)
@@ -72,7 +72,7 @@ returns-in-Ok-clause-leaves g c = record {
   clean = search rules;
   sound = search rules;
   counts = no_fewer_then (counts g.D.DeskStore.refused g.S.SiteStore.refused c.args.machines.now) (counts g.D.DeskStore.refused g.S.SiteStore.refused c.begin.new.self) (counts g.D.DeskStore.refused g.S.SiteStore.refused c.deliver_all.new.machines) (none_fewer (counts g.D.DeskStore.refused g.S.SiteStore.refused c.args.machines.now) (counts g.D.DeskStore.refused g.S.SiteStore.refused c.begin.new.self) (uncounted g.D.DeskStore.refused g.S.SiteStore.refused c.begin.ensures.uncalled)) c.deliver_all.ensures.leaves.counts;
-  catalogs = search rules;
+  catalogs = λ single. (let here = c.deliver_all.ensures.leaves.catalogs (c.begin.ensures.leaves.later ∙ single) in (here.0 ∙ c.begin.ensures.leaves.catalog, here.1));
 }
 
 pub returns-in-Ok-clause-blames : goal.returns-in-Ok-clause-blames
@@ -83,5 +83,5 @@ returns-in-Err-clause-leaves g c = record {
   clean = search rules;
   sound = search rules;
   counts = none_fewer (counts g.D.DeskStore.refused g.S.SiteStore.refused c.args.machines.now) (counts g.D.DeskStore.refused g.S.SiteStore.refused c.begin.new.self) (uncounted g.D.DeskStore.refused g.S.SiteStore.refused c.begin.ensures.uncalled);
-  catalogs = search rules;
+  catalogs = λ single. (c.begin.ensures.leaves.catalog, c.begin.ensures.leaves.later ∙ single);
 }

@@ -1,5 +1,5 @@
 -- Why `roll_back` meets its contract.
-use Rattle.std.proofs.Common.{rules, List, inl, Err}
+use Rattle.std.proofs.Common.{rules, List, inl, Err, ◌∙◌}
 use Rattle.protocol.specs.Desk.{Rollback}
 use Rattle.protocol.specs.Letters.{txn_name}
 use Rattle.desk.specs.Database.{language}
@@ -29,7 +29,7 @@ returns-in-Ok g c = one_call g.D.DeskStore.is_clean g.S.SiteStore.is_clean g.D.D
       clean = search rules;
       sound = search rules;
       counts = no_fewer_then (counts g.D.DeskStore.refused g.S.SiteStore.refused c.args.machines.now) (counts g.D.DeskStore.refused g.S.SiteStore.refused c.rollback.new.self) (counts g.D.DeskStore.refused g.S.SiteStore.refused c.deliver_all.new.machines) (none_fewer (counts g.D.DeskStore.refused g.S.SiteStore.refused c.args.machines.now) (counts g.D.DeskStore.refused g.S.SiteStore.refused c.rollback.new.self) (uncounted g.D.DeskStore.refused g.S.SiteStore.refused c.rollback.ensures.uncalled)) c.deliver_all.ensures.leaves.counts;
-      catalogs = search rules;
+      catalogs = λ single. (let here = c.deliver_all.ensures.leaves.catalogs (c.rollback.ensures.leaves.later ∙ single) in (here.0 ∙ c.rollback.ensures.leaves.catalog, here.1));
     })
     (λ clean sound. call_since c.deliver_all.result (counts g.D.DeskStore.refused g.S.SiteStore.refused c.args.machines.now) (counts g.D.DeskStore.refused g.S.SiteStore.refused c.rollback.new.self) (counts g.D.DeskStore.refused g.S.SiteStore.refused c.deliver_all.new.machines) (none_fewer (counts g.D.DeskStore.refused g.S.SiteStore.refused c.args.machines.now) (counts g.D.DeskStore.refused g.S.SiteStore.refused c.rollback.new.self) (uncounted g.D.DeskStore.refused g.S.SiteStore.refused c.rollback.ensures.uncalled)) (c.deliver_all.ensures.blames clean (c.rollback.ensures.leaves.sound (c.deliver_all.ensures.leaves.clean clean) sound)))
     (λ db whole past of law is clean sound served.
@@ -42,7 +42,7 @@ returns-in-Ok g c = one_call g.D.DeskStore.is_clean g.S.SiteStore.is_clean g.D.D
     let made = c.in-Ok.ensures.ok db (no_choice db) (over_of db _ c.args.machines.now.desk.catalog of is) (fit_uncounted db before old fit) in
     let ask : Ask (language db) = To_do (txn_name c.args.txn) Rollback (no_choice db) in
     let leads = leads_counted db (asked ask) before mid old new c.in-Ok.out.letters c.in-Ok.out.replies made.leads in
-    let is_mid = in_force_on db _ _ _ _ leads.version (c.rollback.ensures.leaves.catalogs fit.single).0 is in
+    let is_mid = in_force_on db _ _ _ _ leads.version c.rollback.ensures.leaves.catalog is in
     let sound_mid = c.rollback.ensures.leaves.sound (c.deliver_all.ensures.leaves.clean clean) sound in
     call_served db law whole ask (with_counts before old) (with_counts mid new) after c.in-Ok.out past c.deliver_all.result (λ heard. heard.items) tt served leads (none_fewer old new (uncounted g.D.DeskStore.refused g.S.SiteStore.refused c.rollback.ensures.uncalled))
     (c.deliver_all.ensures.ok db of is_mid clean sound_mid leads.fit) (c.deliver_all.ensures.err db of is_mid clean sound_mid leads.fit))
@@ -57,7 +57,7 @@ returns-in-Ok g c = one_call g.D.DeskStore.is_clean g.S.SiteStore.is_clean g.D.D
     let leads = leads_counted db (asked ask) before mid old new c.in-Ok.out.letters c.in-Ok.out.replies made.leads in
     let serves : (heard : List Notice) → Goes db (λ w. w) (put_out_by (with_counts mid new) c.in-Ok.out) (settled after heard) → Serves db ask (with_counts before old) after heard = λ heard goes. call_serves db ask (with_counts before old) (with_counts mid new) c.in-Ok.out leads (none_fewer old new (uncounted g.D.DeskStore.refused g.S.SiteStore.refused c.rollback.ensures.uncalled)) after heard goes in
     if_ok c.deliver_all.result (λ heard goes. record { choice = no_choice db; accepted = made.accepted; within = made.within; serves = serves heard.items goes })
-    (c.deliver_all.ensures.ok db of (in_force_on db _ _ _ _ leads.version (c.rollback.ensures.leaves.catalogs fit.single).0 is) clean (c.rollback.ensures.leaves.sound (c.deliver_all.ensures.leaves.clean clean) sound) leads.fit))
+    (c.deliver_all.ensures.ok db of (in_force_on db _ _ _ _ leads.version c.rollback.ensures.leaves.catalog is) clean (c.rollback.ensures.leaves.sound (c.deliver_all.ensures.leaves.clean clean) sound) leads.fit))
     (λ db of is clean sound fit. if_err c.deliver_all.result (λ told stops. inl stops) c.deliver_all.ensures.own)
 
 pub returns-in-Err : goal.returns-in-Err
@@ -66,7 +66,7 @@ returns-in-Err g c = one_call g.D.DeskStore.is_clean g.S.SiteStore.is_clean g.D.
       clean = search rules;
       sound = search rules;
       counts = none_fewer (counts g.D.DeskStore.refused g.S.SiteStore.refused c.args.machines.now) (counts g.D.DeskStore.refused g.S.SiteStore.refused c.rollback.new.self) (uncounted g.D.DeskStore.refused g.S.SiteStore.refused c.rollback.ensures.uncalled);
-      catalogs = search rules;
+      catalogs = λ single. (c.rollback.ensures.leaves.catalog, c.rollback.ensures.leaves.later ∙ single);
     })
     (λ clean sound. c.in-Err.ensures.blames)
     (λ db whole past of law is clean sound served.

@@ -1,5 +1,5 @@
 -- Why `apply_event` meets its contract.
-use Rattle.world.proofs.Leaves.{leaves_still}
+use Rattle.world.proofs.Leaves.{database_still}
 use Rattle.std.proofs.Common.{ℕ, List, ◌++◌, ◌∷◌, [], ◌∙◌, refl, sym, ap, subst, true, IfErr, IfOk}
 use Rattle.catalog.specs.Catalogue.{Catalogue}
 use Rattle.protocol.specs.World.{Desk_restarts, desk_restarts}
@@ -119,13 +119,13 @@ returns-in_ok-copy-in-SiteRestarts-clause-refused g c = λ db of is fit.
     (c.apply_event_at-in-SiteRestarts.ensures.refused db entries (event.SiteRestarts c.in-SiteRestarts.site c.in-SiteRestarts.kept) of is fit (ap (λ (site : List ℕ). event.SiteRestarts site c.in-SiteRestarts.kept) (sym c.in_ok-copy-in-SiteRestarts.ensures)))
 
 pub returns-in_err-copy-in-SiteGivesUp-clause-leaves : goal.returns-in_err-copy-in-SiteGivesUp-clause-leaves
-returns-in_err-copy-in-SiteGivesUp-clause-leaves g c = leaves_still g.D.DeskStore.is_clean g.S.SiteStore.is_clean g.D.DeskStore.is_sound g.S.SiteStore.is_sound g.D.DeskStore.refused g.S.SiteStore.refused c.args.machines.now
+returns-in_err-copy-in-SiteGivesUp-clause-leaves g c = database_still g.D.DeskStore.is_clean g.S.SiteStore.is_clean g.D.DeskStore.is_sound g.S.SiteStore.is_sound g.D.DeskStore.refused g.S.SiteStore.refused c.args.machines.now
 
 pub returns-in_err-copy-in-SiteInquires-clause-leaves : goal.returns-in_err-copy-in-SiteInquires-clause-leaves
-returns-in_err-copy-in-SiteInquires-clause-leaves g c = leaves_still g.D.DeskStore.is_clean g.S.SiteStore.is_clean g.D.DeskStore.is_sound g.S.SiteStore.is_sound g.D.DeskStore.refused g.S.SiteStore.refused c.args.machines.now
+returns-in_err-copy-in-SiteInquires-clause-leaves g c = database_still g.D.DeskStore.is_clean g.S.SiteStore.is_clean g.D.DeskStore.is_sound g.S.SiteStore.is_sound g.D.DeskStore.refused g.S.SiteStore.refused c.args.machines.now
 
 pub returns-in_err-copy-in-SiteRestarts-clause-leaves : goal.returns-in_err-copy-in-SiteRestarts-clause-leaves
-returns-in_err-copy-in-SiteRestarts-clause-leaves g c = leaves_still g.D.DeskStore.is_clean g.S.SiteStore.is_clean g.D.DeskStore.is_sound g.S.SiteStore.is_sound g.D.DeskStore.refused g.S.SiteStore.refused c.args.machines.now
+returns-in_err-copy-in-SiteRestarts-clause-leaves g c = database_still g.D.DeskStore.is_clean g.S.SiteStore.is_clean g.D.DeskStore.is_sound g.S.SiteStore.is_sound g.D.DeskStore.refused g.S.SiteStore.refused c.args.machines.now
 
 pub returns-in-Call-clause-spared : goal.returns-in-Call-clause-spared
 returns-in-Call-clause-spared g c = λ db whole past of is clean sound so.

@@ -1,5 +1,5 @@
 -- Why `deliver` meets its contract.
-use Rattle.world.proofs.Leaves.{leaves_still}
+use Rattle.world.proofs.Leaves.{database_still}
 use Rattle.std.proofs.Common.{◌≡◌, ◌∙◌, sym, ap, rules, subst, not, false, true, nat_eq, List, ℕ, Some}
 use Rattle.protocol.proofs.Basics.{clash}
 use Rattle.world.specs.Events.{is_none_of, is_unsent}
@@ -74,13 +74,13 @@ returns-clause-refused g c = λ db of is fit.
     (if_err c.deliver.result (tells_counted db before a letter) (c.deliver.ensures.told db of is fit of_site)) (λ made so. c.deliver.ensures.blames made so.0 so.1)
 
 pub returns-in_default-clause-leaves : goal.returns-in_default-clause-leaves
-returns-in_default-clause-leaves g c = leaves_still g.D.DeskStore.is_clean g.S.SiteStore.is_clean g.D.DeskStore.is_sound g.S.SiteStore.is_sound g.D.DeskStore.refused g.S.SiteStore.refused c.args.machines.now
+returns-in_default-clause-leaves g c = database_still g.D.DeskStore.is_clean g.S.SiteStore.is_clean g.D.DeskStore.is_sound g.S.SiteStore.is_sound g.D.DeskStore.refused g.S.SiteStore.refused c.args.machines.now
 
 pub returns-then-not-has_site-clause-leaves : goal.returns-then-not-has_site-clause-leaves
-returns-then-not-has_site-clause-leaves g c = leaves_still g.D.DeskStore.is_clean g.S.SiteStore.is_clean g.D.DeskStore.is_sound g.S.SiteStore.is_sound g.D.DeskStore.refused g.S.SiteStore.refused c.args.machines.now
+returns-then-not-has_site-clause-leaves g c = database_still g.D.DeskStore.is_clean g.S.SiteStore.is_clean g.D.DeskStore.is_sound g.S.SiteStore.is_sound g.D.DeskStore.refused g.S.SiteStore.refused c.args.machines.now
 
 pub returns-in_err-again-clause-leaves : goal.returns-in_err-again-clause-leaves
-returns-in_err-again-clause-leaves g c = leaves_still g.D.DeskStore.is_clean g.S.SiteStore.is_clean g.D.DeskStore.is_sound g.S.SiteStore.is_sound g.D.DeskStore.refused g.S.SiteStore.refused c.args.machines.now
+returns-in_err-again-clause-leaves g c = database_still g.D.DeskStore.is_clean g.S.SiteStore.is_clean g.D.DeskStore.is_sound g.S.SiteStore.is_sound g.D.DeskStore.refused g.S.SiteStore.refused c.args.machines.now
 
 pub returns-in_default-clause-refused : goal.returns-in_default-clause-refused
 returns-in_default-clause-refused g c = λ db of is fit.

@@ -50,7 +50,7 @@ returns-in_default-clause-leaves g c = record {
   clean = search rules;
   sound = search rules;
   counts = no_fewer (counts g.D.DeskStore.refused g.S.SiteStore.refused c.args.machines.now);
-  catalogs = search rules;
+  catalogs = λ single. (refl, single);
 }
 
 pub returns-in-Ok-clause-leaves : goal.returns-in-Ok-clause-leaves

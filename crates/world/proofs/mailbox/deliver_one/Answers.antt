@@ -47,7 +47,7 @@ returns-in-None-clause-leaves g c = record {
   clean = search rules;
   sound = search rules;
   counts = no_fewer_then (counts g.D.DeskStore.refused g.S.SiteStore.refused c.args.machines.now) (counts g.D.DeskStore.refused g.S.SiteStore.refused c.take.new.machines) (counts g.D.DeskStore.refused g.S.SiteStore.refused c.give_up.new.self) c.take.ensures.leaves.counts (none_fewer (counts g.D.DeskStore.refused g.S.SiteStore.refused c.take.new.machines) (counts g.D.DeskStore.refused g.S.SiteStore.refused c.give_up.new.self) (uncounted g.D.DeskStore.refused g.S.SiteStore.refused c.give_up.ensures.uncalled));
-  catalogs = search rules;
+  catalogs = λ single. (let here = c.take.ensures.leaves.catalogs single in (c.give_up.ensures.leaves.catalog ∙ here.0, c.give_up.ensures.leaves.later ∙ here.1));
 }
 
 pub returns-in-Some-clause-blames : goal.returns-in-Some-clause-blames

@@ -28,7 +28,7 @@ returns-then-not-has_site-clause-leaves g c = record {
   clean = search rules;
   sound = search rules;
   counts = no_fewer (counts g.D.DeskStore.refused g.S.SiteStore.refused c.args.machines.now);
-  catalogs = search rules;
+  catalogs = λ single. (refl, single);
 }
 
 pub returns-then-not-has_site-clause-told : goal.returns-then-not-has_site-clause-told

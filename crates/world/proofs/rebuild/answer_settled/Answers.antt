@@ -39,13 +39,13 @@ returns-clause-answer g c = λ whole clean sound fit those fits.
     let sound_mid = c.in_ok-decided.ensures.leaves.sound clean_mid sound in
     let base = subst (λ x. IsBase (database (catalogue_of x))) c.catalog.ensures c.database_is_of_catalogue.ensures in
     let are = subst (AreDecided (of start).table) (sym c.as_slice.ensures.value) (c.in_ok-decided.ensures.all (database catalogue) clean_mid sound fit) in
-    let came = c.as_slice-2.ensures.value ∙ came_so start.desk.catalog mid.desk.catalog (of start) (of mid) whole decided c.in_ok-brought.brought.items fetches (c.in_ok-decided.ensures.leaves.catalogs fit.single).0 (c.in_ok-decided.ensures.same clean_mid sound) (c.in_ok-brought.ensures.brought whole clean sound_mid) fit those are ∙ ap (map (brought_of (database catalogue) start.desk.volatile.version whole)) c.fetches.ensures in
+    let came = c.as_slice-2.ensures.value ∙ came_so start.desk.catalog mid.desk.catalog (of start) (of mid) whole decided c.in_ok-brought.brought.items fetches c.in_ok-decided.ensures.leaves.catalog (c.in_ok-decided.ensures.same clean_mid sound) (c.in_ok-brought.ensures.brought whole clean sound_mid) fit those are ∙ ap (map (brought_of (database catalogue) start.desk.volatile.version whole)) c.fetches.ensures in
     let stated_fetches = subst (λ x. AreFetchesOf (catalogue_of x) stated reduced.fetches.items) c.catalog-2.ensures c.in_ok-reduced.ensures.fetches in
     let finds = subst (λ x. FindsAll (catalogue_of x) stated reduced.fetches.items (shape reduced.plan)) c.catalog-2.ensures c.in_ok-reduced.ensures.finds in
     let brought = are_all_brought catalogue base c.leaf_names_are_unique.ensures start.desk.volatile.version stated reduced whole c.requires.fits c.requires.ordinary stated_fetches finds fits rows came in
     let Answers : List (List ℕ) × List SplitRelation → Type 0 = λ x. IsStatementOf (schemas_of (catalogue_of x)) stated → AreFetchesOf (catalogue_of x) stated reduced.fetches.items → FindsAll (catalogue_of x) stated reduced.fetches.items (shape reduced.plan) →
     IfOk c.answer.result (λ answer. (whole : Relations) → FitsSchema (schemas_of (catalogue_of x)) whole → AreBrought (catalogue_of x) whole reduced.fetches.items (given rows) → answer ≡ (meaning stated whole).0) in
-    let answers = subst Answers (c.catalog-3.ensures ∙ (c.in_ok-brought.ensures.leaves.catalogs fit.single).0 ∙ (c.in_ok-decided.ensures.leaves.catalogs fit.single).0) c.answer.ensures.answer in
+    let answers = subst Answers (c.catalog-3.ensures ∙ c.in_ok-brought.ensures.leaves.catalog ∙ c.in_ok-decided.ensures.leaves.catalog) c.answer.ensures.answer in
     if_ok c.answer.result (λ answer is. is whole fits brought) (answers c.requires.fits stated_fetches finds)
 
 pub returns-in_err-reduced-clause-leaves : goal.returns-in_err-reduced-clause-leaves
@@ -53,7 +53,8 @@ returns-in_err-reduced-clause-leaves g c = record {
   clean = search rules;
   sound = search rules;
   counts = no_fewer (counts g.D.DeskStore.refused g.S.SiteStore.refused c.args.machines.now);
-  catalogs = search rules;
+  catalog = search rules;
+  later = search rules;
 }
 
 pub returns-in_err-brought-clause-leaves : goal.returns-in_err-brought-clause-leaves
@@ -62,7 +63,8 @@ returns-in_err-brought-clause-leaves g c = record {
   sound = search rules;
   counts = let of = counts g.D.DeskStore.refused g.S.SiteStore.refused in
       no_fewer_then (of c.args.machines.now) (of c.decided.new.machines) (of c.bring.new.machines) c.decided.ensures.leaves.counts c.bring.ensures.leaves.counts;
-  catalogs = search rules;
+  catalog = search rules;
+  later = search rules;
 }
 
 pub returns-clause-leaves : goal.returns-clause-leaves
@@ -71,7 +73,8 @@ returns-clause-leaves g c = record {
   sound = search rules;
   counts = let of = counts g.D.DeskStore.refused g.S.SiteStore.refused in
       no_fewer_then (of c.args.machines.now) (of c.decided.new.machines) (of c.bring.new.machines) c.decided.ensures.leaves.counts c.bring.ensures.leaves.counts;
-  catalogs = search rules;
+  catalog = search rules;
+  later = search rules;
 }
 
 pub returns-in_err-brought-clause-fails : goal.returns-in_err-brought-clause-fails
@@ -82,7 +85,7 @@ returns-in_err-brought-clause-fails g c = λ whole clean sound fit those fits.
     let mid = c.decided.new.machines in
     let now = c.bring.new.machines in
     let mid_clean = c.bring.ensures.leaves.clean clean in
-    let mid_fit = fit_still start.desk.catalog mid.desk.catalog (content start) (content mid) (c.decided.ensures.leaves.catalogs fit.single).0 (c.decided.ensures.same mid_clean sound) fit in
+    let mid_fit = fit_still start.desk.catalog mid.desk.catalog (content start) (content mid) c.decided.ensures.leaves.catalog (c.decided.ensures.same mid_clean sound) fit in
     let told = c.in_err-brought.field-0.0 in
     fails_on c.from_residual-in_err-brought.result told (of start) (of now) c.from_residual-in_err-brought.ensures.1
     (fails_since (of start) (of mid) (of now) c.decided.ensures.leaves.counts told (c.in_err-brought.ensures.fails clean (c.decided.ensures.leaves.sound mid_clean sound) mid_fit))
@@ -104,7 +107,7 @@ returns-clause-fails g c = λ whole clean sound fit those fits.
     let sound_mid = c.in_ok-decided.ensures.leaves.sound clean_mid sound in
     let base = subst (λ x. IsBase (database (catalogue_of x))) c.catalog.ensures c.database_is_of_catalogue.ensures in
     let are = subst (AreDecided (of start).table) (sym c.as_slice.ensures.value) (c.in_ok-decided.ensures.all (database catalogue) clean_mid sound fit) in
-    let came = c.as_slice-2.ensures.value ∙ came_so start.desk.catalog mid.desk.catalog (of start) (of mid) whole decided c.in_ok-brought.brought.items fetches (c.in_ok-decided.ensures.leaves.catalogs fit.single).0 (c.in_ok-decided.ensures.same clean_mid sound) (c.in_ok-brought.ensures.brought whole clean sound_mid) fit those are ∙ ap (map (brought_of (database catalogue) start.desk.volatile.version whole)) c.fetches.ensures in
+    let came = c.as_slice-2.ensures.value ∙ came_so start.desk.catalog mid.desk.catalog (of start) (of mid) whole decided c.in_ok-brought.brought.items fetches c.in_ok-decided.ensures.leaves.catalog (c.in_ok-decided.ensures.same clean_mid sound) (c.in_ok-brought.ensures.brought whole clean sound_mid) fit those are ∙ ap (map (brought_of (database catalogue) start.desk.volatile.version whole)) c.fetches.ensures in
     let stated_fetches = subst (λ x. AreFetchesOf (catalogue_of x) stated reduced.fetches.items) c.catalog-2.ensures c.in_ok-reduced.ensures.fetches in
     let finds = subst (λ x. FindsAll (catalogue_of x) stated reduced.fetches.items (shape reduced.plan)) c.catalog-2.ensures c.in_ok-reduced.ensures.finds in
     let brought = are_all_brought catalogue base c.leaf_names_are_unique.ensures start.desk.volatile.version stated reduced whole c.requires.fits c.requires.ordinary stated_fetches finds fits rows came in

@@ -21,6 +21,7 @@ loop-fetch-init g c = (
   λ clean sound. sound,
   λ clean sound. refl,
   refl,
+  refl,
   λ whole clean sound fit those are. c.new-brought.ensures.items,
   no_fewer (counts g.D.DeskStore.refused g.S.SiteStore.refused c.args.machines.now),
 )
@@ -45,6 +46,7 @@ loop-fetch-preserved g c =
       λ clean sound. step.leaves.sound clean (all.1 (step.leaves.clean clean) sound),
       λ clean sound. step.same clean (all.1 (step.leaves.clean clean) sound) ∙ all.2 (step.leaves.clean clean) sound,
       step.leaves.catalog ∙ all.3,
+      step.leaves.later ∙ all.4,
       λ whole clean sound fit those are.
           let mid_clean = step.leaves.clean clean in
           let mid_sound = all.1 mid_clean sound in
@@ -52,22 +54,23 @@ loop-fetch-preserved g c =
           let bring = brought_of (database (catalogue_of start.desk.catalog)) start.desk.volatile.version whole in
           let one_more : take (i + 1) fetches ≡ take i fetches ++ fetch ∷ [] = take_more fetches i fetch c.loop-fetch-test.true ∙ ap (λ (f : Fetch). take i fetches ++ f ∷ []) (sym c.fetch-item.is) in
           c.in_ok-push.ensures.items
-          ∙ ap₂ (λ (front : List FetchRows) (last : FetchRows). front ++ last ∷ []) (all.4 whole mid_clean sound fit those are) (brings whole clean mid_sound fit those are)
+          ∙ ap₂ (λ (front : List FetchRows) (last : FetchRows). front ++ last ∷ []) (all.5 whole mid_clean sound fit those are) (brings whole clean mid_sound fit those are)
           ∙ sym (ap (map bring) one_more ∙ map-append bring (take i fetches) (fetch ∷ [])),
-      no_fewer_then (counts D.refused S.refused start) (counts D.refused S.refused mid) (counts D.refused S.refused now) all.5 step.leaves.counts,
+      no_fewer_then (counts D.refused S.refused start) (counts D.refused S.refused mid) (counts D.refused S.refused now) all.6 step.leaves.counts,
     )
 
 pub returns-clause-brought : goal.returns-clause-brought
 returns-clause-brought g c = λ whole clean sound fit those are.
-    c.loop-fetch.invariant.4 whole clean sound fit those are ∙ ap (map (brought_of (database (catalogue_of c.args.machines.now.desk.catalog)) c.args.machines.now.desk.volatile.version whole)) (take_all c.loop-fetch.fetch-index c.args.fetches.now c.loop-fetch-test.false)
+    c.loop-fetch.invariant.5 whole clean sound fit those are ∙ ap (map (brought_of (database (catalogue_of c.args.machines.now.desk.catalog)) c.args.machines.now.desk.volatile.version whole)) (take_all c.loop-fetch.fetch-index c.args.fetches.now c.loop-fetch-test.false)
 
 pub returns-in_err-bring_one-clause-leaves : goal.returns-in_err-bring_one-clause-leaves
 returns-in_err-bring_one-clause-leaves g c = record {
   clean = search rules;
   sound = search rules;
   counts = let of = counts g.D.DeskStore.refused g.S.SiteStore.refused in
-      no_fewer_then (of c.args.machines.now) (of c.loop-fetch.machines) (of c.bring_one.new.machines) c.loop-fetch.invariant.5 c.bring_one.ensures.leaves.counts;
-  catalogs = search rules;
+      no_fewer_then (of c.args.machines.now) (of c.loop-fetch.machines) (of c.bring_one.new.machines) c.loop-fetch.invariant.6 c.bring_one.ensures.leaves.counts;
+  catalog = search rules;
+  later = search rules;
 }
 
 pub returns-in_err-push-clause-leaves : goal.returns-in_err-push-clause-leaves
@@ -75,8 +78,9 @@ returns-in_err-push-clause-leaves g c = record {
   clean = search rules;
   sound = search rules;
   counts = let of = counts g.D.DeskStore.refused g.S.SiteStore.refused in
-      no_fewer_then (of c.args.machines.now) (of c.loop-fetch.machines) (of c.bring_one.new.machines) c.loop-fetch.invariant.5 c.bring_one.ensures.leaves.counts;
-  catalogs = search rules;
+      no_fewer_then (of c.args.machines.now) (of c.loop-fetch.machines) (of c.bring_one.new.machines) c.loop-fetch.invariant.6 c.bring_one.ensures.leaves.counts;
+  catalog = search rules;
+  later = search rules;
 }
 
 pub returns-in_err-bring_one-clause-fails : goal.returns-in_err-bring_one-clause-fails
@@ -90,4 +94,4 @@ returns-in_err-bring_one-clause-fails g c = λ clean sound fit.
     let mid_clean = c.bring_one.ensures.leaves.clean clean in
     let mid_fit = fit_still start.desk.catalog mid.desk.catalog (content start) (content mid) all.3 (all.2 mid_clean sound) fit in
     let told = c.in_err-bring_one.field-0.0 in
-    fails_on c.from_residual.result told (of start) (of now) c.from_residual.ensures.1 (fails_since (of start) (of mid) (of now) all.5 told (c.in_err-bring_one.ensures.fails clean (all.1 mid_clean sound) mid_fit))
+    fails_on c.from_residual.result told (of start) (of now) c.from_residual.ensures.1 (fails_since (of start) (of mid) (of now) all.6 told (c.in_err-bring_one.ensures.fails clean (all.1 mid_clean sound) mid_fit))

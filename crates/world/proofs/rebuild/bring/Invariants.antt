@@ -20,6 +20,7 @@ invariant-loop-fetch g l =
     × (clean l.machines → sound l.initial.machines → sound l.machines)
     × (clean l.machines → sound l.initial.machines → of l.machines ≡ of l.initial.machines)
     × (l.machines.desk.catalog ≡ l.initial.machines.desk.catalog)
+    × (l.machines.desk.later.items ≡ l.initial.machines.desk.later.items)
     × ((whole : Relations) → clean l.machines → sound l.initial.machines → AreFit db (of l.initial.machines) → AreThoseOf db (of l.initial.machines) whole → AreDecided (of l.initial.machines).table l.decided
     → l.brought.items ≡ map (brought_of db l.initial.machines.desk.volatile.version whole) (take l.fetch-index l.fetches))
     × NoFewer (counts g.D.DeskStore.refused g.S.SiteStore.refused l.initial.machines) (counts g.D.DeskStore.refused g.S.SiteStore.refused l.machines)

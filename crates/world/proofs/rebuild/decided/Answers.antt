@@ -20,7 +20,8 @@ returns-in_err-kept-clause-leaves g c = record {
   clean = search rules;
   sound = search rules;
   counts = (c.kept.ensures.leaves_store.counts, no_fewer (counts_of g.S.SiteStore.refused c.args.machines.now.sites.items));
-  catalogs = search rules;
+  catalog = search rules;
+  later = search rules;
 }
 
 pub returns-in_err-txns_of-clause-leaves : goal.returns-in_err-txns_of-clause-leaves
@@ -28,7 +29,8 @@ returns-in_err-txns_of-clause-leaves g c = record {
   clean = search rules;
   sound = search rules;
   counts = (c.kept.ensures.leaves_store.counts, no_fewer (counts_of g.S.SiteStore.refused c.args.machines.now.sites.items));
-  catalogs = search rules;
+  catalog = search rules;
+  later = search rules;
 }
 
 pub returns-clause-leaves : goal.returns-clause-leaves
@@ -36,5 +38,6 @@ returns-clause-leaves g c = record {
   clean = search rules;
   sound = search rules;
   counts = (c.kept.ensures.leaves_store.counts, no_fewer (counts_of g.S.SiteStore.refused c.args.machines.now.sites.items));
-  catalogs = search rules;
+  catalog = search rules;
+  later = search rules;
 }

@@ -22,7 +22,8 @@ returns-in_err-statement-clause-leaves g c = record {
   clean = search rules;
   sound = search rules;
   counts = no_fewer (counts g.D.DeskStore.refused g.S.SiteStore.refused c.args.machines.now);
-  catalogs = search rules;
+  catalog = search rules;
+  later = search rules;
 }
 
 pub returns-in_default-clause-leaves : goal.returns-in_default-clause-leaves
@@ -30,7 +31,8 @@ returns-in_default-clause-leaves g c = record {
   clean = search rules;
   sound = search rules;
   counts = no_fewer (counts g.D.DeskStore.refused g.S.SiteStore.refused c.args.machines.now);
-  catalogs = search rules;
+  catalog = search rules;
+  later = search rules;
 }
 
 pub returns-in_err-answer-clause-fails : goal.returns-in_err-answer-clause-fails

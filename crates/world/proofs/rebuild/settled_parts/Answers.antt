@@ -21,7 +21,8 @@ returns-in_default-clause-leaves g c = record {
   clean = search rules;
   sound = search rules;
   counts = no_fewer (counts g.D.DeskStore.refused g.S.SiteStore.refused c.args.machines.now);
-  catalogs = search rules;
+  catalog = search rules;
+  later = search rules;
 }
 
 pub returns-in-Err-clause-fails : goal.returns-in-Err-clause-fails

@@ -12,18 +12,18 @@ use Rattle.world.specs.Sites.{IsSeated}
 use Rattle.world.specs.Taking.{put_out_by}
 use Rattle.world.proofs.InForce.{in_force_on}
 use Rattle.world.proofs.Counting.{fit_uncounted, leads_counted}
-use Rattle.world.proofs.Leaves.{leaves_then}
+use Rattle.world.proofs.Leaves.{leaves_into}
 use Rattle.world.proofs.Recovers.{recovers}
 use Rattle.world.proofs.Running.{over_of}
 use Rattle.world.proofs.recovery.recover.Goals as goal
 
 pub returns-in_err-_heard-clause-leaves : goal.returns-in_err-_heard-clause-leaves
 returns-in_err-_heard-clause-leaves g c =
-    leaves_then g.D.DeskStore.is_clean g.S.SiteStore.is_clean g.D.DeskStore.is_sound g.S.SiteStore.is_sound g.D.DeskStore.refused g.S.SiteStore.refused c.args.machines.now c.restart.new.self c.deliver_all.new.machines c.restart.ensures.leaves c.deliver_all.ensures.leaves
+    leaves_into g.D.DeskStore.is_clean g.S.SiteStore.is_clean g.D.DeskStore.is_sound g.S.SiteStore.is_sound g.D.DeskStore.refused g.S.SiteStore.refused c.args.machines.now c.restart.new.self c.deliver_all.new.machines c.restart.ensures.leaves c.deliver_all.ensures.leaves
 
 pub returns-clause-leaves : goal.returns-clause-leaves
 returns-clause-leaves g c =
-    leaves_then g.D.DeskStore.is_clean g.S.SiteStore.is_clean g.D.DeskStore.is_sound g.S.SiteStore.is_sound g.D.DeskStore.refused g.S.SiteStore.refused c.args.machines.now c.restart.new.self c.deliver_all.new.machines c.restart.ensures.leaves c.deliver_all.ensures.leaves
+    leaves_into g.D.DeskStore.is_clean g.S.SiteStore.is_clean g.D.DeskStore.is_sound g.S.SiteStore.is_sound g.D.DeskStore.refused g.S.SiteStore.refused c.args.machines.now c.restart.new.self c.deliver_all.new.machines c.restart.ensures.leaves c.deliver_all.ensures.leaves
 
 pub returns-clause-ok : goal.returns-clause-ok
 returns-clause-ok g c = λ db of is clean sound fit law recovery whole past up served.
@@ -41,4 +41,4 @@ returns-clause-ok g c = λ db of is clean sound fit law recovery whole past up s
     ∙ (λ i. map letter_of (c.into_vec-letters.ensures i) ++ flat_map (λ seat. inquiries seat.name (state_of seat.kept seat.table)) (seats_in g.S.SiteStore.kept (c.as_slice.ensures.value i))) in
     let scene = put_out_by second (record { letters = c.new.result; replies = c.in_ok-commits.commits.replies; kept = true }) in
     recovers db law recovery over.distinct whole past first second last c.in_ok-commits.commits.letters c.inquire_all.new.letters.items c.in_ok-commits.commits.replies c.in_ok-_heard._heard.items scene served up leads more c.new.ensures (λ ls ds. refl) leads.fit
-    (c.in_ok-_heard.ensures.ok db of (in_force_on db _ _ _ _ leads.version (c.restart.ensures.leaves.catalogs fit.single).0 is) clean (c.restart.ensures.leaves.sound clean_mid sound) leads.fit)
+    (c.in_ok-_heard.ensures.ok db of (in_force_on db _ _ _ _ leads.version c.restart.ensures.leaves.catalog is) clean (c.restart.ensures.leaves.sound clean_mid sound) leads.fit)

@@ -54,7 +54,8 @@ returns-in-Ok-clause-leaves g c = record {
   clean = search rules;
   sound = search rules;
   counts = (at_most (g.D.DeskStore.refused c.args.self.now.desk.store), c.act_among.ensures.leaves.counts);
-  catalogs = search rules;
+  catalog = search rules;
+  later = search rules;
 }
 
 pub returns-in-Err-clause-leaves : goal.returns-in-Err-clause-leaves
@@ -62,7 +63,8 @@ returns-in-Err-clause-leaves g c = record {
   clean = search rules;
   sound = search rules;
   counts = (at_most (g.D.DeskStore.refused c.args.self.now.desk.store), c.act_among.ensures.leaves.counts);
-  catalogs = search rules;
+  catalog = search rules;
+  later = search rules;
 }
 
 pub returns-in-Err-clause-blames : goal.returns-in-Err-clause-blames

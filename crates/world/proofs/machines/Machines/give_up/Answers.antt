@@ -26,5 +26,6 @@ returns-clause-leaves g c = record {
   sound = search rules;
   counts = none_fewer (counts g.D.DeskStore.refused g.S.SiteStore.refused c.args.self.now) (g.D.DeskStore.refused c.give_up.new.self.store ∷ counts_of g.S.SiteStore.refused c.args.self.now.sites.items)
       (ap (λ store. g.D.DeskStore.refused store ∷ counts_of g.S.SiteStore.refused c.args.self.now.sites.items) c.give_up.ensures.plainly.store);
-  catalogs = search rules;
+  catalog = search rules;
+  later = search rules;
 }

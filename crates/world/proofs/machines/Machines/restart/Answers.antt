@@ -20,7 +20,8 @@ returns-clause-leaves g c = record {
   clean = search rules;
   sound = search rules;
   counts = (c.restart_kept.ensures.restarts.begins.leaves.counts, no_fewer (counts_of g.S.SiteStore.refused c.args.self.now.sites.items));
-  catalogs = search rules;
+  catalog = search rules;
+  later = search rules;
 }
 
 pub returns-clause-told : goal.returns-clause-told

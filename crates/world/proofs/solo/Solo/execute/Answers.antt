@@ -7,7 +7,7 @@ use Rattle.protocol.specs.Client.{ReachedLaw}
 use Rattle.std.proofs.Common.{List, [], ℕ, refl, subst}
 use Rattle.world.proofs.Calls.{leaves_of}
 use Rattle.world.proofs.Deeds.{nothing_more}
-use Rattle.world.proofs.Leaves.{leaves_still}
+use Rattle.world.proofs.Leaves.{database_still}
 use Rattle.world.proofs.Outcomes.{executed}
 use Rattle.desk.specs.CatalogueDatabase.{database, fits}
 use Rattle.world.specs.Commands.{CommandsFollow}
@@ -18,7 +18,7 @@ pub returns-clause-leaves : goal.returns-clause-leaves
 returns-clause-leaves g c = leaves_of g.D.DeskStore.is_clean g.S.SiteStore.is_clean g.D.DeskStore.is_sound g.S.SiteStore.is_sound g.D.DeskStore.kept g.S.SiteStore.kept g.D.DeskStore.refused g.S.SiteStore.refused c.args.self.now.machines c.command-done.new.self.machines c.command-done.result c.command-done.ensures.comes
 
 pub returns-in-Some-clause-leaves : goal.returns-in-Some-clause-leaves
-returns-in-Some-clause-leaves g c = leaves_still g.D.DeskStore.is_clean g.S.SiteStore.is_clean g.D.DeskStore.is_sound g.S.SiteStore.is_sound g.D.DeskStore.refused g.S.SiteStore.refused c.args.self.now.machines
+returns-in-Some-clause-leaves g c = database_still g.D.DeskStore.is_clean g.S.SiteStore.is_clean g.D.DeskStore.is_sound g.S.SiteStore.is_sound g.D.DeskStore.refused g.S.SiteStore.refused c.args.self.now.machines
 
 pub returns-clause-executes : goal.returns-clause-executes
 returns-clause-executes g c = λ whole past going clean sound served.

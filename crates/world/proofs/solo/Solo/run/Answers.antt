@@ -1,6 +1,6 @@
 -- Why `run` meets its contract.
 use Rattle.world.proofs.Deeds.{nothing_more}
-use Rattle.world.proofs.Leaves.{leaves_still}
+use Rattle.world.proofs.Leaves.{database_still}
 use Rattle.std.proofs.Common.{◌≡◌, List, [], ℕ, refl, subst}
 use Rattle.catalog.specs.declared.relation.SplitRelation.{SplitRelation}
 use Rattle.catalog.specs.Relation.{catalogue_of}
@@ -71,10 +71,10 @@ returns-in-Err-clause-blames g c = λ stop clean sound is.
     subst (λ (s : Stop). StopsFor (counts g.D.DeskStore.refused g.S.SiteStore.refused c.args.self.now.machines) (counts g.D.DeskStore.refused g.S.SiteStore.refused c.run_all.new.machines) s.refusal) same (c.in-Err.ensures.blames clean sound)
 
 pub returns-in-Some-clause-leaves : goal.returns-in-Some-clause-leaves
-returns-in-Some-clause-leaves g c = leaves_still g.D.DeskStore.is_clean g.S.SiteStore.is_clean g.D.DeskStore.is_sound g.S.SiteStore.is_sound g.D.DeskStore.refused g.S.SiteStore.refused c.args.self.now.machines
+returns-in-Some-clause-leaves g c = database_still g.D.DeskStore.is_clean g.S.SiteStore.is_clean g.D.DeskStore.is_sound g.S.SiteStore.is_sound g.D.DeskStore.refused g.S.SiteStore.refused c.args.self.now.machines
 
 pub returns-then-is_some-clause-leaves : goal.returns-then-is_some-clause-leaves
-returns-then-is_some-clause-leaves g c = leaves_still g.D.DeskStore.is_clean g.S.SiteStore.is_clean g.D.DeskStore.is_sound g.S.SiteStore.is_sound g.D.DeskStore.refused g.S.SiteStore.refused c.args.self.now.machines
+returns-then-is_some-clause-leaves g c = database_still g.D.DeskStore.is_clean g.S.SiteStore.is_clean g.D.DeskStore.is_sound g.S.SiteStore.is_sound g.D.DeskStore.refused g.S.SiteStore.refused c.args.self.now.machines
 
 pub returns-in-Some-clause-served : goal.returns-in-Some-clause-served
 returns-in-Some-clause-served g c = λ whole past clean sound served.

@@ -1,5 +1,5 @@
 -- Why `World::happens` meets its contract.
-use Rattle.world.proofs.Leaves.{leaves_still}
+use Rattle.world.proofs.Leaves.{database_still}
 use Rattle.std.proofs.Common.{refl, sym, subst, ◌++◌, List}
 use Rattle.catalog.specs.Relation.{catalogue_of}
 use Rattle.desk.specs.OfCatalogue.{IsOfCatalogue}
@@ -58,4 +58,4 @@ returns-in-Ok-clause-spared g c = λ whole past clean sound run.
     λ number whether is. subst (λ (what : Event). Spares refused db before after c.args.self.now.entries.items c.push.new.self.items past what) is spares
 
 pub returns-in_err-make_room-clause-leaves : goal.returns-in_err-make_room-clause-leaves
-returns-in_err-make_room-clause-leaves g c = leaves_still g.D.DeskStore.is_clean g.S.SiteStore.is_clean g.D.DeskStore.is_sound g.S.SiteStore.is_sound g.D.DeskStore.refused g.S.SiteStore.refused c.args.self.now.machines
+returns-in_err-make_room-clause-leaves g c = database_still g.D.DeskStore.is_clean g.S.SiteStore.is_clean g.D.DeskStore.is_sound g.S.SiteStore.is_sound g.D.DeskStore.refused g.S.SiteStore.refused c.args.self.now.machines

@@ -1,5 +1,5 @@
 -- Why `World::pass` meets its contract.
-use Rattle.world.proofs.Leaves.{leaves_still}
+use Rattle.world.proofs.Leaves.{database_still}
 use Rattle.std.proofs.Common.{subst, ◌∙◌, sym, inl}
 use Rattle.catalog.specs.Relation.{catalogue_of}
 use Rattle.world.specs.declared.event.Event.{Event}
@@ -44,4 +44,4 @@ returns-else-is_memory-clause-happens g c = λ whole past clean sound run.
     (c.in-Err.ensures.err clean sound) c.in-Err.ensures.same)
 
 pub returns-in_err-again-clause-leaves : goal.returns-in_err-again-clause-leaves
-returns-in_err-again-clause-leaves g c = leaves_still g.D.DeskStore.is_clean g.S.SiteStore.is_clean g.D.DeskStore.is_sound g.S.SiteStore.is_sound g.D.DeskStore.refused g.S.SiteStore.refused c.args.self.now.machines
+returns-in_err-again-clause-leaves g c = database_still g.D.DeskStore.is_clean g.S.SiteStore.is_clean g.D.DeskStore.is_sound g.S.SiteStore.is_sound g.D.DeskStore.refused g.S.SiteStore.refused c.args.self.now.machines

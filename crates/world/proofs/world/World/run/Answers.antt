@@ -14,14 +14,14 @@ use Rattle.world.specs.Machines.{Machines}
 use Rattle.world.specs.Runs.{IsRun, RunsOn}
 use Rattle.world.proofs.Counting.{with_counts}
 use Rattle.world.proofs.RunGoesOn.{follows_more, runs_further, runs_still}
-use Rattle.world.proofs.Leaves.{leaves_still, leaves_then}
+use Rattle.world.proofs.Leaves.{database_still, leaves_then}
 use Rattle.world.proofs.world.World.run.Goals as goal
 
 pub loop-event-init : goal.loop-event-init
 loop-event-init g c =
     let machines = held g.D.DeskStore.kept g.S.SiteStore.kept c.args.self.now.machines in
     let db = database (catalogue_of c.args.self.now.machines.desk.catalog) in
-    (leaves_still g.D.DeskStore.is_clean g.S.SiteStore.is_clean g.D.DeskStore.is_sound g.S.SiteStore.is_sound g.D.DeskStore.refused g.S.SiteStore.refused c.args.self.now.machines, refl, λ whole past clean sound run. (runs_still db whole machines c.args.self.now.entries.items past run, (refl, refl)))
+    (database_still g.D.DeskStore.is_clean g.S.SiteStore.is_clean g.D.DeskStore.is_sound g.S.SiteStore.is_sound g.D.DeskStore.refused g.S.SiteStore.refused c.args.self.now.machines, refl, λ whole past clean sound run. (runs_still db whole machines c.args.self.now.entries.items past run, (refl, refl)))
 
 pub loop-event-preserved : goal.loop-event-preserved
 loop-event-preserved g c =

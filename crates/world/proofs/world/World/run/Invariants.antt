@@ -6,7 +6,7 @@ use Rattle.protocol.specs.Desk.{Deed}
 use Rattle.desk.specs.Database.{language}
 use Rattle.desk.specs.CatalogueDatabase.{database}
 use Rattle.world.specs.Following.{Follows}
-use Rattle.world.specs.Frame.{LeavesMachines}
+use Rattle.world.specs.Frame.{LeavesDatabase}
 use Rattle.world.specs.Contents.{OfStores, counted, held}
 use Rattle.world.specs.Runs.{IsRun, RunsOn}
 use Rattle.world.proofs.world.World.run.Given as goal
@@ -17,7 +17,7 @@ invariant-loop-event g l =
     let D = g.D.DeskStore in
     let S = g.S.SiteStore in
     let db = database (catalogue_of l.fn.self.machines.desk.catalog) in
-    LeavesMachines D.is_clean S.is_clean D.is_sound S.is_sound D.refused S.refused l.fn.self.machines l.self.machines
+    LeavesDatabase D.is_clean S.is_clean D.is_sound S.is_sound D.refused S.refused l.fn.self.machines l.self.machines
     × (l.done ≡ l.event-index)
     × ((whole : Relations) (past : List (Deed (language db))) → OfStores D.is_clean S.is_clean l.self.machines → OfStores D.is_sound S.is_sound l.fn.self.machines → IsRun db whole (held D.kept S.kept l.fn.self.machines) l.fn.self.entries.items past →
     RunsOn db whole (held D.kept S.kept l.self.machines) l.self.entries.items past × Follows db (take l.event-index l.events) (counted D.kept S.kept D.refused S.refused l.fn.self.machines) l.fn.self.entries.items (counted D.kept S.kept D.refused S.refused l.self.machines) l.self.entries.items)
