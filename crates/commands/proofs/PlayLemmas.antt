@@ -66,8 +66,8 @@ module _ {D S : Type 0} (seen : SeenWorld (World D S)) where
 
   -- so, where what is known of what is shown is known from the end
   pub PlaysItems-more : (items : List Placed) (placed : Placed) (first second third : Option (List ℕ)) (before middle after : Schedule D S) (more : List ℕ) → PlaysItems seen items first second before middle → PlaysItem seen placed.item middle after more → Appends second third more →
-      LeavesWorld seen before.world middle.world → LeavesWorld seen middle.world after.world → PlaysItems seen (items ++ placed ∷ []) first third before after
-  PlaysItems-more items placed first second third before middle after more so_far next wrote left leaves = record {
+      LeavesWorld seen before.world middle.world → LeavesWorld seen middle.world after.world → (seen.machines before.world).later ≡ [] → PlaysItems seen (items ++ placed ∷ []) first third before after
+  PlaysItems-more items placed first second third before middle after more so_far next wrote left leaves single = record {
     told = so_far.told ++ more;
     said = Appends-more first second third so_far.told more so_far.said wrote;
     plays = λ whole.
@@ -76,7 +76,7 @@ module _ {D S : Type 0} (seen : SeenWorld (World D S)) where
         PlaysAll-more P catalogue whole items placed before middle after so_far.told more
         (PlaysAll-weaker {Q = P} catalogue whole items before middle so_far.told (λ known. (leaves.clean known.0, known.1)) (so_far.plays whole))
         (Plays-weaker {Q = P} catalogue whole placed.item middle after more (λ known. (known.0, left.runs whole (leaves.clean known.0) known.1))
-        (subst (λ (over : Catalogue). Plays seen (seen.is_clean after.world × HasRun seen whole middle.world) over whole placed.item middle after more) left.catalog (next whole)));
+        (subst (λ (over : Catalogue). Plays seen (seen.is_clean after.world × HasRun seen whole middle.world) over whole placed.item middle after more) (left.catalogs single).0 (next whole)));
   }
 
   -- what is shown is an item's

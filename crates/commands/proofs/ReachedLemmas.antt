@@ -24,14 +24,14 @@ same_world {D = D} {S = S} old new same = ap (λ (schedule : Schedule D S). sche
 
 -- a world that stays as it is
 pub leaves_same : {W : Type 0} (seen : SeenWorld W) (world : W) → LeavesWorld seen world world
-leaves_same seen world = record { clean = λ clean. clean; runs = λ whole clean has. has; catalog = refl }
+leaves_same seen world = record { clean = λ clean. clean; runs = λ whole clean has. has; catalogs = λ single. (refl, single) }
 
 -- two calls, one after the other
 pub leaves_then : {W : Type 0} (seen : SeenWorld W) (old middle new : W) → LeavesWorld seen old middle → LeavesWorld seen middle new → LeavesWorld seen old new
 leaves_then seen old middle new first next = record {
   clean = λ clean. first.clean (next.clean clean);
   runs = λ whole clean has. next.runs whole clean (first.runs whole (next.clean clean) has);
-  catalog = next.catalog ∙ first.catalog;
+  catalogs = λ single. (let here = first.catalogs single in let there = next.catalogs here.1 in (there.0 ∙ here.0, there.1));
 }
 
 module _ {D S : Type 0} (desk_is_clean : D → Type 0) (site_is_clean : S → Type 0) (desk_is_sound : D → Type 0) (site_is_sound : S → Type 0) (of_desk : D → DeskContent) (of_site : S → SiteContent) (desk_refused : D → ℕ) (site_refused : S → ℕ) where
@@ -60,11 +60,11 @@ module _ {D S : Type 0} (desk_is_clean : D → Type 0) (site_is_clean : S → Ty
   StepsTo what answer old new = Steps (database (catalogue_of old.machines.desk.catalog)) (OfStores desk_is_clean site_is_clean) (OfStores desk_is_sound site_is_sound) (held of_desk of_site) (counted of_desk of_site desk_refused site_refused) what answer old new
 
   runs_on : (what : Event) (answer : Result Entry Fault) (old new : World D S) → StepsTo what answer old new → (whole : Relations) → seen.is_clean new → HasRun seen whole old → HasRun seen whole new
-  runs_on what (Ok entry) old new stepped whole clean has = goes_on whole old new (ap catalogue_of stepped.catalog) (stepped.sound clean has.sound) has.reached (stepped.goes_on whole has.reached.0 clean has.sound has.reached.1).0
-  runs_on what (Err told) old new stepped whole clean has = stays whole old new (ap catalogue_of stepped.catalog) (stepped.sound clean has.sound) (stepped.err clean has.sound) stepped.same has
+  runs_on what (Ok entry) old new stepped whole clean has = goes_on whole old new (ap catalogue_of (stepped.catalogs has.reached.1.fit.single).0) (stepped.sound clean has.sound) has.reached (stepped.goes_on whole has.reached.0 clean has.sound has.reached.1).0
+  runs_on what (Err told) old new stepped whole clean has = stays whole old new (ap catalogue_of (stepped.catalogs has.reached.1.fit.single).0) (stepped.sound clean has.sound) (stepped.err clean has.sound) stepped.same has
 
   pub steps_leave : (what : Event) (answer : Result Entry Fault) (old new : World D S) → StepsTo what answer old new → LeavesWorld seen old new
-  steps_leave what answer old new stepped = record { clean = stepped.clean; runs = runs_on what answer old new stepped; catalog = ap catalogue_of stepped.catalog }
+  steps_leave what answer old new stepped = record { clean = stepped.clean; runs = runs_on what answer old new stepped; catalogs = λ single. (let same = stepped.catalogs single in (ap catalogue_of same.0, same.1)) }
 
   -- what is kept is looked at
   pub looks_leave : (old new : World D S) → LeavesMachines desk_is_clean site_is_clean desk_is_sound site_is_sound desk_refused site_refused old.machines new.machines →
@@ -72,5 +72,5 @@ module _ {D S : Type 0} (desk_is_clean : D → Type 0) (site_is_clean : S → Ty
   looks_leave old new leaves same entries = record {
     clean = leaves.clean;
     runs = λ whole clean has. stays whole old new (ap catalogue_of leaves.catalog) (leaves.sound clean has.sound) (same clean has.sound) entries has;
-    catalog = ap catalogue_of leaves.catalog;
+    catalogs = λ single. (ap catalogue_of leaves.catalog, leaves.later ∙ single);
   }

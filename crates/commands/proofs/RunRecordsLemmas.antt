@@ -112,7 +112,7 @@ module _ {D S : Type 0} (desk_is_clean desk_is_sound : D → Type 0) (desk_conte
       let sound : OfStores desk_is_sound site_is_sound machines = (are.desk_sound clean_before.0, are.sites_sound clean_before.1) in
       let woven = subst (IsVerdict desk_is_clean desk_is_sound desk_content site_is_clean site_is_sound site_content machines opening entries pasts lists) none judged clean_before in
       let are_held : machines_in last sites ≡ held desk_content site_content machines =
-      ap (λ (seats : List Seat). record { desk = desk_content machines.desk.store; table = volatile_of machines.desk.volatile; seats = seats; refused = [] }) are.lasts in
+      λ i. record { desk = desk_content machines.desk.store; table = volatile_of machines.desk.volatile; seats = are.lasts i; later = sym are.single i; refused = [] } in
       record {
         events = woven.0;
         weaves = woven.1;

@@ -78,11 +78,11 @@ pub record HasRun {W : Type 0} (seen : SeenWorld W) (whole : Relations) (world :
   pub sound : seen.is_sound world
   pub reached : IsReached (seen.catalogue world) whole (seen.machines world) (seen.entries world)
 
--- What a call leaves of a world, whatever it answers: stores that are clean now were clean, and where they are a run that had led to it goes on to it; the catalogue is the same
+-- What a call leaves of a world, whatever it answers: stores that are clean now were clean, and where they are a run that had led to it goes on to it; the catalogue is the same where none comes after it
 pub record LeavesWorld {W : Type 0} (seen : SeenWorld W) (old new : W) : Type 0 where
   pub clean : seen.is_clean new → seen.is_clean old
   pub runs : (whole : Relations) → seen.is_clean new → HasRun seen whole old → HasRun seen whole new
-  pub catalog : seen.catalogue new ≡ seen.catalogue old
+  pub catalogs : (seen.machines old).later ≡ [] → (seen.catalogue new ≡ seen.catalogue old) × ((seen.machines new).later ≡ [])
 
 -- each letter that was sent is counted
 abbrev pub IsCounted : Stage → Type 0

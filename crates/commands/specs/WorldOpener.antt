@@ -13,6 +13,7 @@ use Rattle.commands.specs.Schedule.{SeenWorld}
 pub record IsOpenedOver {W : Type 0} (seen : SeenWorld W) (catalogue : Catalogue) (whole : Relations) (world : W) : Type 0 where
   pub none : seen.entries world ≡ []
   pub catalog : seen.catalogue world ≡ catalogue
+  pub single : (seen.machines world).later ≡ []
   pub sound : seen.is_clean world → seen.is_sound world
   pub run : seen.is_clean world → IsRun (database catalogue) whole (seen.machines world) [] []
 

@@ -1,6 +1,6 @@
 //! Letters of a schedule are delivered.
 
-ghost use Rattle.std.specs.Prelude.{◌≡◌, ◌<◌, ◌+◌, ◌^◌, ◌==◌, true, slice_set, drop, length, IfOk, IfSome, OnOk, string_bytes};
+ghost use Rattle.std.specs.Prelude.{◌≡◌, [], ◌<◌, ◌+◌, ◌^◌, ◌==◌, true, slice_set, drop, length, IfOk, IfSome, OnOk, string_bytes};
 ghost use Rattle.std.specs.List.{list_any};
 ghost use Rattle.std.specs.Option.{option_copied};
 ghost use Rattle.catalog.specs.Relation.{catalogue_of};
@@ -103,7 +103,8 @@ impl<D: DeskStore, S: SiteStore> Schedule<D, S> {
     /// Each letter that never came is delivered, but for these: the least number first, new ones too, until none
     /// is left or a million went.
     pub fn deliver_all(&mut self, alloc: Global, but: &[usize]) -> Result<String, Memory>
-        requires { IsCounted (stage_of self.old) }
+        requires counted { IsCounted (stage_of self.old) }
+        requires single { self.old.world.machines.desk.later.items ≡ [] }
         ensures delivers { IfOk result (λ text. DeliversAll (catalogue_of self.old.world.machines.desk.catalog) but.now (stage_of self.old) (stage_of self.new) (string_bytes text)) }
         ensures leaves { LeavesWorld (world_over D.is_clean S.is_clean D.is_sound S.is_sound D.kept S.kept D.refused S.refused) self.old.world self.new.world }
     {

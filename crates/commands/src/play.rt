@@ -1,6 +1,6 @@
 //! The command `play`: a script of schedules over a world of its own.
 
-ghost use Rattle.std.specs.Prelude.{◌≡◌, IfErr, IfOk, IfSome, OnOk, is_err, true, string_bytes};
+ghost use Rattle.std.specs.Prelude.{◌≡◌, [], IfErr, IfOk, IfSome, OnOk, is_err, true, string_bytes};
 ghost use Rattle.std.specs.Io.KnownBytes.{Keeps};
 ghost use Rattle.meaning.specs.Whole.{FitsSchema};
 ghost use Rattle.catalog.specs.FragmentLeaf.{schemas_of};
@@ -152,7 +152,8 @@ fn play_items<'a, D: DeskStore, S: SiteStore, W: Write>(
     items: &[Placed],
     output: &mut W,
 ) -> Result<(), ProgramFault<'a>>
-    requires { IsCounted (stage_of schedule.old) }
+    requires counted { IsCounted (stage_of schedule.old) }
+    requires single { schedule.old.world.machines.desk.later.items ≡ [] }
     ensures ok { OnOk result (PlaysItems (world_over D.is_clean S.is_clean D.is_sound S.is_sound D.kept S.kept D.refused S.refused) items.now (W.contents output.old) (W.contents output.new) schedule.old schedule.new) }
     ensures leaves { LeavesWorld (world_over D.is_clean S.is_clean D.is_sound S.is_sound D.kept S.kept D.refused S.refused) schedule.old.world schedule.new.world }
     ensures err { IfErr result IsOfOutput }
@@ -172,7 +173,8 @@ fn play_item<D: DeskStore, S: SiteStore>(
     schedule: &mut Schedule<D, S>,
     item: &Item,
 ) -> Result<String, Memory>
-    requires { IsCounted (stage_of schedule.old) }
+    requires counted { IsCounted (stage_of schedule.old) }
+    requires single { schedule.old.world.machines.desk.later.items ≡ [] }
     ensures plays { IfOk result (λ told. PlaysItem (world_over D.is_clean S.is_clean D.is_sound S.is_sound D.kept S.kept D.refused S.refused) item.now schedule.old schedule.new (string_bytes told)) }
     ensures leaves { LeavesWorld (world_over D.is_clean S.is_clean D.is_sound S.is_sound D.kept S.kept D.refused S.refused) schedule.old.world schedule.new.world }
 {

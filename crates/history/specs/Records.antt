@@ -44,6 +44,7 @@ pub record AreTaken {S : Type 0} (is_clean is_sound : S → Type 0) (content : S
 
 -- The machines are those of the catalogue, and their histories replay, from the opening to what they are now, where their stores are clean, which then are sound.
 pub record AreRecords {D S : Type 0} (desk_is_clean desk_is_sound : D → Type 0) (desk_content : D → DeskContent) (site_is_clean site_is_sound : S → Type 0) (site_content : S → SiteContent) (machines : Machines D S) (opening : DeskKept) (entries : List Entry) (pasts : List Past) : Type 0 where
+  pub single : machines.desk.later.items ≡ []
   pub base : IsBase (database (catalogue_of machines.desk.catalog))
   pub sites : AllByRecursion (λ (site : Site S). site_is_clean site.store) machines.sites.items → AreSitesOf (catalogue_of machines.desk.catalog) machines.desk.catalog.0 (map (seat_from site_content) machines.sites.items)
   pub lasts : map (λ (past : SitePast). past.last) (pasts_in site_content machines.sites.items pasts) ≡ map (seat_from site_content) machines.sites.items

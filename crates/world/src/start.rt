@@ -103,6 +103,7 @@ pub(crate) fn start(
 ) -> Result<Machines<PlainDesk, PlainSite>, Fault>
     ensures opens { IfOk result (λ machines. (db : Database) → IsPlaced db machines.desk.volatile.version (catalogue_of catalog.now) whole.now → Opens db whole.now (held desk_kept kept_of machines)) }
     ensures catalog { IfOk result (λ machines. catalogue_of machines.desk.catalog ≡ catalogue_of catalog.now) }
+    ensures single { IfOk result (λ machines. machines.desk.later.items ≡ []) }
     ensures sound { IfOk result (λ machines. OfStores (λ _. Unit {0}) IsSound machines) }
     ensures err { IfErr result (λ fault. is_memory fault ≡ true) }
 {
@@ -201,6 +202,7 @@ pub(crate) fn start_on<D: DeskStore + Drop, S: SiteStore + Drop>(
     ensures clean { IfOk result (λ machines. OfStores D.is_clean S.is_clean machines → OfGiven D.is_clean S.is_clean desk sites.items) }
     ensures sound { IfOk result (λ machines. OfStores D.is_clean S.is_clean machines → OfStores D.is_sound S.is_sound machines) }
     ensures catalog { IfOk result (λ machines. catalogue_of machines.desk.catalog ≡ catalogue_of catalog.now) }
+    ensures single { IfOk result (λ machines. machines.desk.later.items ≡ []) }
     ensures own { IfErr result StopsOpening }
 {
     let _relations = catalog.relations();

@@ -82,6 +82,7 @@ pub fn open(
         → IfOk result (λ world. IsRun (database (catalogue_of catalog.now)) whole.now (held desk_kept kept_of world.machines) [] []) }
     ensures none { IfOk result (λ world. world.entries.items ≡ []) }
     ensures catalog { IfOk result (λ world. catalogue_of world.machines.desk.catalog ≡ catalogue_of catalog.now) }
+    ensures single { IfOk result (λ world. world.machines.desk.later.items ≡ []) }
     ensures sound { IfOk result (λ world. OfStores (λ _. Unit {0}) IsSound world.machines) }
     ensures err { IfErr result (λ fault. is_memory fault ≡ true) }
 {
@@ -112,6 +113,7 @@ pub fn open_on<D: DeskStore + Drop, S: SiteStore + Drop>(
     ensures clean { IfOk result (λ world. OfStores D.is_clean S.is_clean world.machines → OfGiven D.is_clean S.is_clean desk sites.items) }
     ensures sound { IfOk result (λ world. OfStores D.is_clean S.is_clean world.machines → OfStores D.is_sound S.is_sound world.machines) }
     ensures catalog { IfOk result (λ world. catalogue_of world.machines.desk.catalog ≡ catalogue_of catalog.now) }
+    ensures single { IfOk result (λ world. world.machines.desk.later.items ≡ []) }
     ensures own { IfErr result StopsOpening }
 {
     database_is_of_catalogue(catalog);

@@ -22,7 +22,7 @@ returns-clause-ok g c =
     let ran = c.in_ok-done.ensures.ok in
     let opened : IsOpenedOver seen catalogue whole opening.world = subst (IsOpenedOver seen catalogue whole) (sym c.new-schedule.ensures.world) c.in_ok-world.ensures.ok in
     let runs = λ (clean : seen.is_clean ended.world). leaves.runs whole clean (has_run seen catalogue whole opening.world opened (leaves.clean clean)) in
-    let over = leaves.catalog ∙ opened.catalog in
+    let over = (leaves.catalogs opened.single).0 ∙ opened.catalog in
     let reached = λ (clean : seen.is_clean ended.world). subst (λ (catalogue : Catalogue). IsReached catalogue whole (seen.machines ended.world) (seen.entries ended.world)) over (runs clean).reached in
     record {
       opening = opening;

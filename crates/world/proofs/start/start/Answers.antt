@@ -25,6 +25,9 @@ returns-in-Ok-clause-opens c = λ db placed.
 pub returns-in-Ok-clause-catalog : goal.returns-in-Ok-clause-catalog
 returns-in-Ok-clause-catalog c = in_force_is c.in-Ok.desk.volatile.version (catalogue_of c.args.catalog.now) _ c.in-Ok.desk.catalog c.in-Ok.desk.later.items c.in_ok-chain.ensures c.in-Ok.ensures.catalogs
 
+pub returns-in-Ok-clause-single : goal.returns-in-Ok-clause-single
+returns-in-Ok-clause-single c = none_later c.in-Ok.desk.volatile.version (catalogue_of c.args.catalog.now) _ c.in-Ok.desk.catalog c.in-Ok.desk.later.items c.in_ok-chain.ensures c.in-Ok.ensures.catalogs
+
 pub returns-in-Err-clause-err : goal.returns-in-Err-clause-err
 returns-in-Err-clause-err c =
     let start = c.in-Err.ensures in

@@ -41,3 +41,6 @@ returns-clause-sound g c =
 
 pub returns-clause-catalog : goal.returns-clause-catalog
 returns-clause-catalog g c = if_ok c.machines_up.result (λ machines up. up.catalog) c.machines_up.ensures.up
+
+pub returns-clause-single : goal.returns-clause-single
+returns-clause-single g c = if_ok c.machines_up.result (λ machines up. up.single) c.machines_up.ensures.up

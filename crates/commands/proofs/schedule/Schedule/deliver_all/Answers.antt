@@ -20,7 +20,7 @@ loop-preserved g c =
     let due_here : first_due but middle ≡ Some place =
     so_far.due ∙ ap (λ (came : List Bool). first_due_from c.loop.from but (drop c.loop.from came)) (sym c.as_slice.ensures.value) ∙ sym c.in-Some.ensures.due in
     let delivered : DeliversAt catalogue place true middle after (string_bytes c.in_ok-told.told) =
-    subst (λ (over : Catalogue). DeliversAt over place true middle after (string_bytes c.in_ok-told.told)) so_far.leaves.catalog c.in_ok-told.ensures.delivers in
+    subst (λ (over : Catalogue). DeliversAt over place true middle after (string_bytes c.in_ok-told.told)) (so_far.leaves.catalogs c.requires.single).0 c.in_ok-told.ensures.delivers in
     let wrote : string_bytes c.push_str.new.self ≡ string_bytes c.loop.text ++ string_bytes c.in_ok-told.told = search rules in
     let went = so_far.went.0 in
     let count : length (went ++ place ∷ []) ≡ c.loop.counter + 1 = simp length-append (omega (arith, so_far.went.2)) in

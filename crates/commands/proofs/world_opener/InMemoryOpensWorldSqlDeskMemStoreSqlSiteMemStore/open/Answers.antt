@@ -19,6 +19,7 @@ returns-in-Ok-clause-ok c =
     record {
       none = c.in-Ok.ensures.none;
       catalog = c.in-Ok.ensures.catalog;
+      single = c.in-Ok.ensures.single;
       sound = c.in-Ok.ensures.sound;
       run = λ clean. c.in-Ok.ensures.ok clean new c.requires;
     }

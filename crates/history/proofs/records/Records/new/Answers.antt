@@ -29,6 +29,7 @@ returns-clause-records g c =
     let yes : c.in_ok-are_sites_of.field-0 ≡ true = let no = c.if-not-branch.false in cc in
     let Are : List (List ℕ) × List SplitRelation → List (List ℕ) → List (SiteHistory g.row.S.Denot) → Type 0 = λ catalog names all. AreSitesOf (catalogue_of catalog) names (map (seat_from kept) (map (λ (cell : SiteHistory g.row.S.Denot). cell.site) all)) in
     record {
+      single = opened.replays.single;
       base = opened.replays.base;
       sites = λ clean.
           let of_cells = subst (AllByRecursion (λ (site : Site g.row.S.Denot). is_clean site.store)) taken.machines clean in
