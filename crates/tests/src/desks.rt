@@ -64,7 +64,7 @@ fn put_refusal(told: &mut Told, refusal: Refusal) -> Result<bool, Memory> {
 }
 
 /// The chain of two catalogues.
-fn chain(alloc: Global) -> Result<Chain, Memory> {
+pub(crate) fn chain(alloc: Global) -> Result<Chain, Memory> {
     let mut catalogs = Vec::new(alloc);
     catalogs.push(Catalog::read(alloc, EMP_AND_DEPT).map_err(|_| Memory)?)?;
     catalogs.push(Catalog::read(alloc, EMP_BY_ROWS).map_err(|_| Memory)?)?;

@@ -1,8 +1,14 @@
 //! A relation gets the split of the next catalogue: what its coordinator puts out, line by line.
 
-use crate::desks::plays;
+use crate::desks::{chain, plays};
+use desk::desk::Desk;
+use desk::refusal::Refusal;
 use std::alloc::Global;
 use std::test::*;
+use store::desk_store::DeskStore;
+use store::name::Txn;
+use store::plain_desk::PlainDesk;
+use terms::memory::Memory;
 
 /// A relation that was split by columns and rows is split by rows alone: its parts move, and nothing begins beside it.
 const MOVES: &str = "start
@@ -105,5 +111,34 @@ fn letters_of_a_refragmentation(rt: HostRuntime) {
     for (name, pieces) in cases {
         let same = plays(rt.alloc(), pieces).or_else(|_| plays(rt.alloc(), pieces));
         assert!(rt; same == Ok(true), "{name}");
+    }
+}
+
+/// How many catalogues come after the one in force, where the store of a coordinator of two keeps this number; none where it is
+/// refused, since neither has the number.
+fn later_than(alloc: Global, version: u64) -> Result<Option<usize>, Memory> {
+    let chain = chain(alloc)?;
+    let mut store = PlainDesk::new(alloc);
+    store
+        .keep_commit(Txn { life: 1, number: 1 }, &[], version)
+        .map_err(|_| Memory)?;
+    match Desk::start(alloc, &chain, store) {
+        Ok(desk) => Ok(Some(desk.later().len())),
+        Err(unstarted) => {
+            if unstarted.refusal == Refusal::Chain {
+                Ok(None)
+            } else {
+                Err(Memory)
+            }
+        }
+    }
+}
+
+#[test]
+fn starts_under_the_number_of_its_store(rt: HostRuntime) {
+    let cases = [(0, None), (1, Some(1)), (2, Some(0)), (3, None)];
+    for (version, later) in cases {
+        let found = later_than(rt.alloc(), version).or_else(|_| later_than(rt.alloc(), version));
+        assert!(rt; found == Ok(later), "{version}");
     }
 }
