@@ -1,6 +1,6 @@
 //! The coordinator's machine.
 
-ghost use Rattle.std.specs.Prelude.{◌≡◌, ◌≢◌, ◌⊎◌, ◌+◌, ◌≤◌, ◌^◌, ◌==◌, ◌∷◌, List, map, None, Some, true, false, Err, IfOk, IfErr, OnOk, if◌then◌else◌};
+ghost use Rattle.std.specs.Prelude.{◌≡◌, ◌≢◌, ◌⊎◌, ◌+◌, ◌≤◌, ◌^◌, ◌==◌, ◌∷◌, [], List, map, None, Some, true, false, Err, IfOk, IfErr, OnOk, if◌then◌else◌};
 ghost use Rattle.std.specs.BTreeMap.{IsOrdered};
 ghost use Rattle.std.specs.Option.{option_copied, option_map};
 ghost use Rattle.meaning.specs.declared.statement.Statement.{Statement as StatementNow};
@@ -23,11 +23,11 @@ ghost use Rattle.desk.specs.Does.{IsNoStatement, Runs, RunsPastLimits, States, S
 ghost use Rattle.desk.specs.Frame.{RefragmentsDesk, RestartsDesk, StatesPlainly, StepsPlainly, TakesLetter, TakesUnder};
 ghost use Rattle.desk.specs.OfCatalogue.{InForce, IsOfCatalogue, first_in, follow, from_number};
 ghost use Rattle.desk.specs.Recovery.{IsStrange, Rises};
-ghost use Rattle.desk.specs.State.{Begins, Fits, Steps, anyone_moves, desk_of, volatile_of};
+ghost use Rattle.desk.specs.State.{Begins, Fits, Steps, anyone_moves, desk_of, volatile_from, volatile_of};
 
-use crate::opening::open;
+use crate::opening::{Catalogs, Opened, open};
 use crate::receive::{may_send, on_reply, passed_over, take};
-use crate::recovery::restart;
+use crate::recovery::{Beginning, restart};
 use crate::refragment::{call_refragment, refragment_of};
 use crate::refusal::{Refusal, store_refusal};
 use crate::reply::Out;
@@ -70,6 +70,38 @@ fn first_in(catalogs: &[Catalog]) -> Option<&Catalog>
     catalogs.first()
 }
 
+/// The coordinator that begins so.
+fn begun_under<S: DeskStore>(alloc: Global, opened: Opened, store: S) -> Desk<S>
+    ensures store { result.store ≡ store }
+    ensures catalog { result.catalog ≡ opened.catalogs.in_force }
+    ensures later { result.later ≡ opened.catalogs.later }
+    ensures standings { result.volatile.standings ≡ opened.begun.standings }
+    ensures memory { volatile_of result.volatile ≡ volatile_from opened.begun.standings.entries 0 opened.begun.life 0 opened.begun.version }
+    ensures version { result.volatile.version ≡ opened.begun.version }
+{
+    let Opened { catalogs, begun } = opened;
+    let Catalogs { in_force, later } = catalogs;
+    let Beginning {
+        standings,
+        letters: _,
+        life,
+        version,
+    } = begun;
+    Desk {
+        store,
+        catalog: in_force,
+        later,
+        volatile: Volatile {
+            alloc,
+            standings,
+            undecided: 0,
+            life,
+            number: 0,
+            version,
+        },
+    }
+}
+
 impl<S: DeskStore> Desk<S> {
     /// Starts the coordinator of this chain of catalogues: the next life begins, and the catalogue whose number the store keeps is in
     /// force; Chain where there is none of it. On a refusal the store is as it was.
@@ -91,19 +123,7 @@ impl<S: DeskStore> Desk<S> {
     {
         let mut store = store;
         match open(&mut store, alloc, chain.as_slice()) {
-            Ok(opened) => Ok(Desk {
-                store,
-                catalog: opened.catalogs.in_force,
-                later: opened.catalogs.later,
-                volatile: Volatile {
-                    alloc,
-                    standings: opened.begun.standings,
-                    undecided: 0,
-                    life: opened.begun.life,
-                    number: 0,
-                    version: opened.begun.version,
-                },
-            }),
+            Ok(opened) => Ok(begun_under(alloc, opened, store)),
             Err(refusal) => Err(Unstarted { refusal, store }),
         }
     }

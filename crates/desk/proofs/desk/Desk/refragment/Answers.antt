@@ -1,21 +1,55 @@
 -- Why `refragment` meets its contract.
-use Rattle.std.proofs.Common.{refl, sym, subst}
+use Rattle.std.proofs.Common.{◌≡◌, ◌⊎◌, inl, inr, refl, sym, ap, ◌∙◌, subst, List, Result, Ok, Err, IfErr, OnOk}
+use Rattle.meaning.specs.declared.schema.RelationSchema.{RelationSchema}
+use Rattle.meaning.specs.declared.statement.Statement.TheVariants as statements
+use Rattle.reader.specs.declared.command.Command.TheVariants as command
+use Rattle.reader.specs.Command.{IsTextOf}
+use Rattle.catalog.specs.FragmentLeaf.{schemas_of}
 use Rattle.catalog.specs.Relation.{catalogue_of}
-use Rattle.desk.specs.OfCatalogue.{IsNextOf}
-use Rattle.desk.specs.Refragmented.{IsNoNext}
+use Rattle.desk.specs.declared.refusal.Refusal.{Refusal}
+use Rattle.desk.specs.declared.refusal.Refusal.TheVariants as refusals
+use Rattle.desk.specs.OfCatalogue.{IsNextOf, first_in}
+use Rattle.desk.specs.Refragmented.{IsNoNext, IsNoRefragment}
+use Rattle.desk.proofs.Unread.{if_ok}
 use Rattle.desk.proofs.desk.Desk.refragment.Goals as goal
+
+-- what holds where it is done, and of why it isn't
+done_so : {A E P Q : Type 0} (result : Result A E) → (P → Q) → OnOk result P → OnOk result Q
+done_so (Ok x) to p = to p
+done_so (Err e) to p = tt
+
+also_unread : {A : Type 0} (result : Result A Refusal) (Unread : Refusal → Type 0) → IfErr result (λ told. (told ≡ refusals.Memory) ⊎ (told ≡ refusals.Full) ⊎ (told ≡ refusals.NotAlone) ⊎ (told ≡ refusals.NoNext)) →
+    IfErr result (λ told. (told ≡ refusals.Memory) ⊎ (told ≡ refusals.Full) ⊎ (told ≡ refusals.NotAlone) ⊎ (told ≡ refusals.NoNext) ⊎ Unread told)
+also_unread (Ok x) Unread own = tt
+also_unread (Err told) Unread (inl is) = inl is
+also_unread (Err told) Unread (inr (inl is)) = inr (inl is)
+also_unread (Err told) Unread (inr (inr (inl is))) = inr (inr (inl is))
+also_unread (Err told) Unread (inr (inr (inr is))) = inr (inr (inr (inl is)))
 
 pub returns : goal.returns
 returns g c =
     let kept = g.S.DeskStore.kept c.args.self.now.store in
     let now = c.args.self.now in
+    let does = c.call_refragment.ensures in
+    let read = c.in_ok-refragment.ensures in
+    let first = c.first_in-next.ensures ∙ ap first_in c.as_slice.ensures.value in
     record {
       refragments = record {
-        plainly = record { kept = c.call_refragment.ensures.steps.kept; err = c.call_refragment.ensures.steps.err; store = refl; catalog = refl; later = refl };
-        ok = λ db of same next. c.call_refragment.ensures.ok db kept of same (subst (IsNextOf db now.volatile.version) (sym c.first_in.ensures) next);
-        own = c.call_refragment.ensures.own;
-        full = λ db. c.call_refragment.ensures.full db kept;
-        alone = c.call_refragment.ensures.alone;
-        none = λ is. subst (λ next. IsNoNext (catalogue_of now.catalog) next c.args.refragment.now.relation.name) c.first_in.ensures (c.call_refragment.ensures.none is);
+        plainly = record { kept = does.steps.kept; err = does.steps.err; store = refl; catalog = refl; later = refl };
+        ok = λ db of same next fits.
+            if_ok c.call_refragment.result (λ out moved. record {
+              refragment = c.in_ok-refragment.refragment;
+              spelled = subst (λ (schemas : List RelationSchema). IsTextOf schemas c.args.text.now (command.Run (statements.Refragment c.in_ok-refragment.refragment))) (sym (of.schemas now.volatile.version ∙ ap schemas_of same)) read.spelled;
+              does = moved;
+            }) (does.ok db kept of same (subst (IsNextOf db now.volatile.version) (sym first) next) fits);
+        next = done_so c.call_refragment.result (λ some none. some (first ∙ ap first_in none)) does.next;
+        own = also_unread c.call_refragment.result (IsNoRefragment (schemas_of (catalogue_of now.catalog)) c.args.text.now) does.own;
+        full = λ db. does.full db kept;
+        alone = does.alone;
+        none = λ is. record {
+          refragment = c.in_ok-refragment.refragment;
+          spelled = read.spelled;
+          none = subst (λ next. IsNoNext (catalogue_of now.catalog) next c.in_ok-refragment.refragment.relation.name) first (does.none is);
+        };
       };
     }

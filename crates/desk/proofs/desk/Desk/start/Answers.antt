@@ -1,10 +1,13 @@
 -- Why `start` meets its contract.
-use Rattle.std.proofs.Common.{rules, sym, ◌∙◌, subst}
-use Rattle.desk.specs.Recovery.{IsStrange}
+use Rattle.std.proofs.Common.{sym, ◌∙◌, ap, subst, ℕ, List}
+use Rattle.catalog.specs.declared.relation.SplitRelation.{SplitRelation}
+use Rattle.desk.specs.Recovery.{Rises}
+use Rattle.desk.specs.State.{volatile_of}
 use Rattle.desk.proofs.desk.Desk.start.Goals as goal
 
 pub returns-in-Ok-clause-ok : goal.returns-in-Ok-clause-ok
-returns-in-Ok-clause-ok g c = λ db over clean. c.in-Ok.ensures.rises db (over.sites ∙ sym c.sites.ensures) clean
-
-pub returns-in-Err-clause-damaged : goal.returns-in-Err-clause-damaged
-returns-in-Err-clause-damaged g c = λ clean sound is. subst (λ ss. IsStrange ss (g.S.DeskStore.kept c.begin.new.store)) c.sites.ensures (c.begin.ensures.begins.damaged clean sound (search rules))
+returns-in-Ok-clause-ok g c = λ db over clean.
+    let told = c.begun_under.ensures in
+    let kept = g.S.DeskStore.kept in
+    let rose = c.in-Ok.ensures.rises db (over.sites ∙ ap (λ (catalog : List (List ℕ) × List SplitRelation). catalog.0) told.catalog) (subst g.S.DeskStore.is_clean told.store clean) in
+    subst (λ store. Rises db (kept store) (volatile_of c.begun_under.result.volatile)) (sym told.store) (subst (Rises db (kept c.open.new.store)) (sym told.memory) rose)

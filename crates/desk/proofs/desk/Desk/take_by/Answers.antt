@@ -1,5 +1,5 @@
 -- Why `take_by` meets its contract.
-use Rattle.std.proofs.Common.{refl, rules, ◌≡◌, true, false, nat_eq, sym, ◌∙◌, subst, IfOk}
+use Rattle.std.proofs.Common.{ap, refl, rules, ◌≡◌, true, false, nat_eq, sym, ◌∙◌, subst, IfOk}
 use Rattle.std.specs.Cmp.Lexicographic.{pointwise}
 use Rattle.std.specs.List.{list_any}
 use Rattle.catalog.specs.Relation.{catalogue_of}
@@ -11,7 +11,7 @@ use Rattle.desk.specs.Called.{CallsStore}
 use Rattle.desk.specs.Request.{txn_in}
 use Rattle.desk.specs.Database.{language, replied}
 use Rattle.desk.specs.Does.{IsPastLimits, Takes}
-use Rattle.desk.specs.OfCatalogue.{IsNextOf}
+use Rattle.desk.specs.OfCatalogue.{IsNextOf, first_in}
 use Rattle.desk.specs.State.{volatile_of}
 use Rattle.desk.specs.Receive.{may_send}
 use Rattle.desk.proofs.Called.{no_call, steps_as}
@@ -51,7 +51,7 @@ returns-then-may_send g c = record {
         let here : letter.body ≡ body.Reply said = search rules in
         let is : said ≡ reply = said_is (sym here ∙ says) in
         subst (λ x. IfOk c.on_reply.result (λ out. Takes db (volatile_of volatile) kept (volatile_of c.on_reply.new.volatile) letter.txn (λ choice. on_desk_letter (txn_name letter.txn) letter.site out.kept choice (replied db letter.site x) (txn_in db (volatile_of volatile) letter.txn)) out.letters out.replies)) is
-        (loud_takes db (volatile_of volatile) kept (volatile_of c.on_reply.new.volatile) letter.txn letter.site said c.on_reply.result c.on_reply.ensures.steps.kept (c.on_reply.ensures.ok db kept of same (subst (IsNextOf db volatile.version) (sym c.first_in.ensures) next) fits among));
+        (loud_takes db (volatile_of volatile) kept (volatile_of c.on_reply.new.volatile) letter.txn letter.site said c.on_reply.result c.on_reply.ensures.steps.kept (c.on_reply.ensures.ok db kept of same (subst (IsNextOf db volatile.version) (sym (c.first_in-next.ensures ∙ ap first_in c.as_slice.ensures.value)) next) fits among));
     strange = λ strange.
         let letter = c.args.letter.now in
         let said = c.in-Reply.reply in
@@ -72,7 +72,7 @@ returns-then-may_send g c = record {
         let here : letter.body ≡ body.Reply said = search rules in
         let is : said ≡ reply = said_is (sym here ∙ says) in
         subst (λ x. IsPastLimits db (volatile_of volatile) letter.txn (λ choice. on_desk_letter (txn_name letter.txn) letter.site true choice (replied db letter.site x) (txn_in db (volatile_of volatile) letter.txn))) is
-        (c.on_reply.ensures.full db (g.S.DeskStore.kept c.args.self.now.store) of same (subst (IsNextOf db volatile.version) (sym c.first_in.ensures) next) fits among full);
+        (c.on_reply.ensures.full db (g.S.DeskStore.kept c.args.self.now.store) of same (subst (IsNextOf db volatile.version) (sym (c.first_in-next.ensures ∙ ap first_in c.as_slice.ensures.value)) next) fits among full);
     full_at = λ reply says full.
         let letter = c.args.letter.now in
         let said = c.in-Reply.reply in
