@@ -36,11 +36,14 @@ module _ (n : ℕ) (c : Catalogue) (chain : List Catalogue) (catalog : List (Lis
 pub no_next : (db : Database) (n : ℕ) (later : List (List (List ℕ) × List SplitRelation)) → later ≡ [] → IsNextOf db n (first_in later)
 no_next db n later none = subst (λ (those : List (List (List ℕ) × List SplitRelation)). IsNextOf db n (first_in those)) (sym none) tt
 
-pair_is : (catalog now : List (List ℕ) × List SplitRelation) (after : List (List (List ℕ) × List SplitRelation)) → (now, after) ≡ (catalog, []) → (now ≡ catalog) × (after ≡ [])
-pair_is catalog now after e = (ap (λ (pair : (List (List ℕ) × List SplitRelation) × List (List (List ℕ) × List SplitRelation)). pair.0) e, ap (λ (pair : (List (List ℕ) × List SplitRelation) × List (List (List ℕ) × List SplitRelation)). pair.1) e)
+abbrev Catalogs : Type 0
+Catalogs = (List (List ℕ) × List SplitRelation) × List (List (List ℕ) × List SplitRelation)
+
+pair_is : (one other : Catalogs) → one ≡ other → (one.0 ≡ other.0) × (one.1 ≡ other.1)
+pair_is one other e = (ap (λ (pair : Catalogs). pair.0) e, ap (λ (pair : Catalogs). pair.1) e)
 
 pub single_stays : (catalog now : List (List ℕ) × List SplitRelation) (later after : List (List (List ℕ) × List SplitRelation)) (same : Bool) → (now, after) ≡ (if same then (catalog, later) else follow catalog later) → later ≡ [] → (now ≡ catalog) × (after ≡ [])
-single_stays catalog now later after same stands none = pair_is catalog now after (stands ∙ ap (λ (those : List (List (List ℕ) × List SplitRelation)). if same then (catalog, those) else follow catalog those) none ∙ go same)
+single_stays catalog now later after same stands none = pair_is (now, after) (catalog, []) (stands ∙ ap (λ (those : List (List (List ℕ) × List SplitRelation)). if same then (catalog, those) else follow catalog those) none ∙ go same)
   where
     go : (b : Bool) → (if b then (catalog, []) else follow catalog []) ≡ (catalog, [])
     go true = refl

@@ -66,9 +66,9 @@ statement_refused {T} db later table txn text catalog is (Err told) still all pa
     ))
 
 -- what doesn't hold is said of no result
-pub unless_ok : {T E : Type 0} {P : T → Type 0} {Q : Type 0} (result : Result T E) → (Q → ⊥) → OnOk result Q → IfOk result P
-unless_ok (Ok x) never q = absurd (never q)
-unless_ok (Err e) never q = tt
+pub unless_ok : {T E : Type 0} (P : T → Type 0) {Q : Type 0} (result : Result T E) → (Q → ⊥) → OnOk result Q → IfOk result P
+unless_ok P (Ok x) never q = absurd (never q)
+unless_ok P (Err e) never q = tt
 
 -- why a REFRAGMENT is refused, as the coordinator's contract says it
 pub refragment_refused : {T : Type 0} (db : Database) (later : List (List (List ℕ) × List SplitRelation)) (table : VolatileState) (catalog : List (List ℕ) × List SplitRelation) → InForce db table.version catalog → db.schemas ≡ schemas_of (db.catalogue table.version) → (text : List ℕ) (result : Result T Refusal) →

@@ -48,4 +48,4 @@ returns-in-GiveUp-clause-ok g c = λ db single of is fit.
 
 -- where no catalogue comes next no relation gets another split
 pub returns-in-Refragment-clause-ok : goal.returns-in-Refragment-clause-ok
-returns-in-Refragment-clause-ok g c = λ db single of is fit. unless_ok c.refragment.result (λ next. next single) c.refragment.ensures.refragments.next
+returns-in-Refragment-clause-ok g c = λ db single of is fit. unless_ok _ c.refragment.result (λ next. next single) c.refragment.ensures.refragments.next

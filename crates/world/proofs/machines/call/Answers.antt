@@ -98,9 +98,9 @@ returns-in-Rollback-clause-refused g c = λ db of is fit.
 
 -- where no catalogue comes next no relation gets another split
 pub returns-in-Refragment-clause-ok : goal.returns-in-Refragment-clause-ok
-returns-in-Refragment-clause-ok g c = λ db whole entries past of is so. unless_ok c.refragment.result (λ next. next so.fit.single) c.refragment.ensures.next
+returns-in-Refragment-clause-ok g c = λ db whole entries past of is so. unless_ok _ c.refragment.result (λ next. next so.fit.single) c.refragment.ensures.next
 
 pub returns-in-Refragment-clause-refused : goal.returns-in-Refragment-clause-refused
 returns-in-Refragment-clause-refused g c = λ db of is fit.
     subst (λ (asked : calls.Call). IfErr c.refragment.result (λ told. (told ≡ refusals.Memory) ⊎ IsRefused db c.args.machines.now.desk.later.items (volatile_of c.args.machines.now.desk.volatile) asked told)) (sym c.in-Refragment.is)
-    (subst (λ text. IfErr c.refragment.result (λ told. (told ≡ refusals.Memory) ⊎ IsRefused db c.args.machines.now.desk.later.items (volatile_of c.args.machines.now.desk.volatile) (call.Refragment text) told)) c.as_str.ensures (c.refragment.ensures.told db of is fit))
+    (subst (λ text. IfErr c.refragment.result (λ told. (told ≡ refusals.Memory) ⊎ IsRefused db c.args.machines.now.desk.later.items (volatile_of c.args.machines.now.desk.volatile) (call.Refragment text) told)) c.as_str-in-Refragment.ensures (c.refragment.ensures.told db of is fit))

@@ -1,5 +1,5 @@
 -- Why `deliver_all` meets its contract.
-use Rattle.std.proofs.Common.{rules, ◌≡◌, ◌∙◌, ◌+◌, ◌-◌, ℕ, suc, refl, subst, arith}
+use Rattle.std.proofs.Common.{rules, ◌≡◌, ◌+◌, ◌-◌, ℕ, suc, refl, subst, arith}
 use Rattle.protocol.specs.Rounds.{RanksUnder}
 use Rattle.world.specs.Contents.{counted}
 use Rattle.world.specs.Taking.{put_out_by, scene, world_at}

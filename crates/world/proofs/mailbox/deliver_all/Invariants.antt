@@ -1,5 +1,5 @@
 -- What each round keeps.
-use Rattle.std.proofs.Common.{◌≡◌, ◌-◌}
+use Rattle.std.proofs.Common.{◌-◌}
 use Rattle.protocol.specs.Rounds.{RanksUnder}
 use Rattle.desk.specs.Database.{Database}
 use Rattle.desk.specs.OfCatalogue.{InForce, IsOfCatalogue}

@@ -1,5 +1,5 @@
 -- Why `deliver_round` meets its contract.
-use Rattle.std.proofs.Common.{rules, ◌≡◌, ◌∙◌, ◌+◌, ◌-◌, ℕ, suc, length, refl, subst, arith}
+use Rattle.std.proofs.Common.{rules, ◌≡◌, ◌+◌, ◌-◌, ℕ, suc, length, refl, subst, arith}
 use Rattle.world.specs.Contents.{counted}
 use Rattle.world.specs.Taking.{IsInRound, scene}
 use Rattle.world.proofs.InForce.{in_force_on}

@@ -1,5 +1,5 @@
 -- What each letter of a round keeps.
-use Rattle.std.proofs.Common.{◌≡◌, ◌-◌, ℕ, suc}
+use Rattle.std.proofs.Common.{◌-◌, ℕ, suc}
 use Rattle.protocol.specs.Rounds.{RanksUnder}
 use Rattle.desk.specs.Database.{Database}
 use Rattle.desk.specs.OfCatalogue.{InForce, IsOfCatalogue}

@@ -1,5 +1,5 @@
 -- Why `start` meets its contract.
-use Rattle.std.proofs.Common.{◌≡◌, ◌∙◌, ap, subst, sym}
+use Rattle.std.proofs.Common.{◌∙◌, ap, subst, sym}
 use Rattle.catalog.specs.Catalogue.{Catalogue}
 use Rattle.reader.specs.Printable.{AreDistinct}
 use Rattle.catalog.specs.Relation.{catalogue_of}

@@ -1,5 +1,5 @@
 -- Why `refragment` meets its contract.
-use Rattle.std.proofs.Common.{◌∷◌, rules, ap, sym, inl, inr, ⊎_elim}
+use Rattle.std.proofs.Common.{◌∷◌, rules, ap}
 use Rattle.catalog.specs.FragmentLeaf.{schemas_of}
 use Rattle.catalog.specs.Relation.{catalogue_of}
 use Rattle.desk.specs.State.{volatile_of}

@@ -1,5 +1,5 @@
 -- Why `reply` meets its contract.
-use Rattle.std.proofs.Common.{rules, inl, inr, ⊎_elim, ◌==◌}
+use Rattle.std.proofs.Common.{inl, inr, ⊎_elim, ◌==◌}
 use Rattle.desk.specs.State.{volatile_of}
 use Rattle.world.specs.Counted.{counts_of}
 use Rattle.world.specs.Contents.{held}

@@ -35,11 +35,11 @@ loop-event-preserved g c =
     let events = c.args.events.now in
     let what = c.event-item.result in
     let db = database (catalogue_of start.machines.desk.catalog) in
-    let same : catalogue_of mid.machines.desk.catalog ≡ catalogue_of start.machines.desk.catalog = ap catalogue_of all.0.catalog in
-    let passed = subst (λ x. (whole : Relations) (past : List (Deed (language (database x)))) → OfStores D.is_clean S.is_clean now.machines → OfStores D.is_sound S.is_sound mid.machines
-    → IsRun (database x) whole (held D.kept S.kept mid.machines) mid.entries.items past → RunsOn (database x) whole (held D.kept S.kept now.machines) now.entries.items past) same c.in-Ok.ensures.runs in
-    let happened = subst (λ x. (whole : Relations) (past : List (Deed (language (database x)))) → OfStores D.is_clean S.is_clean now.machines → OfStores D.is_sound S.is_sound mid.machines
-    → IsRun (database x) whole (held D.kept S.kept mid.machines) mid.entries.items past → Happens (database x) what (counted D.kept S.kept D.refused S.refused mid.machines) mid.entries.items (counted D.kept S.kept D.refused S.refused now.machines) now.entries.items) same c.in-Ok.ensures.happens in
+    let same : start.machines.desk.later.items ≡ [] → catalogue_of mid.machines.desk.catalog ≡ catalogue_of start.machines.desk.catalog = λ single. ap catalogue_of (all.0.catalogs single).0 in
+    let passed = λ (single : start.machines.desk.later.items ≡ []). subst (λ x. (whole : Relations) (past : List (Deed (language (database x)))) → OfStores D.is_clean S.is_clean now.machines → OfStores D.is_sound S.is_sound mid.machines
+    → IsRun (database x) whole (held D.kept S.kept mid.machines) mid.entries.items past → RunsOn (database x) whole (held D.kept S.kept now.machines) now.entries.items past) (same single) c.in-Ok.ensures.runs in
+    let happened = λ (single : start.machines.desk.later.items ≡ []). subst (λ x. (whole : Relations) (past : List (Deed (language (database x)))) → OfStores D.is_clean S.is_clean now.machines → OfStores D.is_sound S.is_sound mid.machines
+    → IsRun (database x) whole (held D.kept S.kept mid.machines) mid.entries.items past → Happens (database x) what (counted D.kept S.kept D.refused S.refused mid.machines) mid.entries.items (counted D.kept S.kept D.refused S.refused now.machines) now.entries.items) (same single) c.in-Ok.ensures.happens in
     let one_more : take (i + 1) events ≡ take i events ++ what ∷ [] = take_more events i what c.loop-event-test.true ∙ ap (λ (e : Event). take i events ++ e ∷ []) (sym c.event-item.is) in (
       leaves_then D.is_clean S.is_clean D.is_sound S.is_sound D.refused S.refused start.machines mid.machines now.machines all.0 c.in-Ok.ensures.leaves,
       ap (λ n. n + 1) all.1,
@@ -49,8 +49,8 @@ loop-event-preserved g c =
           let sound_mid = all.0.sound clean_mid sound in
           let first = counted D.kept S.kept D.refused S.refused start.machines in
           let last = counted D.kept S.kept D.refused S.refused now.machines in
-          let further = follows_more db (take i events) what first (counted D.kept S.kept D.refused S.refused mid.machines) last start.entries.items mid.entries.items now.entries.items so.1 (happened whole (past ++ so.0.deeds) clean sound_mid so.0.run_on) in (
-            runs_further db whole (held D.kept S.kept mid.machines) (held D.kept S.kept now.machines) mid.entries.items now.entries.items past so.0 (passed whole (past ++ so.0.deeds) clean sound_mid so.0.run_on),
+          let further = follows_more db (take i events) what first (counted D.kept S.kept D.refused S.refused mid.machines) last start.entries.items mid.entries.items now.entries.items so.1 (happened run.fit.single whole (past ++ so.0.deeds) clean sound_mid so.0.run_on) in (
+            runs_further db whole (held D.kept S.kept mid.machines) (held D.kept S.kept now.machines) mid.entries.items now.entries.items past so.0 (passed run.fit.single whole (past ++ so.0.deeds) clean sound_mid so.0.run_on),
             subst (λ es. Follows db es first start.entries.items last now.entries.items) (sym one_more) further,
           ),
     )
