@@ -1,5 +1,5 @@
 #!/usr/bin/env bash
-# Refuses each allocation of a program (bench/weave/main.rt.in) that plays a session's script over the recorded cells of a
+# Refuses each allocation of a program (bench/weave/main.rt.in, over bench/weave/played.rt.in) that plays a session's script over the recorded cells of a
 # coordinator and two sites, and weaves what they recorded. Where memory runs out for `weave`, it is asked for once more with
 # the same records: that has to give the events that come without a refusal, and the records have to show what they showed.
 # Anywhere else the program ends for want of memory.
@@ -19,9 +19,10 @@ if [ -z "$program" ]; then
         grep "^$crate:" "$top/crates.txt" >> "$room/it/crates.txt"
     done
     cp "$top/HANDLES" "$room/it/"
-    mkdir -p "$room/it/crates/bench_weave/src" "$room/it/crates/bench_weave/proofs/desk_cell"
+    mkdir -p "$room/it/crates/bench_weave/src" "$room/it/crates/bench_weave/proofs/played/desk_cell"
     cp "$top/bench/weave/main.rt.in" "$room/it/crates/bench_weave/src/main.rt"
-    cp "$top/bench/weave/desk_cell.antt.in" "$room/it/crates/bench_weave/proofs/desk_cell/Answers.antt"
+    cp "$top/bench/weave/played.rt.in" "$room/it/crates/bench_weave/src/played.rt"
+    cp "$top/bench/weave/desk_cell.antt.in" "$room/it/crates/bench_weave/proofs/played/desk_cell/Answers.antt"
     echo "bench_weave: $crates" >> "$room/it/crates.txt"
     (cd "$room/it/crates/bench_weave" && rt run --jobs 1 > "$room/log" 2>&1) || true
     program=$room/it/crates/bench_weave/out/bench_weave
