@@ -51,7 +51,10 @@ desk_send D s = struct_send (shape (desk.the_type D)) (
   s,
   (
     search (Crossing.crosses, knot.crosses, leaf.the_send, schema.the_field_send, text.the_send, conds.the_send, column.the_send, seq.the_send, sendable) depth 60 fits 20000,
-    (volatile.the_field_send, tt),
+    (
+      search (Crossing.crosses, knot.crosses, leaf.the_send, schema.the_field_send, text.the_send, conds.the_send, column.the_send, seq.the_send, sendable) depth 60 fits 20000,
+      (volatile.the_field_send, tt),
+    ),
   ),
 )
 
