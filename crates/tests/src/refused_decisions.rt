@@ -8,6 +8,7 @@ use crate::refused::{Case, Machine, holds};
 use std::test::*;
 
 const ACKED_CALLS: &str = "load: start
+load: start
 next_incarnation: start
 keep_commit: south>desk Vote T1 1.1 YES
 load: rows
@@ -37,6 +38,7 @@ rows
 ";
 
 const SENT_AGAIN_CALLS: &str = "load: start
+load: start
 next_incarnation: start
 keep_commit: south>desk Vote T1 1.1 YES
 load: rows
@@ -63,6 +65,7 @@ rows
 ";
 
 const DECIDED_CALLS: &str = "load: start
+load: start
 next_incarnation: start
 keep_commit: south>desk Vote T1 1.1 YES
 load: rows
@@ -81,6 +84,7 @@ desk>north Abort T1 1.1
 ";
 
 const RESTARTED_CALLS: &str = "load: start
+load: start
 next_incarnation: start
 load: restart
 next_incarnation: restart
@@ -89,6 +93,7 @@ none
 ";
 
 const READ_AND_WRITTEN_CALLS: &str = "load: start
+load: start
 next_incarnation: start
 keep_commit: south>desk Vote T1 1.1 YES
 load: rows
@@ -109,6 +114,7 @@ rows
 
 /// Where nothing is to be kept.
 const NOTHING_KEPT_CALLS: &str = "load: start
+load: start
 next_incarnation: start
 load: rows
 none
