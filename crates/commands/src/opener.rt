@@ -163,7 +163,8 @@ impl<M: Alter + Drop, F: OpensFiles<M>> Opens<Solo<SqlDesk<M>, SqlSite<M>>> for 
     }
 }
 
-/// What stops the program where a database can't be opened. An incarnation after the last one can't be kept.
+/// What stops the program where a database can't be opened. An incarnation after the last one can't be kept, and a coordinator's store with
+/// the number of a catalogue that isn't given is damaged.
 pub fn unopened<'a>(fault: Fault) -> ProgramFault<'a>
     ensures { IsOfClient result }
 {
@@ -173,6 +174,9 @@ pub fn unopened<'a>(fault: Fault) -> ProgramFault<'a>
                 fault: StoreFault::Refused,
             }
         }
+        Fault::Desk(Refusal::Chain) => ProgramFault::Store {
+            fault: StoreFault::Damaged,
+        },
         fault => stopped(fault),
     }
 }
