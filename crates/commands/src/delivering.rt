@@ -72,7 +72,8 @@ fn letter_refusal(
 impl<D: DeskStore, S: SiteStore> Schedule<D, S> {
     /// The letter of this number, counted from 1, is delivered.
     pub fn deliver(&mut self, alloc: Global, number: usize, kept: bool) -> Result<String, Memory>
-        requires { IsCounted (stage_of self.old) }
+        requires counted { IsCounted (stage_of self.old) }
+        requires single { self.old.world.machines.desk.later.items ≡ [] }
         ensures delivers { IfOk result (λ text. Delivers (catalogue_of self.old.world.machines.desk.catalog) number kept (stage_of self.old) (stage_of self.new) (string_bytes text)) }
         ensures leaves { LeavesWorld (world_over D.is_clean S.is_clean D.is_sound S.is_sound D.kept S.kept D.refused S.refused) self.old.world self.new.world }
     {
@@ -85,6 +86,7 @@ impl<D: DeskStore, S: SiteStore> Schedule<D, S> {
     /// The letter at this place is delivered.
     fn deliver_at(&mut self, alloc: Global, place: usize, kept: bool) -> Result<String, Memory>
         requires counted { IsCounted (stage_of self.old) }
+        requires single { self.old.world.machines.desk.later.items ≡ [] }
         requires within { place + 1 < 2 ^ 64 }
         ensures delivers { IfOk result (λ text. DeliversAt (catalogue_of self.old.world.machines.desk.catalog) place kept (stage_of self.old) (stage_of self.new) (string_bytes text)) }
         ensures leaves { LeavesWorld (world_over D.is_clean S.is_clean D.is_sound S.is_sound D.kept S.kept D.refused S.refused) self.old.world self.new.world }

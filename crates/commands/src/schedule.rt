@@ -143,7 +143,8 @@ impl<D: DeskStore, S: SiteStore> Schedule<D, S> {
 
     /// What the client of the transaction of this name asks for.
     pub fn ask(&mut self, alloc: Global, name: &Text, ask: &Ask) -> Result<String, Memory>
-        requires { IsCounted (stage_of self.old) }
+        requires counted { IsCounted (stage_of self.old) }
+        requires single { self.old.world.machines.desk.later.items ≡ [] }
         ensures asks { IfOk result (λ text. Asks (catalogue_of self.old.world.machines.desk.catalog) name.now ask.now (stage_of self.old) (stage_of self.new) (string_bytes text)) }
         ensures leaves { LeavesWorld (world_over D.is_clean S.is_clean D.is_sound S.is_sound D.kept S.kept D.refused S.refused) self.old.world self.new.world }
     {
@@ -158,7 +159,8 @@ impl<D: DeskStore, S: SiteStore> Schedule<D, S> {
 
     /// A transaction is begun under this name.
     fn begin(&mut self, alloc: Global, name: &Text) -> Result<String, Memory>
-        requires { IsCounted (stage_of self.old) }
+        requires counted { IsCounted (stage_of self.old) }
+        requires single { self.old.world.machines.desk.later.items ≡ [] }
         ensures tries { IfOk result (λ text. Tries (catalogue_of self.old.world.machines.desk.catalog) (Names name.now) (of_client name.now) (events.Call calls.Begin) (stage_of self.old) (stage_of self.new) (string_bytes text)) }
         ensures leaves { LeavesWorld (world_over D.is_clean S.is_clean D.is_sound S.is_sound D.kept S.kept D.refused S.refused) self.old.world self.new.world }
     {
@@ -176,7 +178,8 @@ impl<D: DeskStore, S: SiteStore> Schedule<D, S> {
 
     /// The client of the transaction of this name makes a call.
     fn call(&mut self, alloc: Global, name: &Text, call: Call) -> Result<String, Memory>
-        requires { IsCounted (stage_of self.old) }
+        requires counted { IsCounted (stage_of self.old) }
+        requires single { self.old.world.machines.desk.later.items ≡ [] }
         ensures tries { IfOk result (λ text. Tries (catalogue_of self.old.world.machines.desk.catalog) KeepsNames (of_client name.now) (events.Call call) (stage_of self.old) (stage_of self.new) (string_bytes text)) }
         ensures leaves { LeavesWorld (world_over D.is_clean S.is_clean D.is_sound S.is_sound D.kept S.kept D.refused S.refused) self.old.world self.new.world }
     {
@@ -189,7 +192,8 @@ impl<D: DeskStore, S: SiteStore> Schedule<D, S> {
 
     /// Something happens at the site of this name.
     pub fn at_site(&mut self, alloc: Global, site: &Text, doing: AtSite) -> Result<String, Memory>
-        requires { IsCounted (stage_of self.old) }
+        requires counted { IsCounted (stage_of self.old) }
+        requires single { self.old.world.machines.desk.later.items ≡ [] }
         ensures happens { IfOk result (λ text. HappensAt (catalogue_of self.old.world.machines.desk.catalog) site.now doing (stage_of self.old) (stage_of self.new) (string_bytes text)) }
         ensures leaves { LeavesWorld (world_over D.is_clean S.is_clean D.is_sound S.is_sound D.kept S.kept D.refused S.refused) self.old.world self.new.world }
     {
@@ -205,7 +209,8 @@ impl<D: DeskStore, S: SiteStore> Schedule<D, S> {
 
     /// The coordinator restarts.
     pub fn restart_desk(&mut self, alloc: Global) -> Result<String, Memory>
-        requires { IsCounted (stage_of self.old) }
+        requires counted { IsCounted (stage_of self.old) }
+        requires single { self.old.world.machines.desk.later.items ≡ [] }
         ensures restarts { IfOk result (λ text. RestartsDesk (catalogue_of self.old.world.machines.desk.catalog) (stage_of self.old) (stage_of self.new) (string_bytes text)) }
         ensures leaves { LeavesWorld (world_over D.is_clean S.is_clean D.is_sound S.is_sound D.kept S.kept D.refused S.refused) self.old.world self.new.world }
     {
