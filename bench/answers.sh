@@ -10,17 +10,13 @@
 # usage: bench/answers.sh [PROGRAM]      (default: built anew)
 set -eu
 top=$(cd "$(dirname "$0")/.." && pwd)
+. "$top/bench/copied.sh"
 room=$(mktemp -d)
 trap 'rm -rf "$room"' EXIT
 program=${1:-}
 if [ -z "$program" ]; then
     crates="terms meaning catalog reader plan answers"
-    mkdir -p "$room/it/crates" "$room/it/.git"
-    for crate in $crates; do
-        cp -r "$top/crates/$crate" "$room/it/crates/"
-        grep "^$crate:" "$top/crates.txt" >> "$room/it/crates.txt"
-    done
-    cp "$top/HANDLES" "$room/it/"
+    copied "$room/it" $crates
     mkdir -p "$room/it/crates/bench_answers/src" "$room/it/crates/bench_answers/proofs/done"
     cp "$top/bench/answers/main.rt.in" "$room/it/crates/bench_answers/src/main.rt"
     cp "$top/bench/answers/done.antt.in" "$room/it/crates/bench_answers/proofs/done/Answers.antt"

@@ -8,17 +8,13 @@
 # usage: bench/weave.sh [PROGRAM]      (default: built anew)
 set -eu
 top=$(cd "$(dirname "$0")/.." && pwd)
+. "$top/bench/copied.sh"
 room=$(mktemp -d)
 trap 'rm -rf "$room"' EXIT
 program=${1:-}
 if [ -z "$program" ]; then
     crates="terms meaning catalog reader plan answers store protocol site desk world history"
-    mkdir -p "$room/it/crates" "$room/it/.git"
-    for crate in $crates; do
-        cp -r "$top/crates/$crate" "$room/it/crates/"
-        grep "^$crate:" "$top/crates.txt" >> "$room/it/crates.txt"
-    done
-    cp "$top/HANDLES" "$room/it/"
+    copied "$room/it" $crates
     mkdir -p "$room/it/crates/bench_weave/src" "$room/it/crates/bench_weave/proofs/played/desk_cell"
     cp "$top/bench/weave/main.rt.in" "$room/it/crates/bench_weave/src/main.rt"
     cp "$top/bench/weave/played.rt.in" "$room/it/crates/bench_weave/src/played.rt"
