@@ -20,10 +20,10 @@ use Rattle.world.specs.declared.event.Call as calls
 use Rattle.world.specs.declared.event.Call.TheVariants as call
 use Rattle.world.specs.declared.machines.Machines as code
 use Rattle.world.specs.Commands.{IsCommand, IsLone, IsTakenBack, IsUnreadable, TakesBack, has_no_next, heard_in, is_lone, is_no_command, makes_none}
-use Rattle.world.specs.Counted.{counts}
+use Rattle.world.specs.Counted.{NoFewer, counts}
 use Rattle.world.specs.Contents.{OfStores, counted}
 use Rattle.world.specs.Course.{IsOne, IsTurnedDown, Move, Moves, Refuses}
-use Rattle.world.specs.Frame.{Blames, ComesTo, HasMade, LeavesDatabase, MakesMoves, OverDatabase, StaysServed}
+use Rattle.world.specs.Frame.{Blames, ComesTo, HasMade, LeavesDatabase, MakesMoves, OverDatabase, SameCatalogs, StaysServed}
 use Rattle.world.specs.Machines.{Machines}
 use Rattle.world.specs.Stopping.{StopsFor, is_stop}
 use Rattle.world.proofs.Counting.{no_fewer, no_fewer_then}
@@ -174,6 +174,23 @@ module _ {D S : Type 0} (IsClean IsSound : code.Machines D S → Type 0) (view :
         made = refl;
         is = λ spelled. makes_none told_as.NoNext refl (has_no_next refragment.0 none (subst (λ (s : Statement). IsTextOf db.schemas text (Run s)) refragment.1 spelled) refl) refl refl;
       }))
+
+  -- so where no catalogue comes later; where one does, nothing is said of one client's database
+  pub is_refragmented : {T : Type 0} {items : T → List Notice} (old new : code.Machines D S) (result : Result T Refusal) (text : List ℕ) (current : Option Txn) (statement : Statement) → is_refragment statement ≡ true → current ≡ None →
+      (IsClean new → IsClean old) → (IsClean new → IsSound old → IsSound new) → NoFewer (view old).refused (view new).refused → SameCatalogs (λ machines. (view machines).later) old new → (IsClean new → IsSound old → IfErr result (StopsFor (view old).refused (view new).refused)) →
+      ((view old).later ≡ [] → (result ≡ Err told_as.NoNext) × (new ≡ old)) → ComesTo IsClean IsSound view old new result (λ db done moves. IsTextOf db.schemas text (Run statement) → IsCommand db.schemas text current current moves (heard_in items done))
+  is_refragmented {T = T} {items = items} old new result text current statement moves_rows none clean sound fewer catalogs blames single =
+      let here = λ (last : (view old).later ≡ []). subst (λ (r : Result T Refusal). ComesTo IsClean IsSound view old new r (λ db done moves. IsTextOf db.schemas text (Run statement) → IsCommand db.schemas text current current moves (heard_in items done))) (sym (single last).0)
+      (subst (λ (m : code.Machines D S). ComesTo IsClean IsSound view old m (Err told_as.NoNext) (λ db done moves. IsTextOf db.schemas text (Run statement) → IsCommand db.schemas text current current moves (heard_in items done))) (sym (single last).1) (finds_none_next {items = items} old text current statement moves_rows none)) in
+      record {
+        clean = clean;
+        sound = sound;
+        counts = fewer;
+        catalogs = catalogs;
+        blames = blames;
+        served = λ db whole past of law is fresh firm served. (here served.fit.single).served db whole past of law is fresh firm served;
+        moves = λ db of is fresh firm fit. (here fit.single).moves db of is fresh firm fit;
+      }
 
   -- a text is no command's
   pub unread : {T : Type 0} {items : T → List Notice} (machines : code.Machines D S) (told : Refusal) (text : List ℕ) (current : Option Txn) → ((db : Database) → IsOfCatalogue db → InForce db (view machines).table.version machines.desk.catalog → IsUnreadable db.schemas text told) → StopsFor (view machines).refused (view machines).refused told →

@@ -68,3 +68,4 @@ pub mod Batches
 pub mod BatchCalls
 pub mod BatchRuns
 pub mod OneCatalogue
+pub mod OfChain

@@ -6,10 +6,10 @@ use Rattle.catalog.specs.Relation.{catalogue_of}
 use Rattle.desk.specs.Database.{Database}
 use Rattle.desk.specs.OfCatalogue.{IsNextOf, first_in, follow, from_number}
 
-first_is : (c x : Catalogue) (xs : List Catalogue) → x ∷ xs ≡ c ∷ [] → x ≡ c
+pub first_is : (c x : Catalogue) (xs : List Catalogue) → x ∷ xs ≡ c ∷ [] → x ≡ c
 first_is c x xs e = cc
 
-rest_is : (c x : Catalogue) (xs : List Catalogue) → x ∷ xs ≡ c ∷ [] → xs ≡ []
+pub rest_is : (c x : Catalogue) (xs : List Catalogue) → x ∷ xs ≡ c ∷ [] → xs ≡ []
 rest_is c x xs e = cc
 
 -- the number is 1 where there is a catalogue of it
@@ -18,7 +18,7 @@ numbered_one zero c x xs e = absurd (cc)
 numbered_one (suc zero) c x xs e = e
 numbered_one (suc (suc n)) c x xs e = absurd (cc)
 
-none_of : (later : List (List (List ℕ) × List SplitRelation)) → map catalogue_of later ≡ [] → later ≡ []
+pub none_of : (later : List (List (List ℕ) × List SplitRelation)) → map catalogue_of later ≡ [] → later ≡ []
 none_of [] e = refl
 none_of (catalog ∷ later) e = absurd (cc)
 

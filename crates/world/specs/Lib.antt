@@ -4,6 +4,7 @@ pub mod Sites
 pub mod Seated
 pub mod Counted
 pub mod Machines
+pub mod Chain
 pub mod Contents
 pub mod Frame
 pub mod Filling

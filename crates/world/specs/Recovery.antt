@@ -23,6 +23,7 @@ use Rattle.site.specs.Locks.{leaves_in}
 use Rattle.site.specs.Recovery.{Begins}
 use Rattle.site.specs.State as site_state
 use Rattle.site.specs.State.{AreHad}
+use Rattle.desk.specs.declared.desk.Desk.{Desk as Coordinator}
 use Rattle.desk.specs.declared.refusal.Refusal.TheVariants as refusals
 use Rattle.desk.specs.CatalogueDatabase.{database}
 use Rattle.desk.specs.Database.{Database, language}
@@ -64,16 +65,13 @@ module _ {S : Type 0} (is_clean is_sound : S → Type 0) (kept : S → SiteConte
   AreUp (name ∷ names) (store ∷ stores) (site ∷ sites) = IsUp name store site × AreUp names stores sites
   AreUp names stores sites = ⊥
 
--- the machines of a catalogue's database have come up over stores: each site over its own, and the coordinator
-pub record MachinesUp {D S : Type 0} (desk_is_clean desk_is_sound : D → Type 0) (of_desk : D → DeskContent) (desk_refused : D → ℕ) (site_is_clean site_is_sound : S → Type 0) (of_site : S → SiteContent) (site_refused : S → ℕ) (catalogue : Catalogue) (store : D) (stores : List S) (machines : code.Machines D S) : Type 0 where
-  pub sites : AreUp site_is_clean site_is_sound of_site site_refused catalogue catalogue.sites stores machines.sites.items
-  pub desk_store : LeavesStore desk_is_clean desk_is_sound desk_refused store machines.desk.store
-  pub learnt : desk_is_clean machines.desk.store → desk_is_sound store
-  pub rises : (db : Database) → IsOver db catalogue.sites → desk_is_clean machines.desk.store → Rises db (of_desk machines.desk.store) (volatile_of machines.desk.volatile)
-  pub life : desk_is_clean machines.desk.store → desk_content.BeginsLife (of_desk store) (of_desk machines.desk.store)
-  pub memory : IsMemory (volatile_of machines.desk.volatile)
-  pub catalog : catalogue_of machines.desk.catalog ≡ catalogue
-  pub single : machines.desk.later.items ≡ []
+-- the coordinator has come up over its store: the next incarnation begins, in which its commit rows stand
+pub record IsDeskUp {D : Type 0} (is_clean is_sound : D → Type 0) (kept : D → DeskContent) (refused : D → ℕ) (store : D) (desk : Coordinator D) : Type 0 where
+  pub leaves_store : LeavesStore is_clean is_sound refused store desk.store
+  pub learnt : is_clean desk.store → is_sound store
+  pub rises : (db : Database) → IsOver db desk.catalog.0 → is_clean desk.store → Rises db (kept desk.store) (volatile_of desk.volatile)
+  pub life : is_clean desk.store → desk_content.BeginsLife (kept store) (kept desk.store)
+  pub memory : IsMemory (volatile_of desk.volatile)
 
 -- why a database doesn't come up: memory ran out, a store's medium has refused, or its rows are damaged, or an incarnation is the last, or the coordinator's store keeps the number of no catalogue that is given
 abbrev pub StopsOpening : faults.Fault → Type 0

@@ -137,7 +137,7 @@ fn take_back<T, D: DeskStore, S: SiteStore>(
 }
 
 /// Of a lone statement this was told: its commit is asked for, unless it has ended by itself.
-fn decide<D: DeskStore, S: SiteStore>(
+pub(crate) fn decide<D: DeskStore, S: SiteStore>(
     machines: &mut Machines<D, S>,
     txn: Txn,
     told: Vec<Notice>,

@@ -26,7 +26,7 @@ pub(crate) struct Begun {
 }
 
 /// The transaction that the first notice names. None has begun where there is no notice, since the coordinator is at a limit.
-fn named(heard: Vec<Notice>) -> Result<Begun, Refusal>
+pub(crate) fn named(heard: Vec<Notice>) -> Result<Begun, Refusal>
     ensures same { IfOk result (λ begun. begun.heard.items ≡ heard.items) }
     ensures first { IfOk result (λ begun. option_map (λ notice. notice.txn) (slice_get heard.items 0) ≡ Some begun.txn) }
     ensures none { OnErr result (heard.items ≡ []) }

@@ -21,6 +21,7 @@ pub mod machines;
 mod mailbox;
 pub mod rebuild;
 mod recovery;
+mod refragmentation;
 pub mod site_leaves;
 pub mod sites;
 pub mod solo;

@@ -6,22 +6,22 @@ ghost use Rattle.std.specs.List.{AllByRecursion};
 ghost use Rattle.catalog.specs.Relation.{catalogue_of};
 ghost use Rattle.site.specs.Fault.{StopsStart};
 ghost use Rattle.desk.specs.Database.{Database};
+ghost use Rattle.world.specs.Chain.{StandsAt, sites_of};
 ghost use Rattle.world.specs.Contents.{OfStores, counted, held};
 ghost use Rattle.world.specs.Frame.{LeavesDatabase, LeavesMachines, OverDatabase, StaysAsItIs};
 ghost use Rattle.world.specs.Machines.{AreFit};
-ghost use Rattle.world.specs.Recovery.{AreUp, Inquires, IsUp, MachinesUp, Recovers, StopsOpening};
+ghost use Rattle.world.specs.Recovery.{AreUp, Inquires, IsDeskUp, IsUp, Recovers, StopsOpening};
 ghost use Rattle.world.specs.Seated.{seats_in};
 ghost use Rattle.world.specs.Settled.{AreDecided};
 ghost use Rattle.world.specs.Sites.{IsSeated};
 
-use crate::chain::alone;
 use crate::fault::Fault;
 use crate::machines::Machines;
 use crate::mailbox::deliver_all;
 use crate::rebuild::decided;
 use crate::site_leaves::known_leaves;
-use crate::traffic::Traffic;
 use catalog::catalogue::Catalog;
+use catalog::chain::Chain;
 use desk::desk::Desk;
 use desk::refusal::Refusal;
 use desk::reply::Out;
@@ -75,27 +75,20 @@ pub(crate) fn sites_up<S: SiteStore + Drop>(
     Ok(sites)
 }
 
-/// The machines of a database come up over these stores: those of its sites, in the catalogue's order, and the
-/// coordinator's.
-pub(crate) fn machines_up<D: DeskStore + Drop, S: SiteStore + Drop>(
+/// The coordinator of a chain comes up over its store: in force is the catalogue whose number that keeps.
+pub(crate) fn desk_up<D: DeskStore + Drop>(
     alloc: Global,
-    catalog: &Catalog,
-    stores: Vec<S>,
+    chain: &Chain,
     store: D,
-) -> Result<Machines<D, S>, Fault>
-    requires { length stores.items ≡ length catalog.now.0 }
-    ensures up { IfOk result (MachinesUp D.is_clean D.is_sound D.kept D.refused S.is_clean S.is_sound S.kept S.refused (catalogue_of catalog.now) store stores.items) }
+) -> Result<Desk<D>, Fault>
+    ensures up { IfOk result (IsDeskUp D.is_clean D.is_sound D.kept D.refused store) }
+    ensures catalogs { IfOk result (λ desk. StandsAt desk.volatile.version (map catalogue_of chain.now) desk) }
+    ensures sites { IfOk result (λ desk. desk.catalog.0 ≡ sites_of chain.now) }
     ensures own { IfErr result StopsOpening }
 {
-    let sites = sites_up(alloc, catalog, stores)?;
-    let chain = alone(alloc, catalog)?;
-    match Desk::start(alloc, &chain, store) {
-        Ok(desk) => Ok(Machines {
-            alloc,
-            desk,
-            sites,
-            traffic: Traffic::none(),
-        }),
+    let _catalogs = chain.as_slice();
+    match Desk::start(alloc, chain, store) {
+        Ok(desk) => Ok(desk),
         Err(unstarted) => Err(Fault::Desk(unstarted.refusal)),
     }
 }

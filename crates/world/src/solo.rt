@@ -1,8 +1,9 @@
 //! A database for one client at a time.
 
-ghost use Rattle.std.specs.Prelude.{◌≡◌, ◌≢◌, ◌⊎◌, ℕ, true, List, [], None, Some, Err, IfErr, IfOk, OnErr, OnOk, ◌++◌, is_some, if◌then◌else◌, length, map};
+ghost use Rattle.std.specs.Prelude.{◌≡◌, ◌≢◌, ◌⊎◌, ◌∷◌, ℕ, true, List, [], None, Some, Err, IfErr, IfOk, OnErr, OnOk, ◌++◌, is_some, if◌then◌else◌, length, map};
 ghost use Rattle.std.specs.Option.{option_map};
 ghost use Rattle.meaning.specs.Whole.{FitsSchema, Relations};
+ghost use Rattle.catalog.specs.Catalogue.{Catalogue};
 ghost use Rattle.catalog.specs.FragmentLeaf.{schemas_of};
 ghost use Rattle.catalog.specs.Relation.{catalogue_of};
 ghost use Rattle.reader.specs.declared.command.Command.TheVariants.{Begin, Commit, Rollback, Run};
@@ -21,7 +22,8 @@ ghost use Rattle.desk.specs.CatalogueDatabase.{database, fits};
 ghost use Rattle.world.specs.Counted.{counts};
 ghost use Rattle.world.specs.BatchRuns.{HasRun, WasStopped};
 ghost use Rattle.world.specs.Fault.{FailsFor, is_memory};
-ghost use Rattle.world.specs.Frame.{ComesTo, LeavesDatabase, LeavesMachines, StaysAsItIs};
+ghost use Rattle.world.specs.Frame.{Blames, ComesTo, LeavesDatabase, LeavesMachines, StaysAsItIs};
+ghost use Rattle.world.specs.Chain.{IsLast, StandsAt, StandsLast, sites_of};
 ghost use Rattle.world.specs.Contents.{OfGiven, OfStores, counted, held, unrefused};
 ghost use Rattle.world.specs.Machines.{AreFit};
 ghost use Rattle.world.specs.Executed.{Stands};
@@ -46,11 +48,13 @@ use crate::laws::{
 };
 use crate::machines::Machines;
 use crate::rebuild::{kept_parts, rebuilt};
-use crate::recovery::{ensure_no_commit_row, machines_up, recover, stores_of};
+use crate::recovery::{desk_up, ensure_no_commit_row, recover, sites_up, stores_of};
+use crate::refragmentation::run_refragment;
 use crate::start::{start, start_on};
 use crate::traffic::Traffic;
 use crate::transaction::{Outcome, Transaction, Unfinished};
 use catalog::catalogue::Catalog;
+use catalog::chain::Chain;
 use desk::refusal::Refusal;
 use desk::reply::Notice;
 use meaning::statement::Statement;
@@ -81,61 +85,60 @@ pub struct Solo<D: DeskStore, S: SiteStore> {
     stopped: Option<Refusal>,
 }
 
-/// A database over lists is opened: the fragments rebuild these whole relations. Only want of memory is a fault.
+/// A database over lists is opened, under the first catalogue of a chain: the fragments rebuild these whole relations. Only want of
+/// memory is a fault. Of one client's database the clauses here and below speak where no catalogue comes later.
 pub fn open(
     alloc: Global,
-    catalog: &Catalog,
+    chain: &Chain,
     whole: &Whole,
 ) -> Result<Solo<PlainDesk, PlainSite>, Fault>
-    ensures served { FitsSchema (schemas_of (catalogue_of catalog.now)) whole.now
-        → IfOk result (λ solo. IsServed (database (catalogue_of catalog.now)) whole.now (unrefused desk_kept kept_of solo.machines) []) }
-    ensures stands { FitsSchema (schemas_of (catalogue_of catalog.now)) whole.now
-        → IfOk result (λ solo. Stands (database (catalogue_of catalog.now)) (fits (catalogue_of catalog.now)) solo.current (unrefused desk_kept kept_of solo.machines) []) }
-    ensures catalog { IfOk result (λ solo. catalogue_of solo.machines.desk.catalog ≡ catalogue_of catalog.now) }
+    ensures served { (catalogue : Catalogue) → FitsSchema (schemas_of catalogue) whole.now
+        → IfOk result (λ solo. IsLast catalogue solo.machines.desk → IsServed (database catalogue) whole.now (unrefused desk_kept kept_of solo.machines) []) }
+    ensures stands { (catalogue : Catalogue) → FitsSchema (schemas_of catalogue) whole.now
+        → IfOk result (λ solo. IsLast catalogue solo.machines.desk → Stands (database catalogue) (fits catalogue) solo.current (unrefused desk_kept kept_of solo.machines) []) }
+    ensures catalogs { IfOk result (λ solo. StandsAt 1 (map catalogue_of chain.now) solo.machines.desk) }
+    ensures single { (catalogue : Catalogue) → map catalogue_of chain.now ≡ catalogue ∷ [] → IfOk result (λ solo. IsLast catalogue solo.machines.desk) }
     ensures sound { IfOk result (λ solo. OfStores (λ _. Unit {0}) IsSound solo.machines) }
     ensures idle { IfOk result (λ solo. (solo.current ≡ None) × (solo.stopped ≡ None)) }
     ensures err { IfErr result (λ fault. is_memory fault ≡ true) }
 {
-    database_is_of_catalogue(catalog);
-    match start(alloc, catalog, whole) {
-        Ok(machines) => Ok(Solo {
-            machines,
-            current: None,
-            stopped: None,
-        }),
-        Err(fault) => Err(fault),
-    }
+    let machines = start(alloc, chain, whole)?;
+    database_is_of_catalogue(machines.desk.catalog());
+    Ok(Solo {
+        machines,
+        current: None,
+        stopped: None,
+    })
 }
 
-/// A database over new stores is opened, those of its sites in the catalogue's order: the fragments rebuild these whole
-/// relations. On a fault the stores are let go.
+/// A database over new stores is opened, those of its sites in the order of the chain: the fragments rebuild these whole
+/// relations. In force is the catalogue whose number the coordinator's store keeps. On a fault the stores are let go.
 pub fn open_on<D: DeskStore + Drop, S: SiteStore + Drop>(
     alloc: Global,
-    catalog: &Catalog,
+    chain: &Chain,
     whole: &Whole,
     sites: Vec<S>,
     desk: D,
 ) -> Result<Solo<D, S>, Fault>
-    requires { length sites.items ≡ length catalog.now.0 }
-    ensures served { IfOk result (λ solo. OfStores D.is_clean S.is_clean solo.machines → AreNew D.is_sound D.kept S.is_sound S.kept (catalogue_of catalog.now) desk sites.items → FitsSchema (schemas_of (catalogue_of catalog.now)) whole.now
-        → IsServed (database (catalogue_of catalog.now)) whole.now (counted D.kept S.kept D.refused S.refused solo.machines) []) }
-    ensures stands { IfOk result (λ solo. OfStores D.is_clean S.is_clean solo.machines → AreNew D.is_sound D.kept S.is_sound S.kept (catalogue_of catalog.now) desk sites.items → FitsSchema (schemas_of (catalogue_of catalog.now)) whole.now
-        → Stands (database (catalogue_of catalog.now)) (fits (catalogue_of catalog.now)) solo.current (counted D.kept S.kept D.refused S.refused solo.machines) []) }
+    requires { length sites.items ≡ length (sites_of chain.now) }
+    ensures served { (catalogue : Catalogue) → IfOk result (λ solo. IsLast catalogue solo.machines.desk → OfStores D.is_clean S.is_clean solo.machines → AreNew D.is_sound D.kept S.is_sound S.kept catalogue desk sites.items → FitsSchema (schemas_of catalogue) whole.now
+        → IsServed (database catalogue) whole.now (counted D.kept S.kept D.refused S.refused solo.machines) []) }
+    ensures stands { (catalogue : Catalogue) → IfOk result (λ solo. IsLast catalogue solo.machines.desk → OfStores D.is_clean S.is_clean solo.machines → AreNew D.is_sound D.kept S.is_sound S.kept catalogue desk sites.items → FitsSchema (schemas_of catalogue) whole.now
+        → Stands (database catalogue) (fits catalogue) solo.current (counted D.kept S.kept D.refused S.refused solo.machines) []) }
     ensures clean { IfOk result (λ solo. OfStores D.is_clean S.is_clean solo.machines → OfGiven D.is_clean S.is_clean desk sites.items) }
     ensures sound { IfOk result (λ solo. OfStores D.is_clean S.is_clean solo.machines → OfStores D.is_sound S.is_sound solo.machines) }
-    ensures catalog { IfOk result (λ solo. catalogue_of solo.machines.desk.catalog ≡ catalogue_of catalog.now) }
+    ensures catalogs { IfOk result (λ solo. StandsAt solo.machines.desk.volatile.version (map catalogue_of chain.now) solo.machines.desk) }
+    ensures single { (catalogue : Catalogue) → map catalogue_of chain.now ≡ catalogue ∷ [] → IfOk result (λ solo. IsLast catalogue solo.machines.desk) }
     ensures idle { IfOk result (λ solo. (solo.current ≡ None) × (solo.stopped ≡ None)) }
     ensures own { IfErr result StopsOpening }
 {
-    database_is_of_catalogue(catalog);
-    match start_on(alloc, catalog, whole, sites, desk) {
-        Ok(machines) => Ok(Solo {
-            machines,
-            current: None,
-            stopped: None,
-        }),
-        Err(fault) => Err(fault),
-    }
+    let machines = start_on(alloc, chain, whole, sites, desk)?;
+    database_is_of_catalogue(machines.desk.catalog());
+    Ok(Solo {
+        machines,
+        current: None,
+        stopped: None,
+    })
 }
 
 /// What the reader says of a text.
@@ -184,33 +187,42 @@ fn still_open(txn: Txn, heard: &[Notice]) -> Option<Txn>
 }
 
 impl<D: DeskStore + Drop, S: SiteStore + Drop> Solo<D, S> {
-    /// Opens a database over these stores: those of its sites, in the catalogue's order, and the coordinator's. Over
+    /// Opens a database over these stores: those of its sites, in the order of the chain, and the coordinator's, whose
+    /// number says which catalogue is in force. Over
     /// the stores of an earlier run, wherever that was stopped, it goes on: what was committed is there, what was
     /// prepared has come to its end, and nothing else has been done. So it begins anew over the whole relations that
     /// the committed transactions have made, and over new stores without rows. On a fault the stores are let go.
     pub fn open_stores(
         alloc: Global,
-        catalog: &Catalog,
+        chain: &Chain,
         sites: Vec<S>,
         desk: D,
     ) -> Result<Solo<D, S>, Fault>
-        requires { length sites.items ≡ length catalog.now.0 }
-        ensures goes_on { IfOk result (λ solo. OfStores D.is_clean S.is_clean solo.machines → GoesOnOver (catalogue_of catalog.now) (D.kept desk) (map S.kept sites.items) (counted D.kept S.kept D.refused S.refused solo.machines)) }
-        ensures anew { IfOk result (λ solo. OfStores D.is_clean S.is_clean solo.machines → BeginsAnewOver (catalogue_of catalog.now) (D.kept desk) (map S.kept sites.items) (counted D.kept S.kept D.refused S.refused solo.machines)) }
-        ensures without_rows { IfOk result (λ solo. OfStores D.is_clean S.is_clean solo.machines → BeginsWithoutRows (catalogue_of catalog.now) (D.kept desk) (map S.kept sites.items) (counted D.kept S.kept D.refused S.refused solo.machines)) }
+        requires { length sites.items ≡ length (sites_of chain.now) }
+        ensures goes_on { (catalogue : Catalogue) → StandsLast (D.kept desk).version (map catalogue_of chain.now) catalogue → IfOk result (λ solo. OfStores D.is_clean S.is_clean solo.machines → GoesOnOver catalogue (D.kept desk) (map S.kept sites.items) (counted D.kept S.kept D.refused S.refused solo.machines)) }
+        ensures anew { (catalogue : Catalogue) → StandsLast (D.kept desk).version (map catalogue_of chain.now) catalogue → IfOk result (λ solo. OfStores D.is_clean S.is_clean solo.machines → BeginsAnewOver catalogue (D.kept desk) (map S.kept sites.items) (counted D.kept S.kept D.refused S.refused solo.machines)) }
+        ensures without_rows { (catalogue : Catalogue) → StandsLast (D.kept desk).version (map catalogue_of chain.now) catalogue → IfOk result (λ solo. OfStores D.is_clean S.is_clean solo.machines → BeginsWithoutRows catalogue (D.kept desk) (map S.kept sites.items) (counted D.kept S.kept D.refused S.refused solo.machines)) }
         ensures clean { IfOk result (λ solo. OfStores D.is_clean S.is_clean solo.machines → OfGiven D.is_clean S.is_clean desk sites.items) }
         ensures sound { IfOk result (λ solo. OfStores D.is_clean S.is_clean solo.machines → OfStores D.is_sound S.is_sound solo.machines) }
-        ensures catalog { IfOk result (λ solo. catalogue_of solo.machines.desk.catalog ≡ catalogue_of catalog.now) }
+        ensures single { (catalogue : Catalogue) → map catalogue_of chain.now ≡ catalogue ∷ [] → IfOk result (λ solo. IsLast catalogue solo.machines.desk) }
+        ensures last { (catalogue : Catalogue) → StandsLast (D.kept desk).version (map catalogue_of chain.now) catalogue → IfOk result (λ solo. OfStores D.is_clean S.is_clean solo.machines → IsLast catalogue solo.machines.desk) }
         ensures idle { IfOk result (λ solo. (solo.current ≡ None) × (solo.stopped ≡ None)) }
         ensures own { IfErr result StopsOpening }
     {
-        database_is_of_catalogue(catalog);
-        one_client_is_a_run(catalog);
-        machines_come_up(catalog);
-        restarts_recover(catalog);
-        begins_anew(catalog);
-        new_stores_were_served(catalog);
-        let mut machines = machines_up(alloc, catalog, sites, desk)?;
+        let desk = desk_up(alloc, chain, desk)?;
+        let sites = sites_up(alloc, desk.catalog(), sites)?;
+        let mut machines = Machines {
+            alloc,
+            desk,
+            sites,
+            traffic: Traffic::none(),
+        };
+        database_is_of_catalogue(machines.desk.catalog());
+        one_client_is_a_run(machines.desk.catalog());
+        machines_come_up(machines.desk.catalog());
+        restarts_recover(machines.desk.catalog());
+        begins_anew(machines.desk.catalog());
+        new_stores_were_served(machines.desk.catalog());
         recover(&mut machines)?;
         ensure_no_commit_row(&mut machines)?;
         machines.traffic = Traffic::none();
@@ -294,7 +306,20 @@ impl<D: DeskStore, S: SiteStore> Solo<D, S> {
         }
     }
 
-    /// A statement: of the open transaction, or a transaction of its own. A REFRAGMENT finds no catalogue that comes next.
+    /// A REFRAGMENT, which is a transaction of its own. Where no catalogue comes later it finds none that is next.
+    fn refragments(&mut self, text: &str) -> Result<Vec<Notice>, Refusal>
+        ensures none { self.old.machines.desk.later.items ≡ [] → (result ≡ Err refusals.NoNext) × (self.new.machines ≡ self.old.machines) }
+        ensures leaves { LeavesDatabase D.is_clean S.is_clean D.is_sound S.is_sound D.refused S.refused self.old.machines self.new.machines }
+        ensures blames { Blames (OfStores D.is_clean S.is_clean) (OfStores D.is_sound S.is_sound) (counts D.refused S.refused) self.old.machines self.new.machines result }
+        ensures still { self.new.current ≡ self.old.current }
+    {
+        if self.machines.desk.later().is_empty() {
+            return Err(Refusal::NoNext);
+        }
+        run_refragment(&mut self.machines, text)
+    }
+
+    /// A statement: of the open transaction, or a transaction of its own.
     fn states(&mut self, statement: &Statement, text: &str) -> Result<Vec<Notice>, Refusal>
         ensures comes { ComesTo (OfStores D.is_clean S.is_clean) (OfStores D.is_sound S.is_sound) (counted D.kept S.kept D.refused S.refused) self.old.machines self.new.machines result
             (λ db done moves. IsTextOf db.schemas text.now (Run statement.now) → IsCommand db.schemas text.now self.old.current self.new.current moves (heard_in (λ heard. heard.items) done)) }
@@ -302,7 +327,7 @@ impl<D: DeskStore, S: SiteStore> Solo<D, S> {
     {
         let Some(txn) = self.current else {
             if statement.is_refragment() {
-                return Err(Refusal::NoNext);
+                return self.refragments(text);
             }
             return run_autocommit(&mut self.machines, text);
         };
@@ -423,11 +448,25 @@ impl<D: DeskStore, S: SiteStore> Solo<D, S> {
         }
     }
 
-    /// The catalogue.
+    /// The catalogue in force.
     pub fn catalog(&self) -> &Catalog
         ensures { result.now ≡ self.now.machines.desk.catalog }
     {
         self.machines.desk.catalog()
+    }
+
+    /// The catalogues that come after it, in their order.
+    pub fn later(&self) -> &[Catalog]
+        ensures { result.now ≡ self.now.machines.desk.later.items }
+    {
+        self.machines.desk.later()
+    }
+
+    /// The number of the catalogue in force, counted from 1.
+    pub fn version(&self) -> u64
+        ensures { result ≡ self.now.machines.desk.volatile.version }
+    {
+        self.machines.desk.version()
     }
 
     /// Whether the client has begun a transaction that has not ended.

@@ -1,9 +1,13 @@
 //! The machines of a database start, and their sites keep the parts of whole relations.
 
-ghost use Rattle.std.specs.Prelude.{◌≡◌, true, IfOk, IfErr, ◌∷◌, [], OnOk, length, IsSome, ◌⊎◌};
+ghost use Rattle.std.specs.Prelude.{◌≡◌, true, IfOk, IfErr, ◌∷◌, [], None, OnOk, length, map, IsSome, ◌⊎◌};
 ghost use Rattle.std.specs.List.{AllByRecursion};
 ghost use Rattle.catalog.specs.Relation.{catalogue_of};
 ghost use Rattle.desk.specs.Database.{Database};
+ghost use Rattle.desk.specs.Recovery.{Rises};
+ghost use Rattle.desk.specs.Request.{IsOver};
+ghost use Rattle.desk.specs.State.{volatile_of};
+ghost use Rattle.world.specs.Chain.{StandsAt, sites_of};
 ghost use Rattle.store.specs.PlainDesk.{kept_of as desk_kept};
 ghost use Rattle.store.specs.PlainSite.{IsSound, kept_of};
 ghost use Rattle.site.specs.declared.fault.SiteFault.TheVariants as site_faults;
@@ -17,6 +21,7 @@ ghost use Rattle.protocol.specs.Parts.{In};
 ghost use Rattle.store.specs.Frame.{LeavesStore};
 ghost use Rattle.store.specs.SiteContent.{Applies, MayPrepare};
 ghost use Rattle.store.specs.declared.name.Ticket.{Ticket as TicketName};
+ghost use Rattle.store.specs.declared.name.Txn.{Txn as TxnName};
 ghost use Rattle.store.specs.declared.slot.Slot.{Slot as Place};
 ghost use Rattle.world.specs.Seated.{seat_from, seats_in};
 ghost use Rattle.std.specs.FinMap as fin;
@@ -26,13 +31,13 @@ ghost use Rattle.store.specs.Content.{made_by};
 ghost use Rattle.world.specs.Filling.{filled, kept_with};
 ghost use Rattle.world.specs.Leaves.{known_leaves};
 
-use crate::chain::alone;
 use crate::fault::Fault;
 use crate::machines::Machines;
-use crate::recovery::machines_up;
+use crate::recovery::{desk_up, sites_up};
 use crate::site_leaves::known_leaves;
 use crate::traffic::Traffic;
 use catalog::catalogue::Catalog;
+use catalog::chain::Chain;
 use catalog::fragment::place;
 use catalog::fragment_leaf::FragmentLeaf;
 use desk::desk::Desk;
@@ -94,31 +99,44 @@ pub(crate) fn start_sites(
     Ok(sites)
 }
 
+/// The coordinator of a chain starts over lists: the first catalogue is in force.
+fn start_desk(alloc: Global, chain: &Chain) -> Result<Desk<PlainDesk>, Fault>
+    ensures rises { (db : Database) → IfOk result (λ desk. IsOver db desk.catalog.0 → Rises db (desk_kept desk.store) (volatile_of desk.volatile)) }
+    ensures commits { (txn : TxnName) → IfOk result (λ desk. (desk_kept desk.store).commits txn ≡ None) }
+    ensures catalogs { IfOk result (λ desk. StandsAt 1 (map catalogue_of chain.now) desk) }
+    ensures err { IfErr result (λ fault. is_memory fault ≡ true) }
+{
+    let _catalogs = chain.as_slice();
+    match Desk::start(alloc, chain, PlainDesk::new(alloc)) {
+        Ok(desk) => {
+            desk.catalog().relations();
+            Ok(desk)
+        }
+        Err(unstarted) => Err(Fault::Desk(unstarted.refusal)),
+    }
+}
+
 /// The machines of a database over lists start: whole relations stand in its fragments. Only want of memory is a
 /// fault.
 pub(crate) fn start(
     alloc: Global,
-    catalog: &Catalog,
+    chain: &Chain,
     whole: &Whole,
 ) -> Result<Machines<PlainDesk, PlainSite>, Fault>
-    ensures opens { IfOk result (λ machines. (db : Database) → IsPlaced db machines.desk.volatile.version (catalogue_of catalog.now) whole.now → Opens db whole.now (held desk_kept kept_of machines)) }
-    ensures catalog { IfOk result (λ machines. catalogue_of machines.desk.catalog ≡ catalogue_of catalog.now) }
-    ensures single { IfOk result (λ machines. machines.desk.later.items ≡ []) }
+    ensures opens { IfOk result (λ machines. machines.desk.later.items ≡ [] → (db : Database) → IsPlaced db machines.desk.volatile.version (catalogue_of machines.desk.catalog) whole.now → Opens db whole.now (held desk_kept kept_of machines)) }
+    ensures catalogs { IfOk result (λ machines. StandsAt 1 (map catalogue_of chain.now) machines.desk) }
     ensures sound { IfOk result (λ machines. OfStores (λ _. Unit {0}) IsSound machines) }
     ensures err { IfErr result (λ fault. is_memory fault ≡ true) }
 {
-    let _relations = catalog.relations();
-    let sites = start_sites(alloc, catalog, whole)?;
-    let chain = alone(alloc, catalog)?;
-    match Desk::start(alloc, &chain, PlainDesk::new(alloc)) {
-        Ok(desk) => Ok(Machines {
-            alloc,
-            desk,
-            sites,
-            traffic: Traffic::none(),
-        }),
-        Err(unstarted) => Err(Fault::Desk(unstarted.refusal)),
-    }
+    let desk = start_desk(alloc, chain)?;
+    let _relations = desk.catalog().relations();
+    let sites = start_sites(alloc, desk.catalog(), whole)?;
+    Ok(Machines {
+        alloc,
+        desk,
+        sites,
+        traffic: Traffic::none(),
+    })
 }
 
 /// A store's fault as the site's.
@@ -191,23 +209,29 @@ fn fill_all<S: SiteStore + Drop>(
 /// are new, whole relations stand in its fragments.
 pub(crate) fn start_on<D: DeskStore + Drop, S: SiteStore + Drop>(
     alloc: Global,
-    catalog: &Catalog,
+    chain: &Chain,
     whole: &Whole,
     sites: Vec<S>,
     desk: D,
 ) -> Result<Machines<D, S>, Fault>
-    requires { length sites.items ≡ length catalog.now.0 }
-    ensures opens { IfOk result (λ machines. OfStores D.is_clean S.is_clean machines → AreNew D.is_sound D.kept S.is_sound S.kept (catalogue_of catalog.now) desk sites.items
-        → (db : Database) → IsPlaced db machines.desk.volatile.version (catalogue_of catalog.now) whole.now → Opens db whole.now (held D.kept S.kept machines)) }
+    requires { length sites.items ≡ length (sites_of chain.now) }
+    ensures opens { IfOk result (λ machines. OfStores D.is_clean S.is_clean machines → AreNew D.is_sound D.kept S.is_sound S.kept (catalogue_of machines.desk.catalog) desk sites.items
+        → machines.desk.later.items ≡ [] → (db : Database) → IsPlaced db machines.desk.volatile.version (catalogue_of machines.desk.catalog) whole.now → Opens db whole.now (held D.kept S.kept machines)) }
     ensures clean { IfOk result (λ machines. OfStores D.is_clean S.is_clean machines → OfGiven D.is_clean S.is_clean desk sites.items) }
     ensures sound { IfOk result (λ machines. OfStores D.is_clean S.is_clean machines → OfStores D.is_sound S.is_sound machines) }
-    ensures catalog { IfOk result (λ machines. catalogue_of machines.desk.catalog ≡ catalogue_of catalog.now) }
-    ensures single { IfOk result (λ machines. machines.desk.later.items ≡ []) }
+    ensures catalogs { IfOk result (λ machines. StandsAt machines.desk.volatile.version (map catalogue_of chain.now) machines.desk) }
     ensures own { IfErr result StopsOpening }
 {
-    let _relations = catalog.relations();
-    let filled = fill_all(alloc, catalog, whole, sites)?;
-    machines_up(alloc, catalog, filled, desk)
+    let desk = desk_up(alloc, chain, desk)?;
+    let _relations = desk.catalog().relations();
+    let filled = fill_all(alloc, desk.catalog(), whole, sites)?;
+    let sites = sites_up(alloc, desk.catalog(), filled)?;
+    Ok(Machines {
+        alloc,
+        desk,
+        sites,
+        traffic: Traffic::none(),
+    })
 }
 
 /// A part is put, if there is one.

@@ -5,6 +5,7 @@ ghost use mathlib.Core.Option.{none};
 ghost use Rattle.std.specs.Prelude.{⊤, ◌≡◌, ◌≢◌, ◌⊎◌, ◌++◌, ◌∷◌, [], ℕ, Bool, true, false, List, Err, OnOk, OnErr, IfOk, IfErr, length, map, slice_get, take, ◌<◌};
 ghost use Rattle.std.specs.Option.{option_copied, option_map};
 ghost use Rattle.meaning.specs.Whole.{FitsSchema, Relations};
+ghost use Rattle.catalog.specs.Catalogue.{Catalogue};
 ghost use Rattle.catalog.specs.FragmentLeaf.{schemas_of};
 ghost use Rattle.catalog.specs.Relation.{catalogue_of};
 ghost use Rattle.protocol.specs.Accepted.{Holds};
@@ -25,6 +26,7 @@ ghost use Rattle.world.specs.Counted.{HaveRefused, counts};
 ghost use Rattle.world.specs.Fault.{FailsFor, is_memory};
 ghost use Rattle.world.specs.Following.{Follows, FollowsAtLeast, Happens};
 ghost use Rattle.world.specs.Frame.{CallsNoStore, LeavesDatabase, LeavesMachines, StaysAsItIs, StaysOnErr};
+ghost use Rattle.world.specs.Chain.{IsLast, StandsAt, sites_of};
 ghost use Rattle.world.specs.Contents.{OfGiven, OfStores, counted, held};
 ghost use Rattle.world.specs.Committed.{AnswerInTurn, committed_of};
 ghost use Rattle.world.specs.Machines.{AreFit, world_of};
@@ -47,6 +49,7 @@ use crate::machines::{Machines, apply_event};
 use crate::rebuild::{kept_parts, rebuilt};
 use crate::start::{start, start_on};
 use catalog::catalogue::Catalog;
+use catalog::chain::Chain;
 use desk::refusal::Refusal;
 use meaning::whole::Whole;
 use std::alloc::Global;
@@ -71,60 +74,57 @@ pub struct World<D: DeskStore, S: SiteStore> {
     refusal: Fault,
 }
 
-/// A world over lists is opened: the fragments rebuild these whole relations, and nothing has happened. Only want of
-/// memory is a fault.
+/// A world over lists is opened, under the first catalogue of a chain: the fragments rebuild these whole relations, and nothing
+/// has happened. Only want of memory is a fault. Of runs the clauses here and below speak where no catalogue comes later.
 pub fn open(
     alloc: Global,
-    catalog: &Catalog,
+    chain: &Chain,
     whole: &Whole,
 ) -> Result<World<PlainDesk, PlainSite>, Fault>
-    ensures ok { FitsSchema (schemas_of (catalogue_of catalog.now)) whole.now
-        → IfOk result (λ world. IsRun (database (catalogue_of catalog.now)) whole.now (held desk_kept kept_of world.machines) [] []) }
+    ensures ok { (catalogue : Catalogue) → FitsSchema (schemas_of catalogue) whole.now
+        → IfOk result (λ world. IsLast catalogue world.machines.desk → IsRun (database catalogue) whole.now (held desk_kept kept_of world.machines) [] []) }
     ensures none { IfOk result (λ world. world.entries.items ≡ []) }
-    ensures catalog { IfOk result (λ world. catalogue_of world.machines.desk.catalog ≡ catalogue_of catalog.now) }
-    ensures single { IfOk result (λ world. world.machines.desk.later.items ≡ []) }
+    ensures catalogs { IfOk result (λ world. StandsAt 1 (map catalogue_of chain.now) world.machines.desk) }
+    ensures single { (catalogue : Catalogue) → map catalogue_of chain.now ≡ catalogue ∷ [] → IfOk result (λ world. IsLast catalogue world.machines.desk) }
     ensures sound { IfOk result (λ world. OfStores (λ _. Unit {0}) IsSound world.machines) }
     ensures err { IfErr result (λ fault. is_memory fault ≡ true) }
 {
-    database_is_of_catalogue(catalog);
-    match start(alloc, catalog, whole) {
-        Ok(machines) => Ok(World {
-            machines,
-            entries: Log::new(alloc),
-            refusal: Fault::Unsent,
-        }),
-        Err(fault) => Err(fault),
-    }
+    let machines = start(alloc, chain, whole)?;
+    database_is_of_catalogue(machines.desk.catalog());
+    Ok(World {
+        machines,
+        entries: Log::new(alloc),
+        refusal: Fault::Unsent,
+    })
 }
 
-/// A world over new stores is opened, those of its sites in the catalogue's order: the fragments rebuild these whole
-/// relations, and nothing has happened. On a fault the stores are let go.
+/// A world over new stores is opened, those of its sites in the order of the chain: the fragments rebuild these whole
+/// relations, and nothing has happened. In force is the catalogue whose number the coordinator's store keeps. On a fault the
+/// stores are let go.
 pub fn open_on<D: DeskStore + Drop, S: SiteStore + Drop>(
     alloc: Global,
-    catalog: &Catalog,
+    chain: &Chain,
     whole: &Whole,
     sites: Vec<S>,
     desk: D,
 ) -> Result<World<D, S>, Fault>
-    requires { length sites.items ≡ length catalog.now.0 }
-    ensures ok { IfOk result (λ world. OfStores D.is_clean S.is_clean world.machines → AreNew D.is_sound D.kept S.is_sound S.kept (catalogue_of catalog.now) desk sites.items → FitsSchema (schemas_of (catalogue_of catalog.now)) whole.now
-        → IsRun (database (catalogue_of catalog.now)) whole.now (held D.kept S.kept world.machines) [] []) }
+    requires { length sites.items ≡ length (sites_of chain.now) }
+    ensures ok { (catalogue : Catalogue) → IfOk result (λ world. IsLast catalogue world.machines.desk → OfStores D.is_clean S.is_clean world.machines → AreNew D.is_sound D.kept S.is_sound S.kept catalogue desk sites.items → FitsSchema (schemas_of catalogue) whole.now
+        → IsRun (database catalogue) whole.now (held D.kept S.kept world.machines) [] []) }
     ensures none { IfOk result (λ world. world.entries.items ≡ []) }
     ensures clean { IfOk result (λ world. OfStores D.is_clean S.is_clean world.machines → OfGiven D.is_clean S.is_clean desk sites.items) }
     ensures sound { IfOk result (λ world. OfStores D.is_clean S.is_clean world.machines → OfStores D.is_sound S.is_sound world.machines) }
-    ensures catalog { IfOk result (λ world. catalogue_of world.machines.desk.catalog ≡ catalogue_of catalog.now) }
-    ensures single { IfOk result (λ world. world.machines.desk.later.items ≡ []) }
+    ensures catalogs { IfOk result (λ world. StandsAt world.machines.desk.volatile.version (map catalogue_of chain.now) world.machines.desk) }
+    ensures single { (catalogue : Catalogue) → map catalogue_of chain.now ≡ catalogue ∷ [] → IfOk result (λ world. IsLast catalogue world.machines.desk) }
     ensures own { IfErr result StopsOpening }
 {
-    database_is_of_catalogue(catalog);
-    match start_on(alloc, catalog, whole, sites, desk) {
-        Ok(machines) => Ok(World {
-            machines,
-            entries: Log::new(alloc),
-            refusal: Fault::Unsent,
-        }),
-        Err(fault) => Err(fault),
-    }
+    let machines = start_on(alloc, chain, whole, sites, desk)?;
+    database_is_of_catalogue(machines.desk.catalog());
+    Ok(World {
+        machines,
+        entries: Log::new(alloc),
+        refusal: Fault::Unsent,
+    })
 }
 
 impl<D: DeskStore, S: SiteStore> World<D, S> {
@@ -311,10 +311,24 @@ impl<D: DeskStore, S: SiteStore> World<D, S> {
         self.entries.entries()
     }
 
-    /// The catalogue.
+    /// The catalogue in force.
     pub fn catalog(&self) -> &Catalog
         ensures { result.now ≡ self.now.machines.desk.catalog }
     {
         self.machines.desk.catalog()
+    }
+
+    /// The catalogues that come after it, in their order.
+    pub fn later(&self) -> &[Catalog]
+        ensures { result.now ≡ self.now.machines.desk.later.items }
+    {
+        self.machines.desk.later()
+    }
+
+    /// The number of the catalogue in force, counted from 1.
+    pub fn version(&self) -> u64
+        ensures { result ≡ self.now.machines.desk.volatile.version }
+    {
+        self.machines.desk.version()
     }
 }

@@ -1,20 +1,35 @@
 -- Why `open` meets its contract.
-use Rattle.std.proofs.Common.{[]}
+use Rattle.std.proofs.Common.{[], None, subst}
+use Rattle.meaning.specs.Whole.{FitsSchema}
+use Rattle.catalog.specs.FragmentLeaf.{schemas_of}
 use Rattle.catalog.specs.Relation.{catalogue_of}
 use Rattle.store.specs.PlainDesk.{kept_of as desk_kept}
 use Rattle.store.specs.PlainSite.{kept_of}
-use Rattle.desk.specs.CatalogueDatabase.{database}
+use Rattle.desk.specs.CatalogueDatabase.{database, fits}
+use Rattle.world.specs.Client.{IsServed}
 use Rattle.world.specs.Counted.{counts}
-use Rattle.world.specs.Contents.{held}
+use Rattle.world.specs.Contents.{held, unrefused}
+use Rattle.world.specs.Executed.{Stands}
 use Rattle.world.proofs.DatabaseIsOpened.{opens_quiet, opens_run}
 use Rattle.world.proofs.Counting.{fit_counted}
+use Rattle.world.proofs.OfChain.{last_of}
 use Rattle.world.proofs.solo.open.Goals as goal
 
-pub returns-in-Ok-clause-served : goal.returns-in-Ok-clause-served
-returns-in-Ok-clause-served c = λ fits.
-    let so = opens_run (catalogue_of c.args.catalog.now) c.args.whole.now (held desk_kept kept_of c.in-Ok.machines) (c.database_is_of_catalogue.ensures.of_catalogue.formed 0) fits (c.in-Ok.ensures.opens (database (catalogue_of c.args.catalog.now))) in
-    record { version = so.version; reached = record { opening = so.opening; opens = so.opens; events = so.events; gone = []; is = so.is; explained = so.explained }; fit = fit_counted (database (catalogue_of c.args.catalog.now)) (held desk_kept kept_of c.in-Ok.machines) (counts (λ _. 0) (λ _. 0) c.in-Ok.machines) so.fit }
+pub returns-clause-served : goal.returns-clause-served
+returns-clause-served c = λ catalogue fitting last.
+    let machines = c.in_ok-machines.machines in
+    let here = catalogue_of machines.desk.catalog in
+    subst (λ x. FitsSchema (schemas_of x) c.args.whole.now → IsServed (database x) c.args.whole.now (unrefused desk_kept kept_of machines) []) last.is
+    (λ fitting.
+    let so = opens_run here c.args.whole.now (held desk_kept kept_of machines) (c.database_is_of_catalogue.ensures.of_catalogue.formed 0) fitting (c.in_ok-machines.ensures.opens last.none (database here)) in
+    record { version = so.version; reached = record { opening = so.opening; opens = so.opens; events = so.events; gone = []; is = so.is; explained = so.explained }; fit = fit_counted (database here) (held desk_kept kept_of machines) (counts (λ _. 0) (λ _. 0) machines) so.fit }) fitting
 
-pub returns-in-Ok-clause-stands : goal.returns-in-Ok-clause-stands
-returns-in-Ok-clause-stands c = λ fits.
-    opens_quiet (catalogue_of c.args.catalog.now) c.args.whole.now (held desk_kept kept_of c.in-Ok.machines) (c.database_is_of_catalogue.ensures.of_catalogue.formed 0) fits (c.in-Ok.ensures.opens (database (catalogue_of c.args.catalog.now)))
+pub returns-clause-stands : goal.returns-clause-stands
+returns-clause-stands c = λ catalogue fitting last.
+    let machines = c.in_ok-machines.machines in
+    let here = catalogue_of machines.desk.catalog in
+    subst (λ x. FitsSchema (schemas_of x) c.args.whole.now → Stands (database x) (fits x) None (unrefused desk_kept kept_of machines) []) last.is
+    (λ fitting. opens_quiet here c.args.whole.now (held desk_kept kept_of machines) (c.database_is_of_catalogue.ensures.of_catalogue.formed 0) fitting (c.in_ok-machines.ensures.opens last.none (database here))) fitting
+
+pub returns-clause-single : goal.returns-clause-single
+returns-clause-single c = λ catalogue alone. last_of 1 catalogue _ c.in_ok-machines.machines.desk alone c.in_ok-machines.ensures.catalogs

@@ -1,19 +1,38 @@
 -- Why `open_on` meets its contract.
-use Rattle.std.proofs.Common.{[]}
+use Rattle.std.proofs.Common.{[], None, subst}
+use Rattle.meaning.specs.Whole.{FitsSchema}
+use Rattle.catalog.specs.FragmentLeaf.{schemas_of}
 use Rattle.catalog.specs.Relation.{catalogue_of}
-use Rattle.desk.specs.CatalogueDatabase.{database}
+use Rattle.desk.specs.CatalogueDatabase.{database, fits}
+use Rattle.world.specs.Client.{IsServed}
 use Rattle.world.specs.Counted.{counts}
-use Rattle.world.specs.Contents.{held}
+use Rattle.world.specs.Contents.{counted, held}
+use Rattle.world.specs.Executed.{Stands}
+use Rattle.world.specs.Start.{AreNew}
 use Rattle.world.proofs.DatabaseIsOpened.{opens_quiet, opens_run}
 use Rattle.world.proofs.Counting.{fit_counted}
+use Rattle.world.proofs.OfChain.{last_of}
 use Rattle.world.proofs.solo.open_on.Goals as goal
 
-pub returns-in-Ok-clause-served : goal.returns-in-Ok-clause-served
-returns-in-Ok-clause-served g c = λ clean new fits.
-    let machines = held g.D.DeskStore.kept g.S.SiteStore.kept c.in-Ok.machines in
-    let so = opens_run (catalogue_of c.args.catalog.now) c.args.whole.now machines (c.database_is_of_catalogue.ensures.of_catalogue.formed 0) fits (c.in-Ok.ensures.opens clean new (database (catalogue_of c.args.catalog.now))) in
-    record { version = so.version; reached = record { opening = so.opening; opens = so.opens; events = so.events; gone = []; is = so.is; explained = so.explained }; fit = fit_counted (database (catalogue_of c.args.catalog.now)) machines (counts g.D.DeskStore.refused g.S.SiteStore.refused c.in-Ok.machines) so.fit }
+pub returns-clause-served : goal.returns-clause-served
+returns-clause-served g c = λ catalogue last clean.
+    let D = g.D.DeskStore in
+    let S = g.S.SiteStore in
+    let machines = c.in_ok-machines.machines in
+    let here = catalogue_of machines.desk.catalog in
+    subst (λ x. AreNew D.is_sound D.kept S.is_sound S.kept x c.args.desk c.args.sites.items → FitsSchema (schemas_of x) c.args.whole.now → IsServed (database x) c.args.whole.now (counted D.kept S.kept D.refused S.refused machines) []) last.is
+    (λ new fitting.
+    let so = opens_run here c.args.whole.now (held D.kept S.kept machines) (c.database_is_of_catalogue.ensures.of_catalogue.formed 0) fitting (c.in_ok-machines.ensures.opens clean new last.none (database here)) in
+    record { version = so.version; reached = record { opening = so.opening; opens = so.opens; events = so.events; gone = []; is = so.is; explained = so.explained }; fit = fit_counted (database here) (held D.kept S.kept machines) (counts D.refused S.refused machines) so.fit })
 
-pub returns-in-Ok-clause-stands : goal.returns-in-Ok-clause-stands
-returns-in-Ok-clause-stands g c = λ clean new fits.
-    opens_quiet (catalogue_of c.args.catalog.now) c.args.whole.now (held g.D.DeskStore.kept g.S.SiteStore.kept c.in-Ok.machines) (c.database_is_of_catalogue.ensures.of_catalogue.formed 0) fits (c.in-Ok.ensures.opens clean new (database (catalogue_of c.args.catalog.now)))
+pub returns-clause-stands : goal.returns-clause-stands
+returns-clause-stands g c = λ catalogue last clean.
+    let D = g.D.DeskStore in
+    let S = g.S.SiteStore in
+    let machines = c.in_ok-machines.machines in
+    let here = catalogue_of machines.desk.catalog in
+    subst (λ x. AreNew D.is_sound D.kept S.is_sound S.kept x c.args.desk c.args.sites.items → FitsSchema (schemas_of x) c.args.whole.now → Stands (database x) (fits x) None (counted D.kept S.kept D.refused S.refused machines) []) last.is
+    (λ new fitting. opens_quiet here c.args.whole.now (held D.kept S.kept machines) (c.database_is_of_catalogue.ensures.of_catalogue.formed 0) fitting (c.in_ok-machines.ensures.opens clean new last.none (database here)))
+
+pub returns-clause-single : goal.returns-clause-single
+returns-clause-single g c = λ catalogue alone. last_of c.in_ok-machines.machines.desk.volatile.version catalogue _ c.in_ok-machines.machines.desk alone c.in_ok-machines.ensures.catalogs

@@ -1,10 +1,24 @@
 -- Why `open_on` meets its contract.
+use Rattle.std.proofs.Common.{[], subst}
+use Rattle.meaning.specs.Whole.{FitsSchema}
+use Rattle.catalog.specs.FragmentLeaf.{schemas_of}
 use Rattle.catalog.specs.Relation.{catalogue_of}
 use Rattle.desk.specs.CatalogueDatabase.{database}
 use Rattle.world.specs.Contents.{held}
+use Rattle.world.specs.Runs.{IsRun}
+use Rattle.world.specs.Start.{AreNew}
 use Rattle.world.proofs.DatabaseIsOpened.{opens_run}
+use Rattle.world.proofs.OfChain.{last_of}
 use Rattle.world.proofs.world.open_on.Goals as goal
 
-pub returns-in-Ok-clause-ok : goal.returns-in-Ok-clause-ok
-returns-in-Ok-clause-ok g c = λ clean new fits.
-    opens_run (catalogue_of c.args.catalog.now) c.args.whole.now (held g.D.DeskStore.kept g.S.SiteStore.kept c.in-Ok.machines) (c.database_is_of_catalogue.ensures.of_catalogue.formed 0) fits (c.in-Ok.ensures.opens clean new (database (catalogue_of c.args.catalog.now)))
+pub returns-clause-ok : goal.returns-clause-ok
+returns-clause-ok g c = λ catalogue last clean.
+    let D = g.D.DeskStore in
+    let S = g.S.SiteStore in
+    let machines = c.in_ok-machines.machines in
+    let here = catalogue_of machines.desk.catalog in
+    subst (λ x. AreNew D.is_sound D.kept S.is_sound S.kept x c.args.desk c.args.sites.items → FitsSchema (schemas_of x) c.args.whole.now → IsRun (database x) c.args.whole.now (held D.kept S.kept machines) [] []) last.is
+    (λ new fitting. opens_run here c.args.whole.now (held D.kept S.kept machines) (c.database_is_of_catalogue.ensures.of_catalogue.formed 0) fitting (c.in_ok-machines.ensures.opens clean new last.none (database here)))
+
+pub returns-clause-single : goal.returns-clause-single
+returns-clause-single g c = λ catalogue alone. last_of c.in_ok-machines.machines.desk.volatile.version catalogue _ c.in_ok-machines.machines.desk alone c.in_ok-machines.ensures.catalogs

@@ -1,6 +1,6 @@
 -- Why `states` meets its contract.
 use Rattle.std.proofs.Common.{refl, sym, subst, ◌∙◌, inl, inr, ⊎_elim}
-use Rattle.world.proofs.Calls.{as_kind, finds_none_next, lone_command}
+use Rattle.world.proofs.Calls.{as_kind, is_refragmented, lone_command}
 use Rattle.world.specs.Client.{still_open}
 use Rattle.world.specs.Commands.{is_turned_down, only_states}
 use Rattle.world.specs.Contents.{OfStores, counted}
@@ -39,7 +39,9 @@ returns-then-is_refragment-clause-comes g c =
     let clean = OfStores g.D.DeskStore.is_clean g.S.SiteStore.is_clean in
     let sound = OfStores g.D.DeskStore.is_sound g.S.SiteStore.is_sound in
     let view = counted g.D.DeskStore.kept g.S.SiteStore.kept g.D.DeskStore.refused g.S.SiteStore.refused in
-    finds_none_next clean sound view c.args.self.now.machines c.args.text.now c.args.self.now.current c.args.statement.now (sym c.is_refragment.ensures ∙ c.if-is_refragment.true) c.in_default.is
+    let leaves = c.refragments.ensures.leaves in
+    is_refragmented clean sound view c.args.self.now.machines c.refragments.new.self.machines c.refragments.result c.args.text.now c.args.self.now.current c.args.statement.now (sym c.is_refragment.ensures ∙ c.if-is_refragment.true) c.in_default.is
+    leaves.clean leaves.sound leaves.counts leaves.catalogs c.refragments.ensures.blames c.refragments.ensures.none
 
 pub returns-in_default-clause-comes : goal.returns-in_default-clause-comes
 returns-in_default-clause-comes g c =

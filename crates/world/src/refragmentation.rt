@@ -1,0 +1,56 @@
+//! A relation gets the split that the next catalogue has for it, in a transaction of its own.
+
+ghost use Rattle.world.specs.Contents.{OfStores};
+ghost use Rattle.world.specs.Counted.{counts};
+ghost use Rattle.world.specs.Frame.{Blames, LeavesDatabase};
+
+use crate::autocommit::decide;
+use crate::client::named;
+use crate::machines::Machines;
+use crate::mailbox::deliver_all;
+use desk::refusal::Refusal;
+use desk::reply::Notice;
+use store::desk_store::DeskStore;
+use store::site_store::SiteStore;
+
+/// The transaction begins, and states the REFRAGMENT of this text. Its client hears of both.
+fn announce<D: DeskStore, S: SiteStore>(
+    machines: &mut Machines<D, S>,
+    text: &str,
+) -> Result<Vec<Notice>, Refusal>
+    ensures leaves { LeavesDatabase D.is_clean S.is_clean D.is_sound S.is_sound D.refused S.refused machines.old machines.new }
+    ensures blames { Blames (OfStores D.is_clean S.is_clean) (OfStores D.is_sound S.is_sound) (counts D.refused S.refused) machines.old machines.new result }
+{
+    match machines.refragment(text) {
+        Ok(out) => deliver_all(machines, out),
+        Err(refusal) => Err(refusal),
+    }
+}
+
+/// Of the transaction this was heard: its commit is asked for, unless it has ended by itself.
+fn conclude<D: DeskStore, S: SiteStore>(
+    machines: &mut Machines<D, S>,
+    heard: Vec<Notice>,
+) -> Result<Vec<Notice>, Refusal>
+    ensures leaves { LeavesDatabase D.is_clean S.is_clean D.is_sound S.is_sound D.refused S.refused machines.old machines.new }
+    ensures blames { Blames (OfStores D.is_clean S.is_clean) (OfStores D.is_sound S.is_sound) (counts D.refused S.refused) machines.old machines.new result }
+{
+    match named(heard) {
+        Ok(begun) => decide(machines, begun.txn, begun.heard),
+        Err(refusal) => Err(refusal),
+    }
+}
+
+/// Runs the REFRAGMENT of this text. Its client hears the answer where it was committed, and else why not.
+pub(crate) fn run_refragment<D: DeskStore, S: SiteStore>(
+    machines: &mut Machines<D, S>,
+    text: &str,
+) -> Result<Vec<Notice>, Refusal>
+    ensures leaves { LeavesDatabase D.is_clean S.is_clean D.is_sound S.is_sound D.refused S.refused machines.old machines.new }
+    ensures blames { Blames (OfStores D.is_clean S.is_clean) (OfStores D.is_sound S.is_sound) (counts D.refused S.refused) machines.old machines.new result }
+{
+    match announce(machines, text) {
+        Ok(heard) => conclude(machines, heard),
+        Err(refusal) => Err(refusal),
+    }
+}
