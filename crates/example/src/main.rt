@@ -15,6 +15,7 @@ use store::plain_desk::PlainDesk;
 use store::plain_site::PlainSite;
 use terms::copy::TryCopy;
 use terms::memory::Memory;
+use world::chain::alone;
 use world::solo::{Solo, open};
 
 type Database = Solo<PlainDesk, PlainSite>;
@@ -60,7 +61,8 @@ fn main(rt: HostRuntime) -> Result<()> {
         Err(fault) => bail!("the catalogue is refused: {fault}"),
     };
     let whole = empty_relations(alloc, &catalogue)?;
-    let mut database = match open(alloc, &catalogue, &whole) {
+    let chain = alone(alloc, &catalogue)?;
+    let mut database = match open(alloc, &chain, &whole) {
         Ok(database) => database,
         Err(fault) => bail!("not opened: {fault:?}"),
     };

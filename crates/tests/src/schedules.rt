@@ -25,6 +25,7 @@ use terms::copy::TryCopy;
 use terms::memory::Memory;
 use terms::same::same_all;
 use terms::text::Text;
+use world::chain::alone;
 use world::committed::Committed;
 use world::event::{Call, Event};
 use world::fault::Fault;
@@ -425,7 +426,8 @@ fn is_serial_over_sql(alloc: Global, events: &[Event]) -> Result<bool, Memory> {
     if sites.len() != catalog.sites().len() {
         return Err(Memory);
     }
-    let Ok(mut world) = open_on(alloc, &catalog, &whole, sites, desk) else {
+    let chain = alone(alloc, &catalog)?;
+    let Ok(mut world) = open_on(alloc, &chain, &whole, sites, desk) else {
         return Err(Memory);
     };
     if world.run(events).is_err() {

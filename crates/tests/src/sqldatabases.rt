@@ -10,6 +10,7 @@ use sqlstore::site::SqlSite;
 use std::alloc::Global;
 use std::test::*;
 use terms::memory::Memory;
+use world::chain::alone;
 use world::site_leaves::known_leaves;
 use world::solo::Solo;
 
@@ -58,7 +59,8 @@ fn opened(
     if sites.len() != catalog.sites().len() {
         return Err(Memory);
     }
-    match Solo::open_stores(alloc, catalog, sites, desk) {
+    let chain = alone(alloc, catalog)?;
+    match Solo::open_stores(alloc, &chain, sites, desk) {
         Ok(client) => Ok(client),
         Err(_) => Err(Memory),
     }

@@ -17,6 +17,7 @@ use store::plain_site::PlainSite;
 use store::site_store::SiteStore;
 use terms::memory::Memory;
 use terms::text::Text;
+use world::chain::alone;
 use world::event::{Call, Event};
 use world::solo::{Solo, open as open_client};
 use world::world::{World, open};
@@ -67,7 +68,7 @@ fn events(alloc: Global, steps: &[Step]) -> Result<Vec<Event>, Memory> {
 pub(crate) fn opened(alloc: Global, load: &str) -> Result<World<PlainDesk, PlainSite>, Memory> {
     let catalog = catalog(alloc, EMP_AND_DEPT)?;
     let whole = loaded(alloc, &catalog, load)?;
-    match open(alloc, &catalog, &whole) {
+    match open(alloc, &alone(alloc, &catalog)?, &whole) {
         Ok(world) => Ok(world),
         Err(_) => Err(Memory),
     }
@@ -77,7 +78,7 @@ pub(crate) fn opened(alloc: Global, load: &str) -> Result<World<PlainDesk, Plain
 pub(crate) fn opened_for_one(alloc: Global) -> Result<Solo<PlainDesk, PlainSite>, Memory> {
     let catalog = catalog(alloc, EMP_AND_DEPT)?;
     let whole = empty(alloc, catalog.schema())?;
-    match open_client(alloc, &catalog, &whole) {
+    match open_client(alloc, &alone(alloc, &catalog)?, &whole) {
         Ok(client) => Ok(client),
         Err(_) => Err(Memory),
     }
