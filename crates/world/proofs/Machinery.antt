@@ -32,6 +32,7 @@ use Rattle.desk.specs.State.{Begins, Steps, VolatileState, desk_of}
 use Rattle.site.specs.State.{state_of}
 use Rattle.site.proofs.Lawful.{local_lawful}
 use Rattle.site.proofs.Limited.{fits_within}
+use Rattle.world.specs.Listed.{FitsList, ListLeads}
 use Rattle.world.specs.Machines.{AreFit, Asked, Came, Leads, Machines, happens_at, is_for_site, is_order, world_of}
 use Rattle.world.specs.Seated.{SomeSeatDoes}
 use Rattle.world.specs.declared.sites.SiteAction as doing
@@ -83,7 +84,7 @@ module _ (db : Database) (before : Machines) (kept : DeskContent) (after : Volat
   }
 
 -- what the transaction still sends after its step is of leaves at their sites
-placed_after : (db : Database) (before : VolatileState) (kept : DeskContent) (after : VolatileState) (txn : names.Txn) (wanted : Transition (language db)) (out : List letters.Letter) (notices : List Notice) → Steps db before kept after txn wanted out notices → TxnHomed (language db) (IsPlace db) wanted.txn
+pub placed_after : (db : Database) (before : VolatileState) (kept : DeskContent) (after : VolatileState) (txn : names.Txn) (wanted : Transition (language db)) (out : List letters.Letter) (notices : List Notice) → Steps db before kept after txn wanted out notices → TxnHomed (language db) (IsPlace db) wanted.txn
 placed_after db before kept after txn wanted out notices steps =
     subst (TxnHomed (language db) (IsPlace db)) (ap (λ (d : Desk (language db)). d.txn (txn_name txn)) steps.state ∙ put_here same same_law (txn_name txn) wanted.txn (desk_of db before).txn) (stands_placed db kept after steps.fits (txn_name txn))
 
@@ -118,7 +119,7 @@ module _ (db : Database) (before : Machines) (kept : DeskContent) (after : Volat
   }
 
 -- the coordinator restarts
-restarted_explained : (db : Database) (d : Desk (language db)) (names : List Name) → AllExplained (flat_map (λ t. (txn_restarted t (d.txn t)).deeds) names)
+pub restarted_explained : (db : Database) (d : Desk (language db)) (names : List Name) → AllExplained (flat_map (λ t. (txn_restarted t (d.txn t)).deeds) names)
 restarted_explained db d [] = tt
 restarted_explained db d (t ∷ names) = go (d.txn t) (restarted_explained db d names)
   where
@@ -149,7 +150,7 @@ pub reply_of : (said : bodies.Body) → is_order said ≡ false → (reply : rep
 reply_of (body.Order order) is = absurd cc
 reply_of (body.Reply reply) is = (reply, refl)
 
-comes_is : (db : Database) (letter : letters.Letter) (reply : replies.Reply) → letter.body ≡ body.Reply reply → (kept : Bool) (choice : Choice (language db)) (w : World (language db)) →
+pub comes_is : (db : Database) (letter : letters.Letter) (reply : replies.Reply) → letter.body ≡ body.Reply reply → (kept : Bool) (choice : Choice (language db)) (w : World (language db)) →
     comes w kept choice (sent db letter) ≡ turns w (txn_name letter.txn) (on_desk_letter (txn_name letter.txn) letter.site kept choice (replied db letter.site reply) (w.desk.txn (txn_name letter.txn)))
 comes_is db letter reply is kept choice w = ap (λ said. comes w kept choice (as_sent said)) is ∙ go reply
   where
@@ -181,7 +182,7 @@ abbrev pub with_seats : Machines → List Seat → Machines
 with_seats machines seats = record { desk = machines.desk; table = machines.table; seats = seats; later = machines.later; refused = machines.refused }
 
 -- ---- something is done at a site
-module _ (db : Database) (before : Machines) (seat : Seat) (after : List Seat) (out : List letters.Letter) (fit : AreFit db before) where
+module _ (db : Database) (before : Machines) (seat : Seat) (after : List Seat) (out : List letters.Letter) (fit : FitsList db before) where
   module _ (name : List ℕ) (new : Seat) (moves : Moves name seat new before.seats after) where
     stepped : (waiting : List (Letter (language db))) (past : List (Deed (language db))) (put : List (Letter (language db))) → site_steps (world_of db before waiting past) name (state_at (statements db) new) put ≡ world_of db (with_seats before after) (waiting ++ put) (past ++ [])
     stepped waiting past put =
@@ -190,20 +191,19 @@ module _ (db : Database) (before : Machines) (seat : Seat) (after : List Seat) (
         if_true (is_within (state_at S new)) (with_site w name (state_at S new) put) w (within_same local S local_lawful new.name (state_of new.kept new.table) ∙ fits_within new.kept new.table moves.seated) ∙
         (λ i. record { desk = w.desk; sites = sym (states_after S name seat new before.seats after moves) i; letters = waiting ++ put; past = sym (append-nil past) i; version = before.table.version })
 
-    now_fit : AreFit db (with_seats before after)
-    now_fit = record { names = names_after name seat new before.seats after moves ∙ fit.names; leaves = leaves_after db name seat new before.seats after moves fit.leaves; desk = fit.desk; within = fit.within; sites = seated_after name seat new before.seats after moves fit.sites; single = fit.single; still = fit.still }
+    now_fit : FitsList db (with_seats before after)
+    now_fit = record { names = names_after name seat new before.seats after moves ∙ fit.names; leaves = leaves_after db name seat new before.seats after moves fit.leaves; desk = fit.desk; within = fit.within; sites = seated_after name seat new before.seats after moves fit.sites; still = fit.still }
 
     -- so where the step is such a one
-    pub site_leads : (step : World (language db) → World (language db)) (of : SiteState (language db) → SiteState (language db)) (said_by : SiteState (language db) → List (Letter (language db))) →
+    site_leads : (step : World (language db) → World (language db)) (of : SiteState (language db) → SiteState (language db)) (said_by : SiteState (language db) → List (Letter (language db))) →
         ((waiting : List (Letter (language db))) (past : List (Deed (language db))) → step (world_of db before waiting past) ≡ site_steps (world_of db before waiting past) name (of (states_of (statements db) before.seats name)) (said_by (states_of (statements db) before.seats name))) →
-        of (state_at (statements db) seat) ≡ state_at (statements db) new → said_by (state_at (statements db) seat) ≡ map (sent db) out → AreHomed (language db) (IsPlace db) (said_by (state_at (statements db) seat)) → Leads db step before (with_seats before after) out []
+        of (state_at (statements db) seat) ≡ state_at (statements db) new → said_by (state_at (statements db) seat) ≡ map (sent db) out → AreHomed (language db) (IsPlace db) (said_by (state_at (statements db) seat)) → ListLeads db step before (with_seats before after) out []
     site_leads step of said_by is became said placed = record {
       deeds = [];
       fit = now_fit;
       is = λ waiting past.
           let w = world_of db before waiting past in
           is waiting past ∙ ap (λ s. site_steps w name (of s) (said_by s)) (state_there (statements db) name before.seats seat moves.there) ∙ ap₂ (site_steps w name) became said ∙ stepped waiting past (map (sent db) out);
-      version = refl;
       placed = subst (AreHomed (language db) (IsPlace db)) said placed;
       explained = tt;
       replies = refl;
@@ -217,8 +217,8 @@ module _ (db : Database) (before : Machines) (seat : Seat) (after : List Seat) (
   renamed : (site : List ℕ) (new : Seat) → Moves site seat new before.seats after → site_at local (statements db) seat.name (state_of new.kept new.table) ≡ state_at (statements db) new
   renamed site new moves = ap (λ name. site_at local (statements db) name (state_of new.kept new.table)) (seat_named site before.seats seat moves.there ∙ sym moves.named)
 
-  pub done_leads : (what : doing.SiteAction) (choice : Choice (language db)) → is_for_site what ≡ true → SomeSeatDoes what seat before.seats after out → Leads db (happens_at db what (kept_in out) choice) before (with_seats before after) out []
-  done_leads (Take letter) choice order did =
+  pub list_done : (what : doing.SiteAction) (choice : Choice (language db)) → is_for_site what ≡ true → SomeSeatDoes what seat before.seats after out → ListLeads db (happens_at db what (kept_in out) choice) before (with_seats before after) out []
+  list_done (Take letter) choice order did =
       let S = statements db in
       let said_to = body_at local S letter.site (body_of letter.body) in
       let act : SiteState (language db) → Act (language db) = λ s. on_letter s (txn_name letter.txn) (kept_in out) said_to in
@@ -227,7 +227,7 @@ module _ (db : Database) (before : Machines) (seat : Seat) (after : List Seat) (
       (λ waiting past. ap (λ (b : Bool). comes_to b (world_of db before waiting past) (kept_in out) choice (sent db letter)) (order_is db letter.site letter.body order))
       (letter_state S letter out seat did.new here did.moves.named did.does) (letter_said S letter out seat did.new here did.moves.named did.does)
       (site_homed (language db) (IsPlace db) (state_at S seat) letter.site (txn_name letter.txn) (kept_in out) said_to)
-  done_leads (GiveUp site ticket) choice order did =
+  list_done (GiveUp site ticket) choice order did =
       let S = statements db in
       let k = name_of ticket in
       let s = state_of seat.kept seat.table in
@@ -235,14 +235,14 @@ module _ (db : Database) (before : Machines) (seat : Seat) (after : List Seat) (
       site_leads site did.new did.moves (λ w. gives_up w site k) (λ s. site_after s (on_give_up k (s.status k))) (λ s. []) (λ waiting past. refl)
       (ap (site_after (site_at local S a s)) (sym (give_up_same local S local_lawful a k (s.status k))) ∙ sym (after_same local S local_lawful a s (on_give_up k (s.status k))) ∙ ap (site_at local S a) (sym did.does.0.state) ∙ renamed site did.new did.moves)
       (ap (map (sent db)) (sym did.does.1)) tt
-  done_leads (Inquire site) choice order did =
+  list_done (Inquire site) choice order did =
       let S = statements db in
       let s = state_of seat.kept seat.table in
       let same : after ≡ before.seats = did.moves.is ∙ reseated_same site did.new before.seats seat did.does.0 did.moves.there in
       let named = seat_named site before.seats seat did.moves.there in
       let inquired : inquiries site (states_of S before.seats site) ≡ map (sent db) out = ap (inquiries site) (state_there S site before.seats seat did.moves.there) ∙ ap (λ name. inquiries name (state_at S seat)) (sym named)
       ∙ sym (inquiries_same local S local_lawful seat.name s) ∙ ap (map (letter_at local S)) (sym did.does.1) ∙ put_out out in
-      subst (λ (seats : List Seat). Leads db (λ w. inquires w site) before (with_seats before seats) out []) (sym same) (record {
+      subst (λ (seats : List Seat). ListLeads db (λ w. inquires w site) before (with_seats before seats) out []) (sym same) (record {
         deeds = [];
         fit = fit;
         is = λ waiting past i. record {
@@ -252,21 +252,20 @@ module _ (db : Database) (before : Machines) (seat : Seat) (after : List Seat) (
           past = sym (append-nil past) i;
           version = before.table.version;
         };
-        version = refl;
-        placed = subst (AreHomed (language db) (IsPlace db)) inquired (inquiries_homed (language db) (IsPlace db) site (states_of S before.seats site));
+          placed = subst (AreHomed (language db) (IsPlace db)) inquired (inquiries_homed (language db) (IsPlace db) site (states_of S before.seats site));
         explained = tt;
         replies = refl;
       })
-  done_leads (Restart site) choice order did =
+  list_done (Restart site) choice order did =
       let S = statements db in
       let s = state_of seat.kept seat.table in
       site_leads site did.new did.moves (λ w. restarts w site) site_restarted (λ s. []) (λ waiting past. refl)
       (sym (restart_same local S local_lawful seat.name s) ∙ ap (site_at local S seat.name) (sym did.does.0.state) ∙ renamed site did.new did.moves) (ap (map (sent db)) (sym did.does.1)) tt
 
   -- a letter's step is within the limits
-  pub take_within : (letter : letters.Letter) (choice : Choice (language db)) → is_order letter.body ≡ true → SomeSeatDoes (Take letter) seat before.seats after out → (kept : Bool) → kept ≡ kept_in out →
+  pub list_within : (letter : letters.Letter) (choice : Choice (language db)) → is_order letter.body ≡ true → SomeSeatDoes (Take letter) seat before.seats after out → (kept : Bool) → kept ≡ kept_in out →
       passes (world_of db before [] []) kept choice (sent db letter) ≡ true
-  take_within letter choice order did kept same_kept =
+  list_within letter choice order did kept same_kept =
       let S = statements db in
       let w = world_of db before [] [] in
       let said = body_at local S letter.site (body_of letter.body) in
@@ -277,9 +276,35 @@ module _ (db : Database) (before : Machines) (seat : Seat) (after : List Seat) (
       ∙ (within_same local S local_lawful did.new.name (state_of did.new.kept did.new.table) ∙ fits_within did.new.kept did.new.table did.moves.seated)
 
   -- as the code puts it out
-  pub put_out_leads : (what : doing.SiteAction) (choice : Choice (language db)) → is_for_site what ≡ true → SomeSeatDoes what seat before.seats after out → (kept : Bool) (put : List letters.Letter) (notices : List Notice) → kept ≡ kept_in out → put ≡ out → notices ≡ [] →
-      Leads db (happens_at db what kept choice) before (with_seats before after) put notices
-  put_out_leads what choice for_site did kept put notices same_kept same_put none =
-      subst (λ (k : Bool). Leads db (happens_at db what k choice) before (with_seats before after) put notices) (sym same_kept)
-      (subst (λ (ls : List letters.Letter). Leads db (happens_at db what (kept_in out) choice) before (with_seats before after) ls notices) (sym same_put)
-      (subst (Leads db (happens_at db what (kept_in out) choice) before (with_seats before after) out) (sym none) (done_leads what choice for_site did)))
+  pub list_put_out : (what : doing.SiteAction) (choice : Choice (language db)) → is_for_site what ≡ true → SomeSeatDoes what seat before.seats after out → (kept : Bool) (put : List letters.Letter) (notices : List Notice) → kept ≡ kept_in out → put ≡ out → notices ≡ [] →
+      ListLeads db (happens_at db what kept choice) before (with_seats before after) put notices
+  list_put_out what choice for_site did kept put notices same_kept same_put none =
+      subst (λ (k : Bool). ListLeads db (happens_at db what k choice) before (with_seats before after) put notices) (sym same_kept)
+      (subst (λ (ls : List letters.Letter). ListLeads db (happens_at db what (kept_in out) choice) before (with_seats before after) ls notices) (sym same_put)
+      (subst (ListLeads db (happens_at db what (kept_in out) choice) before (with_seats before after) out) (sym none) (list_done what choice for_site did)))
+
+-- ---- so where no catalogue comes later
+pub fits_list : (db : Database) (machines : Machines) → AreFit db machines → FitsList db machines
+fits_list db machines fit = record { names = fit.names; leaves = fit.leaves; desk = fit.desk; within = fit.within; sites = fit.sites; still = λ none t. fit.still t }
+
+at_site_alone : (db : Database) (step : World (language db) → World (language db)) (before : Machines) (after : List Seat) (out : List letters.Letter) (notices : List Notice) → AreFit db before → ListLeads db step before (with_seats before after) out notices → Leads db step before (with_seats before after) out notices
+at_site_alone db step before after out notices fit leads = record {
+  deeds = leads.deeds;
+  fit = record { names = leads.fit.names; leaves = leads.fit.leaves; desk = fit.desk; within = fit.within; sites = leads.fit.sites; single = fit.single; still = fit.still };
+  is = leads.is;
+  version = refl;
+  placed = leads.placed;
+  explained = leads.explained;
+  replies = leads.replies;
+}
+
+pub done_leads : (db : Database) (before : Machines) (seat : Seat) (after : List Seat) (out : List letters.Letter) → AreFit db before → (what : doing.SiteAction) (choice : Choice (language db)) → is_for_site what ≡ true → SomeSeatDoes what seat before.seats after out → Leads db (happens_at db what (kept_in out) choice) before (with_seats before after) out []
+done_leads db before seat after out fit what choice for_site did = at_site_alone db (happens_at db what (kept_in out) choice) before after out [] fit (list_done db before seat after out (fits_list db before fit) what choice for_site did)
+
+pub take_within : (db : Database) (before : Machines) (seat : Seat) (after : List Seat) (out : List letters.Letter) → AreFit db before → (letter : letters.Letter) (choice : Choice (language db)) → is_order letter.body ≡ true → SomeSeatDoes (Take letter) seat before.seats after out → (kept : Bool) → kept ≡ kept_in out →
+    passes (world_of db before [] []) kept choice (sent db letter) ≡ true
+take_within db before seat after out fit = list_within db before seat after out (fits_list db before fit)
+
+pub put_out_leads : (db : Database) (before : Machines) (seat : Seat) (after : List Seat) (out : List letters.Letter) → AreFit db before → (what : doing.SiteAction) (choice : Choice (language db)) → is_for_site what ≡ true → SomeSeatDoes what seat before.seats after out → (kept : Bool) (put : List letters.Letter) (notices : List Notice) → kept ≡ kept_in out → put ≡ out → notices ≡ [] →
+    Leads db (happens_at db what kept choice) before (with_seats before after) put notices
+put_out_leads db before seat after out fit what choice for_site did kept put notices same_kept same_put none = at_site_alone db (happens_at db what kept choice) before after put notices fit (list_put_out db before seat after out (fits_list db before fit) what choice for_site did kept put notices same_kept same_put none)

@@ -21,6 +21,12 @@ use Rattle.world.specs.Stopping.{StopsFor, is_stop}
 abbrev pub SameCatalogs : {D S : Type 0} → (code.Machines D S → List (List (List ℕ) × List SplitRelation)) → code.Machines D S → code.Machines D S → Type 0
 SameCatalogs later old new = later old ≡ [] → (new.desk.catalog ≡ old.desk.catalog) × (later new ≡ [])
 
+-- the same catalogue is in force, and the same ones come later
+pub record StaysInForce {D S : Type 0} (old new : code.Machines D S) : Type 0 where
+  pub version : new.desk.volatile.version ≡ old.desk.volatile.version
+  pub catalog : new.desk.catalog ≡ old.desk.catalog
+  pub later : new.desk.later.items ≡ old.desk.later.items
+
 -- what a call leaves of the machines, whatever it answers: stores that are clean now were clean, sound ones stay sound, no refusal is
 -- forgotten, and the catalogues are the same
 pub record LeavesMachines {D S : Type 0} (desk_is_clean : D → Type 0) (site_is_clean : S → Type 0) (desk_is_sound : D → Type 0) (site_is_sound : S → Type 0) (desk_refused : D → ℕ) (site_refused : S → ℕ) (old new : code.Machines D S) : Type 0 where

@@ -5,6 +5,7 @@ pub mod Seated
 pub mod Counted
 pub mod Machines
 pub mod Chain
+pub mod Listed
 pub mod Contents
 pub mod Frame
 pub mod Filling

@@ -10,7 +10,8 @@ ghost use Rattle.catalog.specs.Relation.{catalogue_of};
 ghost use Rattle.protocol.specs.Desk.{Deed};
 ghost use Rattle.desk.specs.Database.{Database, language};
 ghost use Rattle.desk.specs.OfCatalogue.{InForce, IsOfCatalogue};
-ghost use Rattle.world.specs.Frame.{CallsNoStore, LeavesDatabase, LeavesMachines, StaysOnErr};
+ghost use Rattle.world.specs.Frame.{CallsNoStore, LeavesDatabase, LeavesMachines, StaysInForce, StaysOnErr};
+ghost use Rattle.world.specs.Listed.{StandsIn};
 ghost use Rattle.world.specs.Contents.{OfStores, counted, held};
 ghost use Rattle.desk.specs.State.{volatile_of};
 ghost use Rattle.world.specs.Counted.{HaveRefused, counts};
@@ -22,7 +23,7 @@ ghost use Rattle.world.specs.declared.fault.Fault.TheVariants as faults;
 ghost use Rattle.world.specs.Events.{is_nowhere, is_unsent};
 ghost use Rattle.world.specs.EventApplied.{IsAtSite, may_call, may_call_at, told_by_desk};
 ghost use Rattle.world.specs.Refused.{IsRefused, IsRefusedFor};
-ghost use Rattle.world.specs.Runs.{IsRun, IsSpared, Spares, StepsOn, entry_of};
+ghost use Rattle.world.specs.Runs.{IsListRun, IsRun, IsSpared, ListStepsOn, Spares, StepsOn, entry_of};
 ghost use Rattle.world.specs.Seated.{place_of};
 
 use crate::event::{Call, Entry, Event};
@@ -78,7 +79,8 @@ impl<D: DeskStore, S: SiteStore> Machines<D, S> {
     ghost use Rattle.world.specs.Taking.{CameUnless, stop_of};
     ghost use Rattle.site.specs.Refusals.{AsksToKeep};
     ghost use Rattle.world.specs.EventApplied.{may_call_at};
-    ghost use Rattle.world.specs.Frame.{CallsNoStore, LeavesDatabase, LeavesMachines, StaysOnErr};
+    ghost use Rattle.world.specs.Frame.{CallsNoStore, LeavesDatabase, LeavesMachines, StaysInForce, StaysOnErr};
+    ghost use Rattle.world.specs.Listed.{FitsList, ListAsked, ListBegun, ListCame, ListLeads, ListMoved, ListStated, StandsIn};
     ghost use Rattle.world.specs.Contents.{OfStores, held};
     ghost use Rattle.world.specs.Machines.{AreFit, Asked, Came, Leads, Stated, happens_at, is_for_site, is_of_site, is_order, world_of};
     ghost use Rattle.catalog.specs.Relation.{catalogue_of};
@@ -95,6 +97,8 @@ impl<D: DeskStore, S: SiteStore> Machines<D, S> {
             → IfOk result (λ out. is_desk_within (desk_began (desk_of db (held D.kept S.kept self.old).table)) ≡ true) }
         ensures full { (db : Database) → IsOver db self.old.desk.catalog.0 → AreFit db (held D.kept S.kept self.old)
             → IfErr result (λ told. (told ≡ refusals.Memory) ⊎ IsRefused db self.old.desk.later.items (volatile_of self.old.desk.volatile) calls.Begin told) }
+        ensures lists { (db : Database) → IsOfCatalogue db → StandsIn db self.old.desk → FitsList db (held D.kept S.kept self.old)
+            → IfOk result (λ out. ListBegun db (held D.kept S.kept self.old) (held D.kept S.kept self.new) out.letters out.replies × StandsIn db self.new.desk) }
         ensures uncalled { CallsNoStore self.old self.new }
         ensures blames { IfErr result (StopsFor (counts D.refused S.refused self.old) (counts D.refused S.refused self.new)) }
         ensures err { OnErr result (held D.kept S.kept self.new ≡ held D.kept S.kept self.old) }
@@ -108,6 +112,8 @@ impl<D: DeskStore, S: SiteStore> Machines<D, S> {
         ensures ok { (db : Database) (choice : Choice (language db)) → IsOver db self.old.desk.catalog.0 → AreFit db (held D.kept S.kept self.old)
             → IfOk result (λ out. Asked db txn choice Commit_call (held D.kept S.kept self.old) (held D.kept S.kept self.new) out.letters out.replies) }
         ensures told { (db : Database) → IfErr result (λ told. (told ≡ refusals.Memory) ⊎ IsRefused db self.old.desk.later.items (volatile_of self.old.desk.volatile) (calls.Commit txn) told) }
+        ensures lists { (db : Database) (choice : Choice (language db)) → IsOfCatalogue db → StandsIn db self.old.desk → FitsList db (held D.kept S.kept self.old)
+            → IfOk result (λ out. ListAsked db txn choice Commit_call (held D.kept S.kept self.old) (held D.kept S.kept self.new) out.letters out.replies × StandsIn db self.new.desk) }
         ensures uncalled { CallsNoStore self.old self.new }
         ensures blames { IfErr result (StopsFor (counts D.refused S.refused self.old) (counts D.refused S.refused self.new)) }
         ensures err { OnErr result (held D.kept S.kept self.new ≡ held D.kept S.kept self.old) }
@@ -121,6 +127,8 @@ impl<D: DeskStore, S: SiteStore> Machines<D, S> {
         ensures ok { (db : Database) (choice : Choice (language db)) → IsOver db self.old.desk.catalog.0 → AreFit db (held D.kept S.kept self.old)
             → IfOk result (λ out. Asked db txn choice Rollback (held D.kept S.kept self.old) (held D.kept S.kept self.new) out.letters out.replies) }
         ensures told { (db : Database) → IfErr result (λ told. (told ≡ refusals.Memory) ⊎ IsRefused db self.old.desk.later.items (volatile_of self.old.desk.volatile) (calls.Rollback txn) told) }
+        ensures lists { (db : Database) (choice : Choice (language db)) → IsOfCatalogue db → StandsIn db self.old.desk → FitsList db (held D.kept S.kept self.old)
+            → IfOk result (λ out. ListAsked db txn choice Rollback (held D.kept S.kept self.old) (held D.kept S.kept self.new) out.letters out.replies × StandsIn db self.new.desk) }
         ensures uncalled { CallsNoStore self.old self.new }
         ensures blames { IfErr result (StopsFor (counts D.refused S.refused self.old) (counts D.refused S.refused self.new)) }
         ensures err { OnErr result (held D.kept S.kept self.new ≡ held D.kept S.kept self.old) }
@@ -134,6 +142,8 @@ impl<D: DeskStore, S: SiteStore> Machines<D, S> {
         ensures ok { (db : Database) (choice : Choice (language db)) → IsOver db self.old.desk.catalog.0 → AreFit db (held D.kept S.kept self.old)
             → IfOk result (λ out. Asked db txn choice Give_up (held D.kept S.kept self.old) (held D.kept S.kept self.new) out.letters out.replies) }
         ensures own { IfErr result (λ told. told ≡ refusals.Memory) }
+        ensures lists { (db : Database) (choice : Choice (language db)) → IsOfCatalogue db → StandsIn db self.old.desk → FitsList db (held D.kept S.kept self.old)
+            → IfOk result (λ out. ListAsked db txn choice Give_up (held D.kept S.kept self.old) (held D.kept S.kept self.new) out.letters out.replies × StandsIn db self.new.desk) }
         ensures uncalled { CallsNoStore self.old self.new }
         ensures err { OnErr result (held D.kept S.kept self.new ≡ held D.kept S.kept self.old) }
     {
@@ -145,6 +155,8 @@ impl<D: DeskStore, S: SiteStore> Machines<D, S> {
         ensures leaves { LeavesMachines D.is_clean S.is_clean D.is_sound S.is_sound D.refused S.refused self.old self.new }
         ensures ok { (db : Database) → IsOver db self.old.desk.catalog.0 → OfStores D.is_clean S.is_clean self.new → OfStores D.is_sound S.is_sound self.old → AreFit db (held D.kept S.kept self.old)
             → IfOk result (λ out. Leads db desk_restarts (held D.kept S.kept self.old) (held D.kept S.kept self.new) out.letters out.replies) }
+        ensures lists { (db : Database) → IsOfCatalogue db → StandsIn db self.old.desk → OfStores D.is_clean S.is_clean self.new → OfStores D.is_sound S.is_sound self.old → FitsList db (held D.kept S.kept self.old)
+            → IfOk result (λ out. ListLeads db desk_restarts (held D.kept S.kept self.old) (held D.kept S.kept self.new) out.letters out.replies × StandsIn db self.new.desk) }
         ensures called { OnOk result (kept ≡ true) }
         ensures told { IfErr result (DeskRestartTells (OfStores D.is_clean S.is_clean self.new × OfStores D.is_sound S.is_sound self.old) (HaveRefused (counts D.refused S.refused self.old) (counts D.refused S.refused self.new)) kept self.old.desk.catalog.0 (D.kept self.old.desk.store)) }
         ensures uncalled { kept ≡ false → CallsNoStore self.old self.new }
@@ -160,6 +172,8 @@ impl<D: DeskStore, S: SiteStore> Machines<D, S> {
             → IfOk result (λ out. Stated db txn text.now (held D.kept S.kept self.old) (held D.kept S.kept self.new) out.letters out.replies) }
         ensures told { (db : Database) → IsOfCatalogue db → InForce db self.old.desk.volatile.version self.old.desk.catalog → AreFit db (held D.kept S.kept self.old)
             → IfErr result (λ told. (told ≡ refusals.Memory) ⊎ IsRefused db self.old.desk.later.items (volatile_of self.old.desk.volatile) (calls.State txn text.now) told) }
+        ensures lists { (db : Database) → IsOfCatalogue db → StandsIn db self.old.desk → FitsList db (held D.kept S.kept self.old)
+            → IfOk result (λ out. ListStated db txn text.now (held D.kept S.kept self.old) (held D.kept S.kept self.new) out.letters out.replies × StandsIn db self.new.desk) }
         ensures uncalled { CallsNoStore self.old self.new }
         ensures blames { IfErr result (StopsFor (counts D.refused S.refused self.old) (counts D.refused S.refused self.new)) }
         ensures err { OnErr result (held D.kept S.kept self.new ≡ held D.kept S.kept self.old) }
@@ -173,6 +187,8 @@ impl<D: DeskStore, S: SiteStore> Machines<D, S> {
         ensures next { OnOk result (self.old.desk.later.items ≢ []) }
         ensures told { (db : Database) → IsOfCatalogue db → InForce db self.old.desk.volatile.version self.old.desk.catalog → AreFit db (held D.kept S.kept self.old)
             → IfErr result (λ told. (told ≡ refusals.Memory) ⊎ IsRefused db self.old.desk.later.items (volatile_of self.old.desk.volatile) (calls.Refragment text.now) told) }
+        ensures lists { (db : Database) → IsOfCatalogue db → StandsIn db self.old.desk → FitsList db (held D.kept S.kept self.old)
+            → IfOk result (λ out. ListMoved db text.now (held D.kept S.kept self.old) (held D.kept S.kept self.new) out.letters out.replies × StandsIn db self.new.desk) }
         ensures uncalled { CallsNoStore self.old self.new }
         ensures blames { IfErr result (StopsFor (counts D.refused S.refused self.old) (counts D.refused S.refused self.new)) }
         ensures err { OnErr result (held D.kept S.kept self.new ≡ held D.kept S.kept self.old) }
@@ -187,6 +203,9 @@ impl<D: DeskStore, S: SiteStore> Machines<D, S> {
             → IfOk result (λ out. Came db letter.now out.kept (held D.kept S.kept self.old) (held D.kept S.kept self.new) out.letters out.replies) }
         ensures told { (db : Database) → IsOfCatalogue db → InForce db self.old.desk.volatile.version self.old.desk.catalog → AreFit db (held D.kept S.kept self.old) → is_order letter.now.body ≡ false → is_of_site db letter.now ≡ true
             → IfErr result (λ told. Tells db (held D.kept S.kept self.old) letter.now (faults.Desk told)) }
+        ensures lists { (db : Database) → IsOfCatalogue db → StandsIn db self.old.desk → OfStores D.is_clean S.is_clean self.new → OfStores D.is_sound S.is_sound self.old → FitsList db (held D.kept S.kept self.old) → is_order letter.now.body ≡ false → is_of_site db letter.now ≡ true
+            → IfOk result (λ out. ListCame db letter.now out.kept (held D.kept S.kept self.old) (held D.kept S.kept self.new) out.letters out.replies × StandsIn db self.new.desk) }
+        ensures stays { OnErr result (StaysInForce self.old self.new) }
         ensures refusal { IfOk result (λ out. out.kept ≡ false → (kept ≡ false) ⊎ HaveRefused (counts D.refused S.refused self.old) (counts D.refused S.refused self.new)) }
         ensures own { IfErr result (λ told. (told ≡ refusals.Memory) ⊎ (told ≡ refusals.Full)) }
         ensures uncalled { kept ≡ false → CallsNoStore self.old self.new }
@@ -200,6 +219,9 @@ impl<D: DeskStore, S: SiteStore> Machines<D, S> {
         ensures leaves { LeavesDatabase D.is_clean S.is_clean D.is_sound S.is_sound D.refused S.refused self.old self.new }
         ensures ok { (db : Database) → IsOfCatalogue db → InForce db self.old.desk.volatile.version self.old.desk.catalog → OfStores D.is_clean S.is_clean self.new → OfStores D.is_sound S.is_sound self.old → AreFit db (held D.kept S.kept self.old) → is_of_site db letter ≡ true
             → IfOk result (λ out. Came db letter out.kept (held D.kept S.kept self.old) (held D.kept S.kept self.new) out.letters out.replies) }
+        ensures lists { (db : Database) → IsOfCatalogue db → StandsIn db self.old.desk → OfStores D.is_clean S.is_clean self.new → OfStores D.is_sound S.is_sound self.old → FitsList db (held D.kept S.kept self.old) → is_of_site db letter ≡ true
+            → IfOk result (λ out. ListCame db letter out.kept (held D.kept S.kept self.old) (held D.kept S.kept self.new) out.letters out.replies × StandsIn db self.new.desk) }
+        ensures stays { OnErr result (StaysInForce self.old self.new) }
         ensures keeps { (db : Database) → IsOfCatalogue db → InForce db self.old.desk.volatile.version self.old.desk.catalog → OfStores D.is_clean S.is_clean self.new → OfStores D.is_sound S.is_sound self.old → AreFit db (held D.kept S.kept self.old) → is_of_site db letter ≡ true
             → IfOk result (λ out. CallKept out.kept (sent db letter).body) }
         ensures told { (db : Database) → IsOfCatalogue db → InForce db self.old.desk.volatile.version self.old.desk.catalog → AreFit db (held D.kept S.kept self.old) → is_of_site db letter ≡ true
@@ -230,6 +252,11 @@ impl<D: DeskStore, S: SiteStore> Machines<D, S> {
         ensures leaves { LeavesMachines D.is_clean S.is_clean D.is_sound S.is_sound D.refused S.refused self.old self.new }
         ensures ok { (db : Database) (choice : Choice (language db)) (seat : Seat) → OfStores D.is_clean S.is_clean self.new → OfStores D.is_sound S.is_sound self.old → AreFit db (held D.kept S.kept self.old) → seat_of (place_of what) (held D.kept S.kept self.old).seats ≡ Some seat
             → IfOk result (λ out. Leads db (happens_at db what out.kept choice) (held D.kept S.kept self.old) (held D.kept S.kept self.new) out.letters out.replies) }
+        ensures lists { (db : Database) (choice : Choice (language db)) (seat : Seat) → OfStores D.is_clean S.is_clean self.new → OfStores D.is_sound S.is_sound self.old → FitsList db (held D.kept S.kept self.old) → seat_of (place_of what) (held D.kept S.kept self.old).seats ≡ Some seat
+            → IfOk result (λ out. ListLeads db (happens_at db what out.kept choice) (held D.kept S.kept self.old) (held D.kept S.kept self.new) out.letters out.replies) }
+        ensures passes { (db : Database) (choice : Choice (language db)) (seat : Seat) (letter : LetterNow) → OfStores D.is_clean S.is_clean self.new → OfStores D.is_sound S.is_sound self.old → FitsList db (held D.kept S.kept self.old) → what ≡ things.Take letter
+            → seat_of letter.site (held D.kept S.kept self.old).seats ≡ Some seat → IfOk result (λ out. passes (world_of db (held D.kept S.kept self.old) [] []) out.kept choice (sent db letter) ≡ true) }
+        ensures desk { self.new.desk ≡ self.old.desk }
         ensures within { (db : Database) (choice : Choice (language db)) (seat : Seat) (letter : LetterNow) → OfStores D.is_clean S.is_clean self.new → OfStores D.is_sound S.is_sound self.old → AreFit db (held D.kept S.kept self.old) → what ≡ things.Take letter
             → seat_of letter.site (held D.kept S.kept self.old).seats ≡ Some seat → IfOk result (λ out. passes (world_of db (held D.kept S.kept self.old) [] []) out.kept choice (sent db letter) ≡ true) }
         ensures keeps { (db : Database) (seat : Seat) (letter : LetterNow) → OfStores D.is_clean S.is_clean self.new → OfStores D.is_sound S.is_sound self.old → AreFit db (held D.kept S.kept self.old) → what ≡ things.Take letter
@@ -317,6 +344,9 @@ fn deliver<D: DeskStore, S: SiteStore>(
         → IsRun db whole (held D.kept S.kept machines.old) log.now.items past → IfOk result (λ out. StepsOn db whole (held D.kept S.kept machines.old) (held D.kept S.kept machines.new) log.now.items (log.now.items ++ entry_of (events.Deliver number kept) out ∷ []) past) }
     ensures spared { (db : Database) (whole : Relations) (past : List (Deed (language db))) → IsOfCatalogue db → InForce db machines.old.desk.volatile.version machines.old.desk.catalog → OfStores D.is_clean S.is_clean machines.new → OfStores D.is_sound S.is_sound machines.old
         → IsRun db whole (held D.kept S.kept machines.old) log.now.items past → IfOk result (λ out. IsSpared (HaveRefused (counts D.refused S.refused machines.old) (counts D.refused S.refused machines.new)) db (held D.kept S.kept machines.old) (held D.kept S.kept machines.new) log.now.items (log.now.items ++ entry_of (events.Deliver number kept) out ∷ []) past number kept) }
+    ensures lists { (db : Database) (whole : Relations) (past : List (Deed (language db))) → IsOfCatalogue db → StandsIn db machines.old.desk → OfStores D.is_clean S.is_clean machines.new → OfStores D.is_sound S.is_sound machines.old
+        → IsListRun db whole (held D.kept S.kept machines.old) log.now.items past → IfOk result (λ out. ListStepsOn db whole (held D.kept S.kept machines.old) (held D.kept S.kept machines.new) log.now.items (log.now.items ++ entry_of (events.Deliver number kept) out ∷ []) past × StandsIn db machines.new.desk) }
+    ensures stays { OnErr result (StaysInForce machines.old machines.new) }
     ensures unsent { result ≡ Err faults.Unsent → is_unsent machines.old.desk.catalog.0 log.now.items (events.Deliver number kept) ≡ true }
     ensures nowhere { is_unsent machines.old.desk.catalog.0 log.now.items (events.Deliver number kept) ≡ true → result ≡ Err faults.Unsent }
     ensures refused { (db : Database) → IsOfCatalogue db → InForce db machines.old.desk.volatile.version machines.old.desk.catalog → AreFit db (held D.kept S.kept machines.old)
@@ -342,6 +372,8 @@ fn call<D: DeskStore, S: SiteStore>(
     ensures leaves { LeavesMachines D.is_clean S.is_clean D.is_sound S.is_sound D.refused S.refused machines.old machines.new }
     ensures ok { (db : Database) (whole : Relations) (entries : List EntryNow) (past : List (Deed (language db))) → IsOfCatalogue db → InForce db machines.old.desk.volatile.version machines.old.desk.catalog
         → IsRun db whole (held D.kept S.kept machines.old) entries past → IfOk result (λ out. StepsOn db whole (held D.kept S.kept machines.old) (held D.kept S.kept machines.new) entries (entries ++ entry_of (events.Call call.now) out ∷ []) past) }
+    ensures lists { (db : Database) (whole : Relations) (entries : List EntryNow) (past : List (Deed (language db))) → IsOfCatalogue db → StandsIn db machines.old.desk
+        → IsListRun db whole (held D.kept S.kept machines.old) entries past → IfOk result (λ out. ListStepsOn db whole (held D.kept S.kept machines.old) (held D.kept S.kept machines.new) entries (entries ++ entry_of (events.Call call.now) out ∷ []) past × StandsIn db machines.new.desk) }
     ensures refused { (db : Database) → IsOfCatalogue db → InForce db machines.old.desk.volatile.version machines.old.desk.catalog → AreFit db (held D.kept S.kept machines.old)
         → IfErr result (λ told. (told ≡ refusals.Memory) ⊎ IsRefused db machines.old.desk.later.items (volatile_of machines.old.desk.volatile) call.now told) }
     ensures uncalled { CallsNoStore machines.old machines.new }
@@ -367,6 +399,8 @@ fn apply_event_at<D: DeskStore, S: SiteStore>(
     ensures leaves { LeavesMachines D.is_clean S.is_clean D.is_sound S.is_sound D.refused S.refused machines.old machines.new }
     ensures ok { (db : Database) (whole : Relations) (entries : List EntryNow) (at : EventNow) (past : List (Deed (language db))) → IsOfCatalogue db → InForce db machines.old.desk.volatile.version machines.old.desk.catalog → OfStores D.is_clean S.is_clean machines.new → OfStores D.is_sound S.is_sound machines.old
         → IsAtSite what kept at → IsRun db whole (held D.kept S.kept machines.old) entries past → IfOk result (λ out. StepsOn db whole (held D.kept S.kept machines.old) (held D.kept S.kept machines.new) entries (entries ++ entry_of at out ∷ []) past) }
+    ensures lists { (db : Database) (whole : Relations) (entries : List EntryNow) (at : EventNow) (past : List (Deed (language db))) → IsOfCatalogue db → StandsIn db machines.old.desk → OfStores D.is_clean S.is_clean machines.new → OfStores D.is_sound S.is_sound machines.old
+        → IsAtSite what kept at → IsListRun db whole (held D.kept S.kept machines.old) entries past → IfOk result (λ out. ListStepsOn db whole (held D.kept S.kept machines.old) (held D.kept S.kept machines.new) entries (entries ++ entry_of at out ∷ []) past × StandsIn db machines.new.desk) }
     ensures unsent { result ≡ Err faults.Unsent → is_nowhere machines.old.desk.catalog.0 (place_of what) ≡ true }
     ensures nowhere { is_nowhere machines.old.desk.catalog.0 (place_of what) ≡ true → result ≡ Err faults.Unsent }
     ensures refused { (db : Database) (entries : List EntryNow) (at : EventNow) → IsOfCatalogue db → InForce db machines.old.desk.volatile.version machines.old.desk.catalog → AreFit db (held D.kept S.kept machines.old) → IsAtSite what kept at
@@ -392,6 +426,9 @@ pub(crate) fn apply_event<D: DeskStore, S: SiteStore>(
     ensures leaves { LeavesDatabase D.is_clean S.is_clean D.is_sound S.is_sound D.refused S.refused machines.old machines.new }
     ensures ok { (db : Database) (whole : Relations) (past : List (Deed (language db))) → IsOfCatalogue db → InForce db machines.old.desk.volatile.version machines.old.desk.catalog → OfStores D.is_clean S.is_clean machines.new → OfStores D.is_sound S.is_sound machines.old
         → IsRun db whole (held D.kept S.kept machines.old) log.now.items past → IfOk result (λ out. StepsOn db whole (held D.kept S.kept machines.old) (held D.kept S.kept machines.new) log.now.items (log.now.items ++ entry_of event.now out ∷ []) past) }
+    ensures lists { (db : Database) (whole : Relations) (past : List (Deed (language db))) → IsOfCatalogue db → StandsIn db machines.old.desk → OfStores D.is_clean S.is_clean machines.new → OfStores D.is_sound S.is_sound machines.old
+        → IsListRun db whole (held D.kept S.kept machines.old) log.now.items past → IfOk result (λ out. ListStepsOn db whole (held D.kept S.kept machines.old) (held D.kept S.kept machines.new) log.now.items (log.now.items ++ entry_of event.now out ∷ []) past × StandsIn db machines.new.desk) }
+    ensures stays { OnErr result (StaysInForce machines.old machines.new) }
     ensures spared { (db : Database) (whole : Relations) (past : List (Deed (language db))) → IsOfCatalogue db → InForce db machines.old.desk.volatile.version machines.old.desk.catalog → OfStores D.is_clean S.is_clean machines.new → OfStores D.is_sound S.is_sound machines.old
         → IsRun db whole (held D.kept S.kept machines.old) log.now.items past → IfOk result (λ out. Spares (HaveRefused (counts D.refused S.refused machines.old) (counts D.refused S.refused machines.new)) db (held D.kept S.kept machines.old) (held D.kept S.kept machines.new) log.now.items (log.now.items ++ entry_of event.now out ∷ []) past event.now) }
     ensures unsent { result ≡ Err faults.Unsent → is_unsent machines.old.desk.catalog.0 log.now.items event.now ≡ true }
