@@ -69,3 +69,4 @@ pub mod BatchCalls
 pub mod BatchRuns
 pub mod OneCatalogue
 pub mod OfChain
+pub mod Texts

@@ -53,7 +53,7 @@ all_both P (x ∷ xs) ys one other = (one.0, all_both P xs ys one.1 other)
 
 pub runs_on : (db : Database) (whole : Relations) (before after : Machines) (entries : List Entry) (past : List (Deed (language db))) (what : events.Event) (out : Out) (step : World (language db) → World (language db)) (e : world.Event (language db)) →
     IsRun db whole before entries past → (leads : Leads db step before after out.letters out.replies) → happens (world_of db before (map (sent db) (letters_in entries)) past) e ≡ step (world_of db before (map (sent db) (letters_in entries)) past) →
-    IsEvent db before.table.version what out.kept e → IsAccepted (world_of db before (map (sent db) (letters_in entries)) past) e → Shows db what leads.deeds → StepsOn db whole before after entries (entries ++ entry_of what out ∷ []) past
+    IsEvent db before.table.version what out.kept e → IsAccepted (world_of db before (map (sent db) (letters_in entries)) past) e → Shows db what out.replies leads.deeds → StepsOn db whole before after entries (entries ++ entry_of what out ∷ []) past
 runs_on db whole before after entries past what out step e so leads event is_event accepted shows =
     let goes : happens (world_of db before (map (sent db) (letters_in entries)) past) e ≡ world_of db after (map (sent db) (letters_in (entries ++ entry_of what out ∷ []))) (past ++ leads.deeds) =
     event ∙ leads.is (map (sent db) (letters_in entries)) past ∙
@@ -122,7 +122,7 @@ over_of db n catalog of is =
     record { sites = sites; distinct = subst AreDistinct (sym (of.sites n)) (of.formed n).distinct }
 
 pub called_on : (db : Database) (whole : Relations) (before after : Machines) (entries : List Entry) (past : List (Deed (language db))) (what : events.Event) (out : Out) (txn : names.Txn) (choice : Choice (language db)) (request : Request (language db)) →
-    IsRun db whole before entries past → (asked : Asked db txn choice request before after out.letters out.replies) → IsForNow db before.table.version request → IsEvent db before.table.version what out.kept (world.Call (txn_name txn) request choice) → Shows db what asked.leads.deeds → StepsOn db whole before after entries (entries ++ entry_of what out ∷ []) past
+    IsRun db whole before entries past → (asked : Asked db txn choice request before after out.letters out.replies) → IsForNow db before.table.version request → IsEvent db before.table.version what out.kept (world.Call (txn_name txn) request choice) → Shows db what out.replies asked.leads.deeds → StepsOn db whole before after entries (entries ++ entry_of what out ∷ []) past
 called_on db whole before after entries past what out txn choice request so asked now is shows =
     let w = world_of db before (map (sent db) (letters_in entries)) past in
     let may = asks_in_force db before so.fit.still (map (sent db) (letters_in entries)) past (txn_name txn) request now in
