@@ -75,37 +75,37 @@ module _ {L : Lang} where
 module _ (db : Database) where
   -- what a call shows that does these deeds, with all letters
   with_letters : (ask : Ask (language db)) (what : calls.Call) (before after : Machines) (heard : List Notice) (serves : Serves db ask before after heard) (first : List (Deed (language db))) →
-      (asked ask (world_of db before [] [])).past ≡ first → map txn_name (phased_by (event.Call what)) ≡ phases_of first → AreStated db (text_by (event.Call what)) (stated_of first) → Shows db (event.Call what) serves.deeds
+      (asked ask (world_of db before [] [])).past ≡ first → map txn_name (phased_by (event.Call what)) ≡ phases_of first → AreStated db (text_by (event.Call what) heard) (stated_of first) → Shows db (event.Call what) heard serves.deeds
   with_letters ask what before after heard serves first is phased stated =
       let w = world_of db before [] [] in
       let later = all_silently serves.comings (asked ask w) in
       let deeds : serves.deeds ≡ first ++ later.more = sym (ap (λ (v : World (language db)). v.past) (serves.is [])) ∙ later.is ∙ ap (λ past. past ++ later.more) is in
-      subst (Shows db (event.Call what)) (sym deeds) (record {
+      subst (Shows db (event.Call what) heard) (sym deeds) (record {
         phased = phased ∙ sym (append-nil (phases_of first)) ∙ ap (λ rest. phases_of first ++ rest) (sym later.silent.0) ∙ sym (flat_map-append phased_of first later.more);
-        stated = subst (AreStated db (text_by (event.Call what))) (sym (flat_map-append stated_by first later.more ∙ ap (λ rest. stated_of first ++ rest) later.silent.1 ∙ append-nil (stated_of first))) stated;
+        stated = subst (AreStated db (text_by (event.Call what) heard)) (sym (flat_map-append stated_by first later.more ∙ ap (λ rest. stated_of first ++ rest) later.silent.1 ∙ append-nil (stated_of first))) stated;
       })
 
   turned_past : (before : Machines) (t : Name) (turn : Transition (language db)) → is_desk_within (desk_after (desk_of db before.table) t turn.txn) ≡ true → (turns (world_of db before [] []) t turn).past ≡ turn.deeds
   turned_past before t turn within = ap (λ (b : Bool). (if b then turned (world_of db before [] []) t turn else world_of db before [] []).past) within
 
-  begin_shows : (before after : Machines) (txn : Txn) (heard : List Notice) (does : DoesBegin db before txn after heard) → Shows db (event.Call call.Begin) does.serves.deeds
+  begin_shows : (before after : Machines) (txn : Txn) (heard : List Notice) (does : DoesBegin db before txn after heard) → Shows db (event.Call call.Begin) heard does.serves.deeds
   begin_shows before after txn heard does =
       with_letters To_begin call.Begin before after heard does.serves (Began (next_txn (desk_of db before.table)) ∷ [])
       (ap (λ (b : Bool). (if b then begun false (world_of db before [] []) else world_of db before [] []).past) does.within) refl tt
 
-  pub commit_shown : (before after : Machines) (txn : Txn) (heard : List Notice) (does : DoesAsk db Commit_call txn before after heard) → Shows db (event.Call (call.Commit txn)) does.serves.deeds
+  pub commit_shown : (before after : Machines) (txn : Txn) (heard : List Notice) (does : DoesAsk db Commit_call txn before after heard) → Shows db (event.Call (call.Commit txn)) heard does.serves.deeds
   commit_shown before after txn heard does =
       let turn = on_request (txn_name txn) does.choice Commit_call (txn_in db before.table txn) in
       let shown = commit_shows (txn_name txn) does.choice (txn_in db before.table txn) does.accepted in
       with_letters (To_do (txn_name txn) Commit_call does.choice) (call.Commit txn) before after heard does.serves turn.deeds (turned_past before (txn_name txn) turn does.within) (sym shown.0) (subst (AreStated db []) (sym shown.1) tt)
 
-  rollback_shown : (before after : Machines) (txn : Txn) (heard : List Notice) (does : DoesAsk db Rollback txn before after heard) → Shows db (event.Call (call.Rollback txn)) does.serves.deeds
+  rollback_shown : (before after : Machines) (txn : Txn) (heard : List Notice) (does : DoesAsk db Rollback txn before after heard) → Shows db (event.Call (call.Rollback txn)) heard does.serves.deeds
   rollback_shown before after txn heard does =
       let turn = on_request (txn_name txn) does.choice Rollback (txn_in db before.table txn) in
       let shown = rollback_silent (txn_name txn) does.choice (txn_in db before.table txn) in
       with_letters (To_do (txn_name txn) Rollback does.choice) (call.Rollback txn) before after heard does.serves turn.deeds (turned_past before (txn_name txn) turn does.within) (sym shown.0) (subst (AreStated db []) (sym shown.1) tt)
 
-  state_shown : (text : List ℕ) (before after : Machines) (txn : Txn) (heard : List Notice) (does : DoesState db text txn before after heard) → Shows db (event.Call (call.State txn text)) does.asks.serves.deeds
+  state_shown : (text : List ℕ) (before after : Machines) (txn : Txn) (heard : List Notice) (does : DoesState db text txn before after heard) → Shows db (event.Call (call.State txn text)) heard does.asks.serves.deeds
   state_shown text before after txn heard does =
       let turn = on_request (txn_name txn) does.asks.choice (State (before.table.version, does.statement)) (txn_in db before.table txn) in
       let shown = state_shows (txn_name txn) (before.table.version, does.statement) does.asks.choice (txn_in db before.table txn) does.asks.accepted in
@@ -113,7 +113,7 @@ module _ (db : Database) where
       (subst (AreStated db ((txn, text) ∷ [])) (sym shown.1) ((refl, does.spelled), tt))
 
   -- a call more is told
-  pub told_more : (entries : List Entry) (past : List (Deed (language db))) → Tells db entries past → (what : calls.Call) (ask : Ask (language db)) (before after : Machines) (heard : List Notice) (serves : Serves db ask before after heard) → Shows db (event.Call what) serves.deeds →
+  pub told_more : (entries : List Entry) (past : List (Deed (language db))) → Tells db entries past → (what : calls.Call) (ask : Ask (language db)) (before after : Machines) (heard : List Notice) (serves : Serves db ask before after heard) → Shows db (event.Call what) heard serves.deeds →
       Tells db (entries ++ said what heard ∷ []) (past ++ serves.deeds)
   told_more entries past so what ask before after heard serves shows = tells_more db entries (said what heard) past serves.deeds so shows serves.replies
 

@@ -70,3 +70,4 @@ pub mod BatchRuns
 pub mod OneCatalogue
 pub mod OfChain
 pub mod Listing
+pub mod Texts

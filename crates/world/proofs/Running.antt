@@ -2,7 +2,7 @@
 use Rattle.std.proofs.Common.{◌≡◌, refl, sym, ap, ◌∙◌, subst, ℕ, zero, suc, nat_eq, Bool, true, List, [], ◌∷◌, ◌++◌, map, Some, slice_get, Result, Ok, Err, IfOk, false, ◌⊎◌}
 use Rattle.std.proofs.lemmas.List.{map-append}
 use Rattle.std.specs.Cmp.Lexicographic.{pointwise}
-use Rattle.std.specs.List.{AllByRecursion, list_any}
+use Rattle.std.specs.List.{AllByRecursion, filter_map, list_any}
 use Rattle.meaning.specs.Whole.{Relations}
 use Rattle.store.specs.declared.letter.Letter as letters
 use Rattle.store.specs.declared.name.Txn as names
@@ -13,13 +13,15 @@ use Rattle.protocol.specs.Desk.{Choice, Deed, Request}
 use Rattle.protocol.specs.Language.{Lang}
 use Rattle.protocol.specs.Letter.{Letter, is_for_desk}
 use Rattle.protocol.specs.Letters.{name_of, txn_name}
-use Rattle.protocol.specs.Serial.{Explained}
+use Rattle.protocol.specs.Serial.{AllExplained, Explained}
 use Rattle.protocol.specs.Site.{on_give_up, site_after, site_restarted}
 use Rattle.protocol.specs.World as world
 use Rattle.protocol.specs.World.{World, called, comes, delivered, gives_up, happens, inquires, may_ask, restarts, run}
 use Rattle.desk.specs.Request.{IsOver}
 use Rattle.desk.specs.Database.{Database, language, sent}
 use Rattle.desk.specs.OfCatalogue.{InForce, IsOfCatalogue}
+use Rattle.desk.specs.State.{notice_of}
+use Rattle.desk.specs.Transition.{told}
 use Rattle.desk.specs.declared.refusal.Refusal.{Refusal}
 use Rattle.desk.specs.declared.reply.Out.{Out}
 use Rattle.protocol.proofs.Basics.{if_true, some_is}
@@ -34,7 +36,7 @@ use Rattle.world.specs.EventApplied.{IsAtSite, told_by_desk}
 use Rattle.world.specs.Machines.{AreOfPlaces, Asked, Came, IsForNow, Leads, Machines, happens_at, world_of}
 use Rattle.world.specs.Posted.{letters_in}
 use Rattle.protocol.specs.Accepted.{IsAccepted}
-use Rattle.world.specs.Runs.{IsRun, IsSpared, Spares, StepsOn, entry_of}
+use Rattle.world.specs.Runs.{IsRun, IsRunBy, IsSpared, Spares, StepsOn, StepsOnBy, entry_of}
 use Rattle.world.specs.Taking.{CameUnless}
 use Rattle.world.proofs.InForce.{asks_in_force}
 use Rattle.world.proofs.Placed.{placed_both}
@@ -51,20 +53,22 @@ pub all_both : {A : Type 0} (P : A → Type 0) (xs ys : List A) → AllByRecursi
 all_both P [] ys one other = other
 all_both P (x ∷ xs) ys one other = (one.0, all_both P xs ys one.1 other)
 
-pub runs_on : (db : Database) (whole : Relations) (before after : Machines) (entries : List Entry) (past : List (Deed (language db))) (what : events.Event) (out : Out) (step : World (language db) → World (language db)) (e : world.Event (language db)) →
-    IsRun db whole before entries past → (leads : Leads db step before after out.letters out.replies) → happens (world_of db before (map (sent db) (letters_in entries)) past) e ≡ step (world_of db before (map (sent db) (letters_in entries)) past) →
-    IsEvent db before.table.version what out.kept e → IsAccepted (world_of db before (map (sent db) (letters_in entries)) past) e → Shows db what leads.deeds → StepsOn db whole before after entries (entries ++ entry_of what out ∷ []) past
-runs_on db whole before after entries past what out step e so leads event is_event accepted shows =
-    let goes : happens (world_of db before (map (sent db) (letters_in entries)) past) e ≡ world_of db after (map (sent db) (letters_in (entries ++ entry_of what out ∷ []))) (past ++ leads.deeds) =
-    event ∙ leads.is (map (sent db) (letters_in entries)) past ∙
-    ap (λ (all : List (Letter (language db))). world_of db after all (past ++ leads.deeds)) (sym (map-append (sent db) (letters_in entries) out.letters) ∙ ap (map (sent db)) (sym (one_more (λ (entry : Entry). entry.out.letters) entries (entry_of what out)))) in
+-- what a step comes to, by its parts
+pub goes_by : {Fit : Machines → Type 0} (db : Database) (whole : Relations) (before after : Machines) (entries : List Entry) (past : List (Deed (language db))) (what : events.Event) (out : Out) (step : World (language db) → World (language db)) (e : world.Event (language db)) →
+    IsRunBy db Fit whole before entries past → (deeds : List (Deed (language db))) → Fit after → ((waiting : List (Letter (language db))) (past : List (Deed (language db))) → step (world_of db before waiting past) ≡ world_of db after (waiting ++ map (sent db) out.letters) (past ++ deeds)) → AreOfPlaces db out.letters → AllExplained deeds →
+    map notice_of out.replies ≡ filter_map (told db) deeds → happens (world_of db before (map (sent db) (letters_in entries)) past) e ≡ step (world_of db before (map (sent db) (letters_in entries)) past) →
+    IsEvent db before.table.version what out.kept e → IsAccepted (world_of db before (map (sent db) (letters_in entries)) past) e → Shows db what out.replies deeds → StepsOnBy db Fit whole before after entries (entries ++ entry_of what out ∷ []) past
+goes_by {Fit = Fit} db whole before after entries past what out step e so deeds fit is placed explained replies event is_event accepted shows =
+    let goes : happens (world_of db before (map (sent db) (letters_in entries)) past) e ≡ world_of db after (map (sent db) (letters_in (entries ++ entry_of what out ∷ []))) (past ++ deeds) =
+    event ∙ is (map (sent db) (letters_in entries)) past ∙
+    ap (λ (all : List (Letter (language db))). world_of db after all (past ++ deeds)) (sym (map-append (sent db) (letters_in entries) out.letters) ∙ ap (map (sent db)) (sym (one_more (λ (entry : Entry). entry.out.letters) entries (entry_of what out)))) in
     record {
       entry = entry_of what out;
       added = refl;
       step = e;
       is_event = is_event;
       accepted = accepted;
-      deeds = leads.deeds;
+      deeds = deeds;
       is = goes;
       run_on = record {
         version = so.version;
@@ -73,15 +77,21 @@ runs_on db whole before after entries past what out step e so leads event is_eve
         events = so.events ++ e ∷ [];
         are = event_more db so.opening entries so.events (entry_of what out) e so.are (subst (λ n. IsEvent db n what out.kept e) (ap (λ (w : World (language db)). w.version) (sym so.is)) is_event);
         is = one_event_more so.events e so.opening ∙ ap (λ w. happens w e) so.is ∙ goes;
-        placed = subst (AreOfPlaces db) (sym (one_more (λ (entry : Entry). entry.out.letters) entries (entry_of what out))) (placed_both db (letters_in entries) out.letters so.placed leads.placed);
-        explained = all_both Explained past leads.deeds so.explained leads.explained;
-        tells = tells_more db entries (entry_of what out) past leads.deeds so.tells shows leads.replies;
-        fit = leads.fit;
+        placed = subst (AreOfPlaces db) (sym (one_more (λ (entry : Entry). entry.out.letters) entries (entry_of what out))) (placed_both db (letters_in entries) out.letters so.placed placed);
+        explained = all_both Explained past deeds so.explained explained;
+        tells = tells_more db entries (entry_of what out) past deeds so.tells shows replies;
+        fit = fit;
       };
     }
 
+pub runs_on : (db : Database) (whole : Relations) (before after : Machines) (entries : List Entry) (past : List (Deed (language db))) (what : events.Event) (out : Out) (step : World (language db) → World (language db)) (e : world.Event (language db)) →
+    IsRun db whole before entries past → (leads : Leads db step before after out.letters out.replies) → happens (world_of db before (map (sent db) (letters_in entries)) past) e ≡ step (world_of db before (map (sent db) (letters_in entries)) past) →
+    IsEvent db before.table.version what out.kept e → IsAccepted (world_of db before (map (sent db) (letters_in entries)) past) e → Shows db what out.replies leads.deeds → StepsOn db whole before after entries (entries ++ entry_of what out ∷ []) past
+runs_on db whole before after entries past what out step e so leads event is_event accepted shows =
+    goes_by db whole before after entries past what out step e so leads.deeds leads.fit leads.is leads.placed leads.explained leads.replies event is_event accepted shows
+
 -- ---- the events
-sent_at : (db : Database) (posted : List letters.Letter) (n : ℕ) (letter : letters.Letter) → slice_get posted n ≡ Some letter → slice_get (map (sent db) posted) n ≡ Some (sent db letter)
+pub sent_at : (db : Database) (posted : List letters.Letter) (n : ℕ) (letter : letters.Letter) → slice_get posted n ≡ Some letter → slice_get (map (sent db) posted) n ≡ Some (sent db letter)
 sent_at db [] zero letter e = cc
 sent_at db [] (suc n) letter e = cc
 sent_at db (l ∷ posted) zero letter e = ap (λ x. Some (sent db x)) (some_is e)
@@ -122,7 +132,7 @@ over_of db n catalog of is =
     record { sites = sites; distinct = subst AreDistinct (sym (of.sites n)) (of.formed n).distinct }
 
 pub called_on : (db : Database) (whole : Relations) (before after : Machines) (entries : List Entry) (past : List (Deed (language db))) (what : events.Event) (out : Out) (txn : names.Txn) (choice : Choice (language db)) (request : Request (language db)) →
-    IsRun db whole before entries past → (asked : Asked db txn choice request before after out.letters out.replies) → IsForNow db before.table.version request → IsEvent db before.table.version what out.kept (world.Call (txn_name txn) request choice) → Shows db what asked.leads.deeds → StepsOn db whole before after entries (entries ++ entry_of what out ∷ []) past
+    IsRun db whole before entries past → (asked : Asked db txn choice request before after out.letters out.replies) → IsForNow db before.table.version request → IsEvent db before.table.version what out.kept (world.Call (txn_name txn) request choice) → Shows db what out.replies asked.leads.deeds → StepsOn db whole before after entries (entries ++ entry_of what out ∷ []) past
 called_on db whole before after entries past what out txn choice request so asked now is shows =
     let w = world_of db before (map (sent db) (letters_in entries)) past in
     let may = asks_in_force db before so.fit.still (map (sent db) (letters_in entries)) past (txn_name txn) request now in

@@ -49,14 +49,14 @@ event_more db w [] (y ∷ events) entry e all is = absurd all
 event_more db w (x ∷ entries) [] entry e all is = absurd all
 event_more db w (x ∷ entries) (y ∷ events) entry e all is = (all.0, event_more db (world.happens w y) entries events entry e all.1 is)
 
-pub tells_more : (db : Database) (entries : List Entry) (entry : Entry) (past deeds : List (Deed (language db))) → Tells db entries past → Shows db entry.event deeds → map notice_of entry.out.replies ≡ filter_map (told db) deeds →
+pub tells_more : (db : Database) (entries : List Entry) (entry : Entry) (past deeds : List (Deed (language db))) → Tells db entries past → Shows db entry.event entry.out.replies deeds → map notice_of entry.out.replies ≡ filter_map (told db) deeds →
     Tells db (entries ++ entry ∷ []) (past ++ deeds)
 tells_more db entries entry past deeds so shows heard = record {
   phased =
       ap (map txn_name) (one_more (λ (e : Entry). phased_by e.event) entries entry) ∙ map-append txn_name (phased_in entries) (phased_by entry.event) ∙ ap (λ front. front ++ map txn_name (phased_by entry.event)) so.phased ∙
       ap (λ back. phases_of past ++ back) shows.phased ∙ sym (flat_map-append phased_of past deeds);
-  stated = subst (λ texts. AreStated db texts (stated_of (past ++ deeds))) (sym (one_more (λ (e : Entry). text_by e.event) entries entry))
-      (subst (AreStated db (texts_in entries ++ text_by entry.event)) (sym (flat_map-append stated_by past deeds)) (stated_both db (texts_in entries) (text_by entry.event) (stated_of past) (stated_of deeds) so.stated shows.stated));
+  stated = subst (λ texts. AreStated db texts (stated_of (past ++ deeds))) (sym (one_more (λ (e : Entry). text_by e.event e.out.replies) entries entry))
+      (subst (AreStated db (texts_in entries ++ text_by entry.event entry.out.replies)) (sym (flat_map-append stated_by past deeds)) (stated_both db (texts_in entries) (text_by entry.event entry.out.replies) (stated_of past) (stated_of deeds) so.stated shows.stated));
   heard =
       ap (map notice_of) (one_more (λ (e : Entry). e.out.replies) entries entry) ∙ map-append notice_of (notices_in entries) entry.out.replies ∙ ap (λ front. front ++ map notice_of entry.out.replies) so.heard ∙
       ap (λ back. filter_map (told db) past ++ back) heard ∙ sym (filter_map-append (told db) past deeds);
@@ -96,26 +96,26 @@ module _ {L : Lang} where
 deeds_of : (db : Database) (before after : Machines) (out : List letters.Letter) (notices : List Notice) (step : World (language db) → World (language db)) (leads : Leads db step before after out notices) → (step (world_of db before [] [])).past ≡ leads.deeds
 deeds_of db before after out notices step leads = ap (λ (w : World (language db)). w.past) (leads.is [] [])
 
-quiet_step : (db : Database) (what : events.Event) (deeds : List (Deed (language db))) → phased_by what ≡ [] → text_by what ≡ [] → IsSilent deeds → Shows db what deeds
-quiet_step db what deeds no_phase no_text silent = record {
+pub quiet_step : (db : Database) (what : events.Event) (heard : List Notice) (deeds : List (Deed (language db))) → phased_by what ≡ [] → text_by what heard ≡ [] → IsSilent deeds → Shows db what heard deeds
+quiet_step db what heard deeds no_phase no_text silent = record {
   phased = ap (map txn_name) no_phase ∙ sym silent.0;
   stated = subst (λ texts. AreStated db texts (stated_of deeds)) (sym no_text) (subst (AreStated db []) (sym silent.1) tt);
 }
 
 pub silent_step : (db : Database) (before after : Machines) (out : List letters.Letter) (notices : List Notice) (what : events.Event) (step : World (language db) → World (language db)) (leads : Leads db step before after out notices) →
-    phased_by what ≡ [] → text_by what ≡ [] → IsSilent (step (world_of db before [] [])).past → Shows db what leads.deeds
-silent_step db before after out notices what step leads no_phase no_text silent = quiet_step db what leads.deeds no_phase no_text (subst IsSilent (deeds_of db before after out notices step leads) silent)
+    phased_by what ≡ [] → text_by what notices ≡ [] → IsSilent (step (world_of db before [] [])).past → Shows db what notices leads.deeds
+silent_step db before after out notices what step leads no_phase no_text silent = quiet_step db what notices leads.deeds no_phase no_text (subst IsSilent (deeds_of db before after out notices step leads) silent)
 
 pub rollback_step : (db : Database) (before after : Machines) (out : List letters.Letter) (notices : List Notice) (txn : names.Txn) (choice : Choice (language db)) (what : events.Event) (asked : Asked db txn choice Rollback before after out notices) →
-    phased_by what ≡ [] → text_by what ≡ [] → Shows db what asked.leads.deeds
-rollback_step db before after out notices txn choice what asked no_phase no_text = quiet_step db what asked.leads.deeds no_phase no_text (subst IsSilent (sym asked.all) (rollback_silent (txn_name txn) choice (txn_in db before.table txn)))
+    phased_by what ≡ [] → text_by what notices ≡ [] → Shows db what notices asked.leads.deeds
+rollback_step db before after out notices txn choice what asked no_phase no_text = quiet_step db what notices asked.leads.deeds no_phase no_text (subst IsSilent (sym asked.all) (rollback_silent (txn_name txn) choice (txn_in db before.table txn)))
 
 pub give_up_step : (db : Database) (before after : Machines) (out : List letters.Letter) (notices : List Notice) (txn : names.Txn) (choice : Choice (language db)) (what : events.Event) (asked : Asked db txn choice Give_up before after out notices) →
-    phased_by what ≡ [] → text_by what ≡ [] → Shows db what asked.leads.deeds
-give_up_step db before after out notices txn choice what asked no_phase no_text = quiet_step db what asked.leads.deeds no_phase no_text (subst IsSilent (sym asked.all) (give_up_silent (txn_name txn) choice (txn_in db before.table txn)))
+    phased_by what ≡ [] → text_by what notices ≡ [] → Shows db what notices asked.leads.deeds
+give_up_step db before after out notices txn choice what asked no_phase no_text = quiet_step db what notices asked.leads.deeds no_phase no_text (subst IsSilent (sym asked.all) (give_up_silent (txn_name txn) choice (txn_in db before.table txn)))
 
 pub commit_step : (db : Database) (before after : Machines) (out : List letters.Letter) (notices : List Notice) (txn : names.Txn) (choice : Choice (language db)) (what : events.Event) (asked : Asked db txn choice Commit_call before after out notices) →
-    phased_by what ≡ txn ∷ [] → text_by what ≡ [] → Shows db what asked.leads.deeds
+    phased_by what ≡ txn ∷ [] → text_by what notices ≡ [] → Shows db what notices asked.leads.deeds
 commit_step db before after out notices txn choice what asked phase no_text =
     let shown = commit_shows (txn_name txn) choice (txn_in db before.table txn) asked.accepted in
     record {
@@ -124,7 +124,7 @@ commit_step db before after out notices txn choice what asked phase no_text =
     }
 
 pub state_step : (db : Database) (before after : Machines) (out : List letters.Letter) (notices : List Notice) (txn : names.Txn) (text : List ℕ) (statement : Statement) (choice : Choice (language db)) (what : events.Event) (asked : Asked db txn choice (State (before.table.version, statement)) before after out notices) →
-    IsTextOf db.schemas text (command.Run statement) → phased_by what ≡ [] → text_by what ≡ (txn, text) ∷ [] → Shows db what asked.leads.deeds
+    IsTextOf db.schemas text (command.Run statement) → phased_by what ≡ [] → text_by what notices ≡ (txn, text) ∷ [] → Shows db what notices asked.leads.deeds
 state_step db before after out notices txn text statement choice what asked spelled no_phase is =
     let shown = state_shows (txn_name txn) (before.table.version, statement) choice (txn_in db before.table txn) asked.accepted in
     record {

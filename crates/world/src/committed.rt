@@ -2,7 +2,8 @@
 
 ghost use Rattle.std.specs.Prelude.{◌≡◌, ◌++◌, ◌&&◌, List, [], map, IfOk, OnOk, if◌then◌else◌};
 ghost use Rattle.std.specs.List.{flat_map, list_any};
-ghost use Rattle.world.specs.Replies.{answer_of, answers_to, committed_in, is_told_committed, is_txn, is_commit, texts_of};
+ghost use Rattle.std.specs.Option.{option_copied};
+ghost use Rattle.world.specs.Replies.{answer_of, answers_to, committed_in, is_begun_by, is_told_committed, is_txn, is_commit, own_text, texts_of};
 ghost use Rattle.world.specs.Committed.{committed_of};
 
 use crate::event::{Call, Entry, Event};
@@ -72,16 +73,41 @@ fn answers_to(alloc: Global, entries: &[Entry], txn: &Txn) -> Result<Vec<Answer>
     Ok(answers)
 }
 
+/// Whether the first of these replies is one to this transaction's client.
+fn are_begun_by(notices: &[Notice], txn: &Txn) -> bool
+    ensures { result ≡ is_begun_by notices.now txn.now }
+{
+    match notices.first() {
+        Some(notice) => notice.txn == *txn,
+        None => false,
+    }
+}
+
+/// Whether an event brings a statement of this transaction, and its text.
+fn text_in<'a>(entry: &'a Entry, txn: &Txn) -> Option<&'a Text>
+    ensures { option_copied result ≡ own_text entry.now txn.now }
+{
+    match &entry.event {
+        Event::Call(Call::State(of, text)) if of == txn => Some(text),
+        Event::Call(Call::Refragment(text)) => {
+            if are_begun_by(entry.out.replies.as_slice(), txn) {
+                Some(text)
+            } else {
+                None
+            }
+        }
+        _ => None,
+    }
+}
+
 /// The texts of a transaction's statements.
 fn texts_of(alloc: Global, entries: &[Entry], txn: &Txn) -> Result<Vec<Text>, Memory>
     ensures { IfOk result (λ texts. texts.items ≡ texts_of entries.now txn.now) }
 {
     let mut texts = Vec::new(alloc);
     for entry in entries {
-        if let Event::Call(Call::State(of, text)) = &entry.event {
-            if of == txn {
-                texts.push(text.copy()?)?;
-            }
+        if let Some(text) = text_in(entry, txn) {
+            texts.push(text.copy()?)?;
         }
     }
     Ok(texts)
