@@ -7,7 +7,7 @@ use Rattle.catalog.specs.FragmentLeaf.{schemas_of}
 use Rattle.desk.specs.CatalogueDatabase.{database}
 use Rattle.world.specs.Machines.{Machines, world_of}
 use Rattle.world.specs.Placed.{IsPlaced, Opens}
-use Rattle.world.specs.Runs.{IsRun, RunsAreSerial}
+use Rattle.world.specs.Runs.{IsRun, ListRunsAreSerial, RunsAreSerial}
 use Rattle.protocol.specs.Client.{IsQuiet}
 use Rattle.protocol.proofs.StatementCourse.{opening_quiet}
 use Rattle.protocol.specs.Catalogues.{IsSerialList, ListLaw}
@@ -36,4 +36,9 @@ opens_quiet c whole machines formed fits starts = opening_quiet (machines.table.
 
 pub runs_serial : (db : Database) → ListLaw local (statements db) → RunsAreSerial db
 runs_serial db law whole machines entries past run =
+    serial_run db whole machines entries past run.tells (subst (IsSerialList local (statements db) whole) run.is (law run.version whole run.opening run.events run.opens (subst (λ v. AllExplained v.past) (sym run.is) run.explained)))
+
+-- so of each list
+pub list_runs_serial : (db : Database) → ListLaw local (statements db) → ListRunsAreSerial db
+list_runs_serial db law whole machines entries past run =
     serial_run db whole machines entries past run.tells (subst (IsSerialList local (statements db) whole) run.is (law run.version whole run.opening run.events run.opens (subst (λ v. AllExplained v.past) (sym run.is) run.explained)))

@@ -71,3 +71,5 @@ pub mod OneCatalogue
 pub mod OfChain
 pub mod Listing
 pub mod Texts
+pub mod ListRunning
+pub mod ListIsBase

@@ -237,16 +237,16 @@ module _ (lead : WritesLead) (moved : MovesLead) (stay : MovesStay) (ascend : Co
               ∙ ap (λ (o : Option FragmentLeaf). row_at key (content_of o (rows_of whole leaf.relation))) (there_same old new name next site leaf other)
 
 -- ---- the list
-schemas_all : (first : Catalogue) (rest : List Catalogue) → Follow first rest → (n : ℕ) → schemas_of first ≡ schemas_of (numbered first rest n)
+pub schemas_all : (first : Catalogue) (rest : List Catalogue) → Follow first rest → (n : ℕ) → schemas_of first ≡ schemas_of (numbered first rest n)
 schemas_all first [] follow n = refl
 schemas_all first (next ∷ rest) follow zero = refl
 schemas_all first (next ∷ rest) follow (suc zero) = refl
 schemas_all first (next ∷ rest) follow (suc (suc n)) = schemas_same first next follow.0.0 follow.0.1 ∙ schemas_all next rest follow.1 (suc n)
 
-same_number : (n : ℕ) → (n == n) ≡ true
+pub same_number : (n : ℕ) → (n == n) ≡ true
 same_number n = grind (arith, nat_tests)
 
-next_number : (n : ℕ) → (n == suc n) ≡ false
+pub next_number : (n : ℕ) → (n == suc n) ≡ false
 next_number n = grind (arith, nat_tests)
 
 module _ (lead : WritesLead) (moved : MovesLead) (stay : MovesStay) (ascend : ContentsAscend) (first : Catalogue) (rest : List Catalogue) (follow : Follow first rest) (formed : (n : ℕ) → IsFormed (numbered first rest n)) where
@@ -281,13 +281,13 @@ module _ (lead : WritesLead) (moved : MovesLead) (stay : MovesStay) (ascend : Co
       right n (statement.Delete delete) whole place is fits = ordinary_right n whole _ place fits (meaning_fits (schemas_of first) (statement.Delete delete) whole is.of_schemas fits)
       right n (statement.Refragment refragment) whole place is fits = next_right n refragment.relation.name whole place (is.next refragment refl) fits
 
-formed_all : (first : Catalogue) (rest : List Catalogue) → IsFormed first → AllByRecursion IsFormed rest → (n : ℕ) → IsFormed (numbered first rest n)
+pub formed_all : (first : Catalogue) (rest : List Catalogue) → IsFormed first → AllByRecursion IsFormed rest → (n : ℕ) → IsFormed (numbered first rest n)
 formed_all first [] formed all n = formed
 formed_all first (next ∷ rest) formed all zero = formed
 formed_all first (next ∷ rest) formed all (suc zero) = formed
 formed_all first (next ∷ rest) formed all (suc (suc n)) = formed_all next rest all.0 all.1 (suc n)
 
-each_formed : (catalogs : List (List (List ℕ) × List code.SplitRelation)) → AllByRecursion (λ catalog. IsFormed (catalogue_of catalog)) catalogs → AllByRecursion IsFormed (map catalogue_of catalogs)
+pub each_formed : (catalogs : List (List (List ℕ) × List code.SplitRelation)) → AllByRecursion (λ catalog. IsFormed (catalogue_of catalog)) catalogs → AllByRecursion IsFormed (map catalogue_of catalogs)
 each_formed [] all = tt
 each_formed (catalog ∷ catalogs) all = (all.0, each_formed catalogs all.1)
 

@@ -1,37 +1,49 @@
 -- Steps of one machine are steps of the world, whichever catalogue comes into force.
-use Rattle.std.proofs.Common.{◌≡◌, ◌≢◌, ◌⊎◌, refl, sym, ap, ◌∙◌, subst, ℕ, suc, ◌==◌, ◌&&◌, not, Bool, true, false, List, [], ◌∷◌, ◌++◌, map, Option, Some, None, is_some, ⊎_elim, inl, inr, if◌then◌else◌}
-use Rattle.std.specs.List.{flat_map}
+use Rattle.std.proofs.Common.{◌≡◌, ◌≢◌, ◌⊎◌, refl, sym, ap, ◌∙◌, subst, ℕ, suc, ◌==◌, ◌&&◌, not, Bool, true, false, List, [], ◌∷◌, ◌++◌, map, Option, Some, None, is_some, ⊎_elim, inl, inr, if◌then◌else◌, append_assoc, ◌||◌, Result, Ok, Err, OnErr}
+use Rattle.std.specs.List.{flat_map, list_all, list_any}
 use Rattle.std.proofs.lemmas.Bool.{eq-eqb}
 use Rattle.std.proofs.lemmas.List.{append-nil}
 use Rattle.catalog.specs.declared.relation.SplitRelation.{SplitRelation}
 use Rattle.catalog.specs.Relation.{catalogue_of}
 use Rattle.meaning.specs.Statement.{is_refragment}
+use Rattle.meaning.specs.declared.statement.Statement.{Statement}
+use Rattle.meaning.specs.declared.statement.Statement.TheVariants as kinds
 use Rattle.store.specs.declared.letter.Letter as letters
 use Rattle.store.specs.declared.name.Txn as names
 use Rattle.store.specs.declared.reply.Reply as replies
 use Rattle.store.specs.declared.letter.Body.TheVariants as body
 use Rattle.store.specs.DeskContent.{DeskContent}
-use Rattle.protocol.specs.Desk.{Choice, Desk, Known, Request, State, Transition, Txn as ProtocolTxn, Unknown, Row, desk_after, desk_began, desk_restarted, is_committed, is_desk_within, is_moving, is_undecided, next_txn, on_desk_letter, on_request, refusal, txn_restarted, Began, Commit_call, Rollback, Give_up}
+use Rattle.protocol.specs.Desk.{Choice, Desk, Known, Request, State, Transition, Txn as ProtocolTxn, Unknown, Row, Idle, began_as, fresh_as, on_state, ask_of, desk_after, desk_began, desk_restarted, is_committed, is_desk_within, is_moving, is_undecided, next_txn, on_desk_letter, on_request, refusal, txn_restarted, Began, Commit_call, Rollback, Give_up}
 use Rattle.protocol.specs.Home.{AreHomed, AsksHomed, TxnHomed}
 use Rattle.protocol.specs.Language.{Name, same}
 use Rattle.protocol.specs.Letter.{Letter}
 use Rattle.protocol.specs.Letters.{txn_name}
 use Rattle.protocol.specs.Serial.{AllExplained}
-use Rattle.protocol.specs.World.{World, begins, begun, called, comes, desk_lives, desk_restarts, may_ask, may_begin, turned, turns}
+use Rattle.protocol.specs.World.{World, begins, begun, called, comes, desk_lives, desk_restarts, is_empty, may_ask, may_begin, refragments, turned, turns, version_after}
 use Rattle.protocol.specs.Desk as protocol
-use Rattle.protocol.proofs.Basics.{both_true, by_test, clash, if_true, left_true, put_all, put_here, right_true, same_law}
+use Rattle.protocol.proofs.Basics.{both_true, by_test, clash, if_false, if_true, left_true, put_all, put_here, right_true, same_law}
+use Rattle.protocol.proofs.Saying.{states_live}
 use Rattle.protocol.proofs.Homed.{request_homed, restarts_homed, turn_homed}
+use Rattle.desk.specs.declared.desk.Desk as desks
+use Rattle.desk.specs.declared.refusal.Refusal.{Refusal}
 use Rattle.desk.specs.declared.reply.Notice.{Notice}
+use Rattle.desk.specs.declared.reply.Out.{Out}
+use Rattle.desk.specs.declared.transaction.TxnState.{TxnState}
 use Rattle.desk.specs.Database.{Database, IsPlace, language, replied, sent}
 use Rattle.desk.specs.Does.{Takes}
 use Rattle.desk.specs.OfCatalogue.{AreNextOf, InForce, IsNextOf, first_in, follow}
 use Rattle.desk.specs.Recovery.{Restarts}
+use Rattle.desk.specs.Refragmented.{RefragmentsBy}
 use Rattle.desk.specs.Request.{txn_in}
-use Rattle.desk.specs.State.{Begins, Fits, Steps, VolatileState, desk_of, txn_at}
+use Rattle.desk.specs.State.{Begins, Fits, Steps, VolatileState, anyone_moves, desk_of, txn_at, volatile_of}
 use Rattle.desk.specs.Transaction.{txn_of}
 use Rattle.desk.specs.Transition.{is_moving as desk_moving}
 use Rattle.desk.proofs.Raised.{TurnKeeps, letter_keeps, moving_is, moving_open, request_keeps}
-use Rattle.world.specs.Listed.{FitsList, ListAsked, ListCame, ListLeads}
+use Rattle.world.specs.Listed.{FitsList, ListAsked, ListCame, ListLeads, ListMoved, StandsIn}
+use Rattle.world.specs.declared.fault.Fault.{Fault}
+use Rattle.world.specs.declared.machines.Machines as code
+use Rattle.world.specs.EventApplied.{told_by_desk}
+use Rattle.world.specs.Frame.{StaysInForce}
 use Rattle.world.specs.Machines.{Machines, world_of}
 use Rattle.world.proofs.InForce.{nobody_after, nobody_begins, nobody_restarts}
 use Rattle.world.proofs.Machinery.{comes_is, placed_after, restarted_explained, with_desk}
@@ -43,7 +55,7 @@ abbrev pub Still : (db : Database) → List (List (List ℕ) × List SplitRelati
 Still db later table = later ≡ [] → (t : Name) → is_moving ((desk_of db table).txn t) ≡ false
 
 -- ---- who moves is alone
-who_is_some : (o : Option Rattle.desk.specs.declared.transaction.TxnState.TxnState) → desk_moving o ≡ true → is_some o ≡ true
+who_is_some : (o : Option TxnState) → desk_moving o ≡ true → is_some o ≡ true
 who_is_some None e = cc
 who_is_some (Some st) e = refl
 
@@ -104,7 +116,7 @@ list_asked db before kept after later same txn choice request out notices fit st
     }
 
 -- one that is no statement may always be asked for; a statement for the catalogue in force may, where its transaction moves nothing
-pub may_state : (db : Database) (before : Machines) (txn : names.Txn) (s : Rattle.meaning.specs.declared.statement.Statement.Statement) → desk_moving (before.table.standing txn) ≡ false → is_refragment s ≡ false → may_ask (world_of db before [] []) (txn_name txn) (State (before.table.version, s)) ≡ true
+pub may_state : (db : Database) (before : Machines) (txn : names.Txn) (s : Statement) → desk_moving (before.table.standing txn) ≡ false → is_refragment s ≡ false → may_ask (world_of db before [] []) (txn_name txn) (State (before.table.version, s)) ≡ true
 may_state db before txn s unmoved ordinary =
     let still : is_moving ((desk_of db before.table).txn (txn_name txn)) ≡ false = moving_is db (before.table.standing txn) ∙ unmoved in
     both_true (not (is_moving ((desk_of db before.table).txn (txn_name txn))) && (before.table.version == before.table.version)) (not (is_refragment s))
@@ -230,3 +242,125 @@ module _ (db : Database) (before : Machines) (kept : DeskContent) (after : Volat
       (λ rises. follows_on before.table.version after.version before.later (by_raise true rises.0)
       (λ none. clash (left_true (is_moving (txn_in db before.table letter.txn)) (is_committed wanted.deeds (txn_name letter.txn)) rises.0) (fit.still none (txn_name letter.txn))) here next rises.1)
       (cases stood)
+
+-- ---- a relation gets another split
+none_of_or : (a b : Bool) → (a || b) ≡ false → (a ≡ false) × (b ≡ false)
+none_of_or true b e = cc
+none_of_or false b e = (refl, e)
+
+-- where nobody moves, a transaction may begin
+none_moves : (db : Database) (standing : names.Txn → Option TxnState) (txns : List names.Txn) → list_any (λ txn. desk_moving (standing txn)) txns ≡ false → list_all (λ t. not (is_moving (txn_of db (standing (txn_at t))))) (map txn_name txns) ≡ true
+none_moves db standing [] e = refl
+none_moves db standing (txn ∷ txns) e =
+    let none = none_of_or (desk_moving (standing txn)) (list_any (λ txn. desk_moving (standing txn)) txns) e in
+    both_true (not (is_moving (txn_of db (standing txn)))) (list_all (λ t. not (is_moving (txn_of db (standing (txn_at t))))) (map txn_name txns)) (ap not (moving_is db (standing txn) ∙ none.0)) (none_moves db standing txns none.1)
+
+pub may_begin_where : (db : Database) (before : Machines) → anyone_moves before.table ≡ false → may_begin (world_of db before [] []) ≡ true
+may_begin_where db before none = none_moves db before.table.standing before.table.txns none
+
+-- the first turn of a statement commits nobody
+mute_first : (db : Database) (t : Name) (s : (language db).Statement) (choice : Choice (language db)) → is_committed (on_state t (fresh_as true) s choice Idle).deeds t ≡ false
+mute_first db t s choice = (states_live t (fresh_as true) s (map ask_of ((language db).fetches s)) choice).mute.commits t
+
+no_raise : (a b : Bool) → b ≡ false → (a && b) ≡ false
+no_raise true b e = e
+no_raise false b e = refl
+
+module _ (db : Database) (before : Machines) (kept : DeskContent) (after : VolatileState) (later : List (List (List ℕ) × List SplitRelation)) (some : later ≢ []) (text : List ℕ) (out : List letters.Letter) (notices : List Notice) (fit : FitsList db before) (by : RefragmentsBy db before.table kept after text out notices) where
+  abbrev stated : (language db).Statement
+  stated = (before.table.version, kinds.Refragment by.refragment)
+
+  abbrev d : Desk (language db)
+  d = desk_of db before.table
+
+  abbrev t : Name
+  t = next_txn d
+
+  abbrev turn : Transition (language db)
+  turn = on_state t (fresh_as true) stated by.does.choice Idle
+
+  moved_is : (waiting : List (Letter (language db))) (past : List (protocol.Deed (language db))) → refragments (world_of db before waiting past) stated by.does.choice ≡ world_of db (with_desk before kept after later) (waiting ++ map (sent db) out) (past ++ Began t ∷ turn.deeds)
+  moved_is waiting past =
+      let w = world_of db before waiting past in
+      let v = begun true w in
+      let within : is_desk_within (desk_after v.desk t turn.txn) ≡ true = ap is_desk_within (sym by.does.state) ∙ by.does.within in
+      let same : version_after before.table.version (v.desk.txn t) t turn.deeds ≡ after.version =
+      if_false (is_moving (v.desk.txn t) && is_committed turn.deeds t) (suc before.table.version) before.table.version (no_raise (is_moving (v.desk.txn t)) (is_committed turn.deeds t) (mute_first db t stated by.does.choice)) ∙ sym by.does.version in
+      if_true (is_desk_within v.desk && is_desk_within (desk_after v.desk t turn.txn)) (turned v t turn) w (both_true (is_desk_within v.desk) (is_desk_within (desk_after v.desk t turn.txn)) by.does.begun within) ∙
+      (λ i. record { desk = sym by.does.state i; sites = w.sites; letters = waiting ++ sym by.does.letters i; past = append_assoc past (Began t ∷ []) turn.deeds i; version = same i })
+
+  placed_there : AreHomed (language db) (IsPlace db) turn.letters
+  placed_there = request_homed (language db) (IsPlace db) t by.does.choice (State stated) (Known (fresh_as true)) by.does.placed tt
+      (subst (TxnHomed (language db) (IsPlace db)) (ap (λ (e : Desk (language db)). e.txn t) by.does.state ∙ put_here same same_law t turn.txn (began_as true d).txn) (stands_placed db kept after by.does.fits t))
+
+  pub list_moved : ListMoved db text before (with_desk before kept after later) out notices
+  unfolding moved_is placed_there
+  list_moved = record {
+    refragment = by.refragment;
+    choice = by.does.choice;
+    spelled = by.spelled;
+    leads = record {
+      deeds = Began t ∷ turn.deeds;
+      fit = record { names = fit.names; leaves = fit.leaves; desk = by.does.fits; within = by.does.within; sites = fit.sites; still = λ none. absurd (some none) };
+      is = moved_is;
+      placed = subst (AreHomed (language db) (IsPlace db)) (sym by.does.letters) placed_there;
+      explained = (tt, by.does.explained);
+      replies = by.does.replies;
+    };
+    may = both_true (is_empty d.known && (before.table.version == before.table.version)) true (both_true (is_empty d.known) (before.table.version == before.table.version) (ap (λ (txns : List names.Txn). is_empty (map txn_name txns)) by.does.alone) (eq-eqb before.table.version before.table.version refl)) refl;
+    begun_within = by.does.begun;
+    within = ap is_desk_within (sym by.does.state) ∙ by.does.within;
+    all = refl;
+  }
+
+-- ---- which catalogues stand in a database
+-- the next one is the first of those that come later
+pub first_next : (db : Database) (n : ℕ) (later : List (List (List ℕ) × List SplitRelation)) → AreNextOf db n later → IsNextOf db n (first_in later)
+first_next db n [] next = tt
+first_next db n (c ∷ rest) next = next.0
+
+pub stands_as : {D : Type 0} (db : Database) (old new : desks.Desk D) → new.volatile.version ≡ old.volatile.version → new.catalog ≡ old.catalog → new.later.items ≡ old.later.items → StandsIn db old → StandsIn db new
+stands_as db old new version catalog later stands = record {
+  here = ap db.catalogue version ∙ stands.here ∙ ap catalogue_of (sym catalog);
+  next = subst (AreNextOf db new.volatile.version) (sym later) (subst (λ n. AreNextOf db n old.later.items) (sym version) stands.next);
+}
+
+-- a call that calls no store leaves the number that it keeps
+pub stands_by_store : {D : Type 0} (db : Database) (kept : D → DeskContent) (old new : desks.Desk D) → new.store ≡ old.store → new.catalog ≡ old.catalog → new.later.items ≡ old.later.items → Fits db (kept old.store) (volatile_of old.volatile) → Fits db (kept new.store) (volatile_of new.volatile) → StandsIn db old → StandsIn db new
+stands_by_store db kept old new store catalog later fit fits stands = stands_as db old new (fits.version ∙ ap (λ s. (kept s).version) store ∙ sym fit.version) catalog later stands
+
+pub stands_same : {D : Type 0} (db : Database) (old new : desks.Desk D) → new ≡ old → StandsIn db old → StandsIn db new
+stands_same db old new same stands = subst (StandsIn db) (sym same) stands
+
+-- ---- the same is in force
+pub desk_stays : {D S : Type 0} (old new : code.Machines D S) → new.desk ≡ old.desk → StaysInForce old new
+desk_stays {D} old new same = record { version = ap (λ (d : desks.Desk D). d.volatile.version) same; catalog = ap (λ (d : desks.Desk D). d.catalog) same; later = ap (λ (d : desks.Desk D). d.later.items) same }
+
+catalog_is : (one other : Catalogs) → one ≡ other → one.0 ≡ other.0
+catalog_is one other e = ap (λ (pair : Catalogs). pair.0) e
+
+-- so where a letter is refused: its turn doesn't happen
+pub stays_where : {D S T E : Type 0} (result : Result T E) (old : code.Machines D S) (new : desks.Desk D) → OnErr result (volatile_of new.volatile ≡ volatile_of old.desk.volatile) →
+    (new.catalog, new.later.items) ≡ (if new.volatile.version == old.desk.volatile.version then (old.desk.catalog, old.desk.later.items) else follow old.desk.catalog old.desk.later.items) →
+    OnErr result (StaysInForce old (record { alloc = old.alloc; desk = new; sites = old.sites; traffic = old.traffic }))
+stays_where (Ok x) old new none stood = tt
+stays_where (Err e) old new same stood =
+    let version : new.volatile.version ≡ old.desk.volatile.version = ap (λ (table : VolatileState). table.version) same in
+    let those : (new.catalog, new.later.items) ≡ (old.desk.catalog, old.desk.later.items) = stood ∙ ap (λ (b : Bool). if b then (old.desk.catalog, old.desk.later.items) else follow old.desk.catalog old.desk.later.items) (eq-eqb new.volatile.version old.desk.volatile.version version) in
+    record { version = version; catalog = catalog_is (new.catalog, new.later.items) (old.desk.catalog, old.desk.later.items) those; later = later_is (new.catalog, new.later.items) (old.desk.catalog, old.desk.later.items) those }
+
+pub stays_by : {D S T E : Type 0} (result : Result T E) (old : code.Machines D S) (new : desks.Desk D) → OnErr result (volatile_of new.volatile ≡ volatile_of old.desk.volatile) → new.catalog ≡ old.desk.catalog → new.later.items ≡ old.desk.later.items →
+    OnErr result (StaysInForce old (record { alloc = old.alloc; desk = new; sites = old.sites; traffic = old.traffic }))
+stays_by (Ok x) old new none catalog later = tt
+stays_by (Err e) old new same catalog later = record { version = ap (λ (table : VolatileState). table.version) same; catalog = catalog; later = later }
+
+-- so by what the machines hold
+pub stays_held : {D S T E : Type 0} (hold : code.Machines D S → Machines) (result : Result T E) (old new : code.Machines D S) → ((m : code.Machines D S) → (hold m).table.version ≡ m.desk.volatile.version) → OnErr result (hold new ≡ hold old) → new.desk.catalog ≡ old.desk.catalog → new.desk.later.items ≡ old.desk.later.items →
+    OnErr result (StaysInForce old new)
+stays_held hold (Ok x) old new version none catalog later = tt
+stays_held hold (Err e) old new version same catalog later = record { version = sym (version new) ∙ ap (λ (m : Machines). m.table.version) same ∙ version old; catalog = catalog; later = later }
+
+-- what the coordinator refuses is refused on
+pub by_desk_stays : (P : Type 0) (done : Result Out Refusal) (result : Result Out Fault) → result ≡ told_by_desk done → OnErr done P → OnErr result P
+by_desk_stays P (Ok out) result is holds = subst (λ r. OnErr r P) (sym is) tt
+by_desk_stays P (Err refusal) result is holds = subst (λ r. OnErr r P) (sym is) holds

@@ -27,7 +27,7 @@ use Rattle.protocol.proofs.Basics.{clash, some_is}
 use Rattle.protocol.proofs.Placing.{kept_here}
 use Rattle.desk.specs.Database.{Database, language, statements}
 use Rattle.desk.specs.CatalogueDatabase.{is_site}
-use Rattle.desk.specs.Place.{Place, home_in}
+use Rattle.desk.specs.Place.{Place, home_in, site_in}
 use Rattle.desk.specs.Transaction.{txn_of}
 use Rattle.desk.specs.Recovery as desk_starting
 use Rattle.desk.specs.State.{txn_at}
@@ -36,8 +36,9 @@ use Rattle.site.specs.declared.tickets.TicketState.TheVariants as standing
 use Rattle.site.specs.Recovery.{resting}
 use Rattle.site.specs.State.{stands, state_of, txn_in, visiting}
 use Rattle.site.proofs.Lawful.{local_lawful}
+use Rattle.world.specs.Listed.{FitsList}
 use Rattle.world.specs.Machines.{AreFit, Machines, world_of}
-use Rattle.world.specs.Placed.{IsPlaced, Opens}
+use Rattle.world.specs.Placed.{IsPlaced, ListOpens, ListPlaced, Opens}
 use Rattle.world.specs.Start.{AllStarted, IsAtRest, IsStarted}
 use Rattle.world.specs.Sites.{Seat, is_called, nobody, seat_of, state_at, states_of}
 use Rattle.world.specs.Filling.{filled}
@@ -99,12 +100,15 @@ found_at c whole place (n ∷ names) (s ∷ seats) (suc i) name all distinct got
 
 -- ---- a started site has the leaves that are at home there
 -- knowing all that a catalogue's relations can have, a site has those that the database has there
-pub has_its : (db : Database) (n : ℕ) (c : Catalogue) (whole : Relations) (seat : Seat) → IsFormed c → IsPlaced db n c whole → seat.leaves ≡ known_leaves (schemas_of c) → HasItsLeaves db seat
-has_its db n c whole seat formed places own leaf home = subst (λ (leaves : List Leaf). list_any (λ other. is_eq (leaf_cmp leaf other)) leaves ≡ true) (sym own) (go (leaf_named leaf (catalogue_leaves c)) refl)
+pub has_leaf : (c : Catalogue) (seat : Seat) → IsFormed c → seat.leaves ≡ known_leaves (schemas_of c) → (leaf : Leaf) → site_in c leaf ≡ Some seat.name → list_any (λ other. is_eq (leaf_cmp leaf other)) seat.leaves ≡ true
+has_leaf c seat formed own leaf there = subst (λ (leaves : List Leaf). list_any (λ other. is_eq (leaf_cmp leaf other)) leaves ≡ true) (sym own) (go (leaf_named leaf (catalogue_leaves c)) refl)
   where
     go : (found : Option FragmentLeaf) → leaf_named leaf (catalogue_leaves c) ≡ found → list_any (λ other. is_eq (leaf_cmp leaf other)) (known_leaves (schemas_of c)) ≡ true
-    go None none = absurd (let no : None ≡ Some seat.name = sym (ap (at_in c) none) ∙ places.places (seat.name, leaf) home in cc)
+    go None none = absurd (let no : None ≡ Some seat.name = sym (ap (at_in c) none) ∙ there in cc)
     go (Some of) found = known_named c leaf of formed found
+
+pub has_its : (db : Database) (n : ℕ) (c : Catalogue) (whole : Relations) (seat : Seat) → IsFormed c → IsPlaced db n c whole → seat.leaves ≡ known_leaves (schemas_of c) → HasItsLeaves db seat
+has_its db n c whole seat formed places own leaf home = has_leaf c seat formed own leaf (places.places (seat.name, leaf) home)
 
 -- ---- a site at rest has nothing in memory
 module _ (S : Catalogues local) (seat : Seat) (rests : IsAtRest seat) where
@@ -147,12 +151,22 @@ all_so (seat ∷ seats) so all = (so seat all.0, all_so seats so all.1)
 
 -- the contents of its sites are those of whole relations
 module _ (db : Database) (whole : Relations) (machines : Machines) (is_whole : FitsSchema db.schemas whole) (names : map (λ seat. seat.name) machines.seats ≡ db.sites) (leaves : AllByRecursion (HasItsLeaves db) machines.seats) (rest : AllByRecursion IsAtRest machines.seats)
-    (keeps : (place : Place) → (states_of (statements db) machines.seats place.0).kept place ≡ db.content machines.table.version place whole) (rises : desk_starting.Rises db machines.desk machines.table) (none : (txn : txns.Txn) → machines.desk.commits txn ≡ None) (single : machines.later ≡ []) where
+    (keeps : (place : Place) → (states_of (statements db) machines.seats place.0).kept place ≡ db.content machines.table.version place whole) (rises : desk_starting.Rises db machines.desk machines.table) (none : (txn : txns.Txn) → machines.desk.commits txn ≡ None) where
   abbrev S : Catalogues local
   S = statements db
 
-  rested_fit : AreFit db machines
-  rested_fit = record {
+  rested_list : FitsList db machines
+  rested_list = record {
+    names = names;
+    leaves = leaves;
+    desk = rises.fits;
+    within = rises.within;
+    sites = all_so machines.seats (λ seat rests. rests.begins.fits) rest;
+    still = λ single t. nobody_rises db machines.desk machines.table rises (txn_at t);
+  }
+
+  rested_fit : machines.later ≡ [] → AreFit db machines
+  rested_fit single = record {
     names = names;
     leaves = leaves;
     desk = rises.fits;
@@ -182,12 +196,15 @@ module _ (db : Database) (whole : Relations) (machines : Machines) (is_whole : F
     in_force = refl;
   }
 
-  pub opens_at_rest : Opens db whole machines
-  opens_at_rest = record { fit = rested_fit; opening = rested_world }
+  pub opens_at_rest : machines.later ≡ [] → Opens db whole machines
+  opens_at_rest single = record { fit = rested_fit single; opening = rested_world }
+
+  pub list_at_rest : ListOpens db whole machines
+  list_at_rest = record { fit = rested_list; opening = rested_world }
 
 -- ---- where all sites have started
-module _ (db : Database) (c : Catalogue) (whole : Relations) (machines : Machines) (formed : IsFormed c) (distinct : AreDistinct db.sites) (own : HaveOwnNames (catalogue_leaves c)) (places : IsPlaced db machines.table.version c whole)
-    (started : AllStarted c whole 0 db.sites machines.seats) (rises : desk_starting.Rises db machines.desk machines.table) (none : (txn : txns.Txn) → machines.desk.commits txn ≡ None) (single : machines.later ≡ []) where
+module _ (db : Database) (c : Catalogue) (whole : Relations) (machines : Machines) (formed : IsFormed c) (distinct : AreDistinct db.sites) (own : HaveOwnNames (catalogue_leaves c)) (places : ListPlaced db machines.table.version c whole) (its : (seat : Seat) → seat.leaves ≡ known_leaves (schemas_of c) → HasItsLeaves db seat)
+    (started : AllStarted c whole 0 db.sites machines.seats) (rises : desk_starting.Rises db machines.desk machines.table) (none : (txn : txns.Txn) → machines.desk.commits txn ≡ None) where
   -- what a site has where it keeps nothing of a leaf
   empty_at : (place : Place) (seat : Seat) → (seat.name ≡ place.0 → seat.kept.content place.1 ≡ fin.empty) → (state_at (statements db) seat).kept place ≡ fin.empty
   empty_at place seat nothing = go (pointwise nat_eq place.0 seat.name) refl
@@ -242,12 +259,23 @@ module _ (db : Database) (c : Catalogue) (whole : Relations) (machines : Machine
       go None e = keeps_nothing place (λ at there. none_filled whole at (catalogue_leaves c) name fin.empty e) ∙ sym (places.nowhere place (ap (λ (o : Option FragmentLeaf). is_site (at_in c o) site) e))
       go (Some leaf) e = at_site leaf e (pointwise nat_eq (home_in c name) site) refl
 
-  pub opens : Opens db whole machines
-  opens = opens_at_rest db whole machines places.fits (started_names c whole 0 db.sites machines.seats started)
-      (started_all (HasItsLeaves db) c whole 0 db.sites machines.seats (λ at name seat is. has_its db machines.table.version c whole seat formed places is.leaves) started)
+  pub opens : machines.later ≡ [] → Opens db whole machines
+  opens single = opens_at_rest db whole machines places.fits (started_names c whole 0 db.sites machines.seats started)
+      (started_all (HasItsLeaves db) c whole 0 db.sites machines.seats (λ at name seat is. its seat is.leaves) started)
       (started_all IsAtRest c whole 0 db.sites machines.seats (λ at name seat is. is.rests) started) keeps_its rises none single
+
+  pub list_opens : ListOpens db whole machines
+  list_opens = list_at_rest db whole machines places.fits (started_names c whole 0 db.sites machines.seats started)
+      (started_all (HasItsLeaves db) c whole 0 db.sites machines.seats (λ at name seat is. its seat is.leaves) started)
+      (started_all IsAtRest c whole 0 db.sites machines.seats (λ at name seat is. is.rests) started) keeps_its rises none
 
 -- of the sites of the code and their catalogue
 pub opens_of : (db : Database) (c : Catalogue) (whole : Relations) (machines : Machines) → IsFormed c → IsPlaced db machines.table.version c whole → AllStarted c whole 0 c.sites machines.seats → desk_starting.Rises db machines.desk machines.table → ((txn : txns.Txn) → machines.desk.commits txn ≡ None) → machines.later ≡ [] → Opens db whole machines
 opens_of db c whole machines formed places started rises none single =
-    opens db c whole machines formed (subst AreDistinct (sym places.sites) formed.distinct) (own_names c.relations formed.ascending) places (subst (λ sites. AllStarted c whole 0 sites machines.seats) (sym places.sites) started) rises none single
+    opens db c whole machines formed (subst AreDistinct (sym places.sites) formed.distinct) (own_names c.relations formed.ascending) (record { sites = places.sites; fits = places.fits; has = places.has; nowhere = places.nowhere }) (λ seat own. has_its db machines.table.version c whole seat formed places own)
+    (subst (λ sites. AllStarted c whole 0 sites machines.seats) (sym places.sites) started) rises none single
+
+pub list_opens_of : (db : Database) (c : Catalogue) (whole : Relations) (machines : Machines) → IsFormed c → ListPlaced db machines.table.version c whole → ((seat : Seat) → seat.leaves ≡ known_leaves (schemas_of c) → HasItsLeaves db seat) → AllStarted c whole 0 c.sites machines.seats → desk_starting.Rises db machines.desk machines.table →
+    ((txn : txns.Txn) → machines.desk.commits txn ≡ None) → ListOpens db whole machines
+list_opens_of db c whole machines formed places its started rises none =
+    list_opens db c whole machines formed (subst AreDistinct (sym places.sites) formed.distinct) (own_names c.relations formed.ascending) places its (subst (λ sites. AllStarted c whole 0 sites machines.seats) (sym places.sites) started) rises none

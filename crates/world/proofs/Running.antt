@@ -119,8 +119,8 @@ spared_on Refused db before after entries past out n letter kept there taken = r
 }
 
 -- entries of a log with room are those that it had, and one is put behind them
-pub step_pushed : (db : Database) (whole : Relations) (before after : Machines) (entries roomy more : List Entry) (past : List (Deed (language db))) (entry : Entry) → roomy ≡ entries → more ≡ roomy ++ entry ∷ [] → StepsOn db whole before after roomy (roomy ++ entry ∷ []) past → StepsOn db whole before after entries more past
-step_pushed db whole before after entries roomy more past entry same pushed on = subst (λ es. StepsOn db whole before after es more past) same (subst (λ es. StepsOn db whole before after roomy es past) (sym pushed) on)
+pub step_pushed : {Fit : Machines → Type 0} (db : Database) (whole : Relations) (before after : Machines) (entries roomy more : List Entry) (past : List (Deed (language db))) (entry : Entry) → roomy ≡ entries → more ≡ roomy ++ entry ∷ [] → StepsOnBy db Fit whole before after roomy (roomy ++ entry ∷ []) past → StepsOnBy db Fit whole before after entries more past
+step_pushed {Fit = Fit} db whole before after entries roomy more past entry same pushed on = subst (λ es. StepsOnBy db Fit whole before after es more past) same (subst (λ es. StepsOnBy db Fit whole before after roomy es past) (sym pushed) on)
 
 pub spares_pushed : (Refused : Type 0) (db : Database) (before after : Machines) (entries roomy more : List Entry) (past : List (Deed (language db))) (entry : Entry) (what : events.Event) → roomy ≡ entries → more ≡ roomy ++ entry ∷ [] → Spares Refused db before after roomy (roomy ++ entry ∷ []) past what → Spares Refused db before after entries more past what
 spares_pushed Refused db before after entries roomy more past entry what same pushed on = subst (λ es. Spares Refused db before after es more past what) same (subst (λ es. Spares Refused db before after roomy es past what) (sym pushed) on)

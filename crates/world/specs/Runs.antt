@@ -95,6 +95,10 @@ abbrev pub Spares : Type 0 → (db : Database) → Machines → Machines → Lis
 Spares Refused db before after entries more past (event.Deliver number whether) = IsSpared Refused db before after entries more past number whether
 Spares Refused db before after entries more past other = ⊤
 
+-- so a run over a list of catalogues goes on by one event more, and the invariant holds in the world that it leads to
+abbrev pub ListGoesOn : (db : Database) → Relations → Machines → Machines → List Entry → List Entry → List (Deed (language db)) → Type 0
+ListGoesOn db whole before after entries more past = (on : ListStepsOn db whole before after entries more past) × Holds (on.run_on.version, whole) (world_of db after (map (sent db) (letters_in more)) (past ++ on.deeds))
+
 -- the law of it, of the machines at hand
 abbrev pub RunsHold : Database → Type 0
 RunsHold db = (whole : Relations) (machines : Machines) (entries : List Entry) (past : List (Deed (language db))) → (runs : IsRun db whole machines entries past) → Holds (runs.version, whole) (world_of db machines (map (sent db) (letters_in entries)) past)
@@ -120,6 +124,10 @@ pub record IsSerialRun (db : Database) (whole : Relations) (machines : Machines)
   pub spelled : (txn : Txn) → AllZip (λ (text : List ℕ) (statement : Statement). IsTextOf db.schemas text (command.Run statement)) (texts_of entries txn) (statements txn)
   pub answers : map (answers_to entries) (committed_in entries) ≡ answers_after db (map statements (committed_in entries)) whole
   pub rebuilt : (place : Place) → settled (world_of db machines [] []) place ≡ db.content machines.table.version place (relations_after db (map statements (committed_in entries)) whole)
+
+-- the serial law of a list of catalogues, of the machines at hand: each run of them is serial
+abbrev pub ListRunsAreSerial : Database → Type 0
+ListRunsAreSerial db = (whole : Relations) (machines : Machines) (entries : List Entry) (past : List (Deed (language db))) → IsListRun db whole machines entries past → IsSerialRun db whole machines entries
 
 -- the serial law of the machines at hand: each run of them is serial
 abbrev pub RunsAreSerial : Database → Type 0

@@ -16,11 +16,12 @@ use Rattle.world.specs.declared.world.World as code_world
 use Rattle.world.specs.Counted.{HaveRefused}
 use Rattle.world.specs.EventApplied.{may_call}
 use Rattle.world.specs.Events.{is_unsent}
-use Rattle.world.specs.Frame.{CallsNoStore, SameCatalogs}
+use Rattle.world.specs.Frame.{CallsNoStore, SameCatalogs, StaysInForce}
+use Rattle.world.specs.Listed.{IsListed, StandsIn}
 use Rattle.world.specs.Machines.{Machines, world_of}
 use Rattle.world.specs.Refused.{IsRefusedFor}
 use Rattle.world.specs.Posted.{letters_in}
-use Rattle.world.specs.Runs.{IsRun, IsSpared, StepsOn}
+use Rattle.world.specs.Runs.{IsListRun, IsRun, IsSpared, ListGoesOn, StepsOn}
 
 -- the entry or the fault that is answered
 abbrev pub answer_of : Result (Bor Entry) (Bor faults.Fault) → Result Entry faults.Fault
@@ -43,6 +44,10 @@ pub record Steps {D S : Type 0} (db : Database) (IsClean IsSound : code.Machines
       × Holds (on.run_on.version, whole) (world_of db (hold new.machines) (map (sent db) (letters_in new.entries.items)) (past ++ on.deeds)))
   pub spared : (whole : Relations) (past : List (Deed (language db))) → IsClean new.machines → IsSound old.machines
       → IsRun db whole (hold old.machines) old.entries.items past → OnOk answer ((number : ℕ) (whether : Bool) → what ≡ event.Deliver number whether → IsSpared (HaveRefused (count old.machines).refused (count new.machines).refused) db (hold old.machines) (hold new.machines) old.entries.items new.entries.items past number whether)
+  -- so over each list of catalogues in which these stand, whichever comes into force
+  pub lists : (list : Database) (whole : Relations) (past : List (Deed (language list))) → IsListed list → StandsIn list old.machines.desk → IsClean new.machines → IsSound old.machines
+      → IsListRun list whole (hold old.machines) old.entries.items past → OnOk answer (ListGoesOn list whole (hold old.machines) (hold new.machines) old.entries.items new.entries.items past × StandsIn list new.machines.desk)
+  pub stays : OnErr answer (StaysInForce old.machines new.machines)
   pub uncalled : may_call what ≡ false → CallsNoStore old.machines new.machines
   pub unsent : answer ≡ Err fault.Unsent → is_unsent old.machines.desk.catalog.0 old.entries.items what ≡ true
   pub nowhere : is_unsent old.machines.desk.catalog.0 old.entries.items what ≡ true → (answer ≡ Err fault.Unsent) ⊎ (answer ≡ Err (fault.Desk refusals.Memory))

@@ -3,7 +3,7 @@
 
 ghost use Rattle.std.specs.Prelude.{◌≡◌, ◌∷◌, List, map};
 ghost use Rattle.std.specs.List.{AllByRecursion};
-ghost use Rattle.catalog.specs.Catalogue.{Catalogue};
+ghost use Rattle.catalog.specs.Catalogue.{Catalogue, IsValidCatalogue};
 ghost use Rattle.catalog.specs.Chain.{Follow};
 ghost use Rattle.catalog.specs.Formed.{IsFormed};
 ghost use Rattle.catalog.specs.Relation.{catalogue_of};
@@ -19,12 +19,13 @@ ghost use Rattle.protocol.specs.Parts.{PartThree, PartsOneAndTwo};
 ghost use Rattle.protocol.specs.Recovery.{RecoveryLaw};
 ghost use Rattle.protocol.specs.Rounds.{RoundByLetter};
 ghost use Rattle.protocol.specs.Serial.{SerialLaw};
-ghost use Rattle.desk.specs.Database.{language, statements};
+ghost use Rattle.desk.specs.Database.{Database, language, statements};
 ghost use Rattle.desk.specs.CatalogueDatabase.{IsBase, database, databases, fits};
 ghost use Rattle.world.specs.Commands.{CommandsFollow, MovesFollow};
 ghost use Rattle.world.specs.Executed.{ObeysUnlessRefused};
 ghost use Rattle.world.specs.Recovery.{BeginsAnewLaw, ComingUpLaw};
-ghost use Rattle.world.specs.Runs.{RunsAreSerial, RunsHold};
+ghost use Rattle.world.specs.Listed.{IsListed};
+ghost use Rattle.world.specs.Runs.{ListRunsAreSerial, RunsAreSerial, RunsHold};
 ghost use Rattle.world.specs.Client.{ServedIsSerial};
 ghost use Rattle.world.specs.Settling.{GrowsQuiet};
 ghost use Rattle.world.specs.Start.{NewStoresLaw};
@@ -34,6 +35,7 @@ ghost use Rattle.world.specs.declared.machines.Machines.{Machines as MachinesNow
 
 use answers::laws::{moves_lead, writes_lead};
 use catalog::catalogue::Catalog;
+use catalog::chain::Chain;
 use catalog::laws::leaf_names_are_unique;
 use plan::laws::{contents_ascend, fetches_are_told};
 use reader::read::one_command;
@@ -62,8 +64,9 @@ pub fn language_is_lawful(catalog: &Catalog)
 }
 
 /// These catalogues are formed as each one is.
-fn are_formed(catalogs: &[Catalog])
-    ensures { AllByRecursion (λ catalog. IsFormed (catalogue_of catalog)) catalogs.now }
+pub(crate) fn are_formed(catalogs: &[Catalog])
+    ensures formed { AllByRecursion (λ catalog. IsFormed (catalogue_of catalog)) catalogs.now }
+    ensures valid { AllByRecursion (λ catalog. IsValidCatalogue (catalogue_of catalog)) catalogs.now }
 {
     if let Some((first, rest)) = catalogs.split_first() {
         let _relations = first.relations();
@@ -81,6 +84,24 @@ pub fn chains_are_lawful(catalogs: &[Catalog])
     writes_lead();
     moves_lead();
 }
+
+/// A chain has a database: that of its catalogues, whose list is lawful.
+pub fn chain_is_listed(chain: &Chain)
+    ensures { (first : Catalogue) (rest : List Catalogue) → map catalogue_of chain.now ≡ first ∷ rest → IsListed (databases first rest) }
+{
+    let catalogs = chain.as_slice();
+    are_formed(catalogs);
+    leaf_names_are_unique();
+    contents_ascend();
+    fetches_are_told();
+    writes_lead();
+    moves_lead();
+}
+
+/// The serial law of each lawful list of catalogues, of the machines at hand: after each run of them, whichever catalogue comes into force.
+pub fn list_runs_are_serial()
+    ensures { (db : Database) → IsListed db → ListRunsAreSerial db }
+{}
 
 /// And the serial law holds of their list: the committed transactions, ordinary ones and REFRAGMENTs, give the answers that were given and,
 /// under the catalogue in force, what the settled fragments rebuild.

@@ -157,6 +157,7 @@ impl<D: DeskStore, S: SiteStore> Machines<D, S> {
             → IfOk result (λ out. Leads db desk_restarts (held D.kept S.kept self.old) (held D.kept S.kept self.new) out.letters out.replies) }
         ensures lists { (db : Database) → IsOfCatalogue db → StandsIn db self.old.desk → OfStores D.is_clean S.is_clean self.new → OfStores D.is_sound S.is_sound self.old → FitsList db (held D.kept S.kept self.old)
             → IfOk result (λ out. ListLeads db desk_restarts (held D.kept S.kept self.old) (held D.kept S.kept self.new) out.letters out.replies × StandsIn db self.new.desk) }
+        ensures stays { OnErr result (StaysInForce self.old self.new) }
         ensures called { OnOk result (kept ≡ true) }
         ensures told { IfErr result (DeskRestartTells (OfStores D.is_clean S.is_clean self.new × OfStores D.is_sound S.is_sound self.old) (HaveRefused (counts D.refused S.refused self.old) (counts D.refused S.refused self.new)) kept self.old.desk.catalog.0 (D.kept self.old.desk.store)) }
         ensures uncalled { kept ≡ false → CallsNoStore self.old self.new }
@@ -374,6 +375,7 @@ fn call<D: DeskStore, S: SiteStore>(
         → IsRun db whole (held D.kept S.kept machines.old) entries past → IfOk result (λ out. StepsOn db whole (held D.kept S.kept machines.old) (held D.kept S.kept machines.new) entries (entries ++ entry_of (events.Call call.now) out ∷ []) past) }
     ensures lists { (db : Database) (whole : Relations) (entries : List EntryNow) (past : List (Deed (language db))) → IsOfCatalogue db → StandsIn db machines.old.desk
         → IsListRun db whole (held D.kept S.kept machines.old) entries past → IfOk result (λ out. ListStepsOn db whole (held D.kept S.kept machines.old) (held D.kept S.kept machines.new) entries (entries ++ entry_of (events.Call call.now) out ∷ []) past × StandsIn db machines.new.desk) }
+    ensures stays { OnErr result (StaysInForce machines.old machines.new) }
     ensures refused { (db : Database) → IsOfCatalogue db → InForce db machines.old.desk.volatile.version machines.old.desk.catalog → AreFit db (held D.kept S.kept machines.old)
         → IfErr result (λ told. (told ≡ refusals.Memory) ⊎ IsRefused db machines.old.desk.later.items (volatile_of machines.old.desk.volatile) call.now told) }
     ensures uncalled { CallsNoStore machines.old machines.new }
@@ -401,6 +403,7 @@ fn apply_event_at<D: DeskStore, S: SiteStore>(
         → IsAtSite what kept at → IsRun db whole (held D.kept S.kept machines.old) entries past → IfOk result (λ out. StepsOn db whole (held D.kept S.kept machines.old) (held D.kept S.kept machines.new) entries (entries ++ entry_of at out ∷ []) past) }
     ensures lists { (db : Database) (whole : Relations) (entries : List EntryNow) (at : EventNow) (past : List (Deed (language db))) → IsOfCatalogue db → StandsIn db machines.old.desk → OfStores D.is_clean S.is_clean machines.new → OfStores D.is_sound S.is_sound machines.old
         → IsAtSite what kept at → IsListRun db whole (held D.kept S.kept machines.old) entries past → IfOk result (λ out. ListStepsOn db whole (held D.kept S.kept machines.old) (held D.kept S.kept machines.new) entries (entries ++ entry_of at out ∷ []) past × StandsIn db machines.new.desk) }
+    ensures desk { machines.new.desk ≡ machines.old.desk }
     ensures unsent { result ≡ Err faults.Unsent → is_nowhere machines.old.desk.catalog.0 (place_of what) ≡ true }
     ensures nowhere { is_nowhere machines.old.desk.catalog.0 (place_of what) ≡ true → result ≡ Err faults.Unsent }
     ensures refused { (db : Database) (entries : List EntryNow) (at : EventNow) → IsOfCatalogue db → InForce db machines.old.desk.volatile.version machines.old.desk.catalog → AreFit db (held D.kept S.kept machines.old) → IsAtSite what kept at

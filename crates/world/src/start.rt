@@ -1,8 +1,11 @@
 //! The machines of a database start, and their sites keep the parts of whole relations.
 
-ghost use Rattle.std.specs.Prelude.{◌≡◌, true, IfOk, IfErr, ◌∷◌, [], None, OnOk, length, map, IsSome, ◌⊎◌};
+ghost use Rattle.std.specs.Prelude.{◌≡◌, true, IfOk, IfErr, ◌∷◌, List, [], None, OnOk, length, map, IsSome, ◌⊎◌};
 ghost use Rattle.std.specs.List.{AllByRecursion};
+ghost use Rattle.catalog.specs.Catalogue.{Catalogue};
 ghost use Rattle.catalog.specs.Relation.{catalogue_of};
+ghost use Rattle.meaning.specs.Whole.{FitsSchema};
+ghost use Rattle.desk.specs.CatalogueDatabase.{databases};
 ghost use Rattle.desk.specs.Database.{Database};
 ghost use Rattle.desk.specs.Recovery.{Rises};
 ghost use Rattle.desk.specs.Request.{IsOver};
@@ -13,7 +16,8 @@ ghost use Rattle.store.specs.PlainSite.{IsSound, kept_of};
 ghost use Rattle.site.specs.declared.fault.SiteFault.TheVariants as site_faults;
 ghost use Rattle.world.specs.Fault.{is_memory};
 ghost use Rattle.world.specs.Contents.{OfGiven, OfStores, held};
-ghost use Rattle.world.specs.Placed.{IsPlaced, Opens};
+ghost use Rattle.world.specs.Listed.{StandsIn};
+ghost use Rattle.world.specs.Placed.{IsPlaced, ListOpens, Opens};
 ghost use Rattle.world.specs.Recovery.{StopsOpening};
 ghost use Rattle.world.specs.Start.{AllFilled, AllStarted, AreNew, Fills, IsStarted};
 ghost use Rattle.site.specs.Fault.{StopsStart, fault_of};
@@ -32,6 +36,7 @@ ghost use Rattle.world.specs.Filling.{filled, kept_with};
 ghost use Rattle.world.specs.Leaves.{known_leaves};
 
 use crate::fault::Fault;
+use crate::laws::are_formed;
 use crate::machines::Machines;
 use crate::recovery::{desk_up, sites_up};
 use crate::site_leaves::known_leaves;
@@ -104,6 +109,7 @@ fn start_desk(alloc: Global, chain: &Chain) -> Result<Desk<PlainDesk>, Fault>
     ensures rises { (db : Database) → IfOk result (λ desk. IsOver db desk.catalog.0 → Rises db (desk_kept desk.store) (volatile_of desk.volatile)) }
     ensures commits { (txn : TxnName) → IfOk result (λ desk. (desk_kept desk.store).commits txn ≡ None) }
     ensures catalogs { IfOk result (λ desk. StandsAt 1 (map catalogue_of chain.now) desk) }
+    ensures version { IfOk result (λ desk. desk.volatile.version ≡ 1) }
     ensures err { IfErr result (λ fault. is_memory fault ≡ true) }
 {
     let _catalogs = chain.as_slice();
@@ -124,10 +130,13 @@ pub(crate) fn start(
     whole: &Whole,
 ) -> Result<Machines<PlainDesk, PlainSite>, Fault>
     ensures opens { IfOk result (λ machines. machines.desk.later.items ≡ [] → (db : Database) → IsPlaced db machines.desk.volatile.version (catalogue_of machines.desk.catalog) whole.now → Opens db whole.now (held desk_kept kept_of machines)) }
+    ensures lists { (first : Catalogue) (rest : List Catalogue) → map catalogue_of chain.now ≡ first ∷ rest → FitsSchema (schemas_of first) whole.now
+        → IfOk result (λ machines. ListOpens (databases first rest) whole.now (held desk_kept kept_of machines) × StandsIn (databases first rest) machines.desk) }
     ensures catalogs { IfOk result (λ machines. StandsAt 1 (map catalogue_of chain.now) machines.desk) }
     ensures sound { IfOk result (λ machines. OfStores (λ _. Unit {0}) IsSound machines) }
     ensures err { IfErr result (λ fault. is_memory fault ≡ true) }
 {
+    are_formed(chain.as_slice());
     let desk = start_desk(alloc, chain)?;
     let _relations = desk.catalog().relations();
     let sites = start_sites(alloc, desk.catalog(), whole)?;
@@ -217,11 +226,14 @@ pub(crate) fn start_on<D: DeskStore + Drop, S: SiteStore + Drop>(
     requires { length sites.items ≡ length (sites_of chain.now) }
     ensures opens { IfOk result (λ machines. OfStores D.is_clean S.is_clean machines → AreNew D.is_sound D.kept S.is_sound S.kept (catalogue_of machines.desk.catalog) desk sites.items
         → machines.desk.later.items ≡ [] → (db : Database) → IsPlaced db machines.desk.volatile.version (catalogue_of machines.desk.catalog) whole.now → Opens db whole.now (held D.kept S.kept machines)) }
+    ensures lists { (first : Catalogue) (rest : List Catalogue) → map catalogue_of chain.now ≡ first ∷ rest → FitsSchema (schemas_of first) whole.now → (D.kept desk).version ≡ 1
+        → IfOk result (λ machines. OfStores D.is_clean S.is_clean machines → AreNew D.is_sound D.kept S.is_sound S.kept first desk sites.items → ListOpens (databases first rest) whole.now (held D.kept S.kept machines) × StandsIn (databases first rest) machines.desk) }
     ensures clean { IfOk result (λ machines. OfStores D.is_clean S.is_clean machines → OfGiven D.is_clean S.is_clean desk sites.items) }
     ensures sound { IfOk result (λ machines. OfStores D.is_clean S.is_clean machines → OfStores D.is_sound S.is_sound machines) }
     ensures catalogs { IfOk result (λ machines. StandsAt machines.desk.volatile.version (map catalogue_of chain.now) machines.desk) }
     ensures own { IfErr result StopsOpening }
 {
+    are_formed(chain.as_slice());
     let desk = desk_up(alloc, chain, desk)?;
     let _relations = desk.catalog().relations();
     let filled = fill_all(alloc, desk.catalog(), whole, sites)?;

@@ -14,8 +14,8 @@ ghost use Rattle.protocol.specs.Letters.{txn_name};
 ghost use Rattle.protocol.specs.Serial.{committed};
 ghost use Rattle.store.specs.PlainDesk.{kept_of as desk_kept};
 ghost use Rattle.store.specs.PlainSite.{IsSound, kept_of};
-ghost use Rattle.desk.specs.Database.{language, sent};
-ghost use Rattle.desk.specs.CatalogueDatabase.{database};
+ghost use Rattle.desk.specs.Database.{Database, language, sent};
+ghost use Rattle.desk.specs.CatalogueDatabase.{database, databases};
 ghost use Rattle.desk.specs.declared.refusal.Refusal.TheVariants as refusals;
 ghost use Rattle.world.specs.declared.event.Entry.{Entry as EntryNow};
 ghost use Rattle.world.specs.declared.event.Event.TheVariants as events;
@@ -25,14 +25,15 @@ ghost use Rattle.world.specs.Events.{is_unsent};
 ghost use Rattle.world.specs.Counted.{HaveRefused, counts};
 ghost use Rattle.world.specs.Fault.{FailsFor, is_memory};
 ghost use Rattle.world.specs.Following.{Follows, FollowsAtLeast, Happens};
-ghost use Rattle.world.specs.Frame.{CallsNoStore, LeavesDatabase, LeavesMachines, StaysAsItIs, StaysOnErr};
+ghost use Rattle.world.specs.Frame.{CallsNoStore, LeavesDatabase, LeavesMachines, StaysAsItIs, StaysInForce, StaysOnErr};
+ghost use Rattle.world.specs.Listed.{IsListed, StandsIn};
 ghost use Rattle.world.specs.Chain.{IsLast, StandsAt, sites_of};
 ghost use Rattle.world.specs.Contents.{OfGiven, OfStores, counted, held};
 ghost use Rattle.world.specs.Committed.{AnswerInTurn, committed_of};
 ghost use Rattle.world.specs.Machines.{AreFit, world_of};
 ghost use Rattle.world.specs.Posted.{letters_in};
 ghost use Rattle.world.specs.Refused.{IsRefusedFor};
-ghost use Rattle.world.specs.Runs.{IsRun, IsSpared, RunsOn, StepsOn};
+ghost use Rattle.world.specs.Runs.{IsListRun, IsRun, IsSerialRun, IsSpared, ListGoesOn, ListRunsOn, RunsOn, StepsOn};
 ghost use Rattle.world.specs.Steps.{Steps, answer_of};
 ghost use Rattle.world.specs.contracts.world.World.{the_row};
 ghost use Rattle.world.specs.Settled.{AreThoseOf, ShowsSerial, parts_kept, rows_shown};
@@ -83,6 +84,8 @@ pub fn open(
 ) -> Result<World<PlainDesk, PlainSite>, Fault>
     ensures ok { (catalogue : Catalogue) → FitsSchema (schemas_of catalogue) whole.now
         → IfOk result (λ world. IsLast catalogue world.machines.desk → IsRun (database catalogue) whole.now (held desk_kept kept_of world.machines) [] []) }
+    ensures lists { (first : Catalogue) (rest : List Catalogue) → map catalogue_of chain.now ≡ first ∷ rest → FitsSchema (schemas_of first) whole.now
+        → IfOk result (λ world. IsListRun (databases first rest) whole.now (held desk_kept kept_of world.machines) [] [] × StandsIn (databases first rest) world.machines.desk) }
     ensures none { IfOk result (λ world. world.entries.items ≡ []) }
     ensures catalogs { IfOk result (λ world. StandsAt 1 (map catalogue_of chain.now) world.machines.desk) }
     ensures single { (catalogue : Catalogue) → map catalogue_of chain.now ≡ catalogue ∷ [] → IfOk result (λ world. IsLast catalogue world.machines.desk) }
@@ -111,6 +114,8 @@ pub fn open_on<D: DeskStore + Drop, S: SiteStore + Drop>(
     requires { length sites.items ≡ length (sites_of chain.now) }
     ensures ok { (catalogue : Catalogue) → IfOk result (λ world. IsLast catalogue world.machines.desk → OfStores D.is_clean S.is_clean world.machines → AreNew D.is_sound D.kept S.is_sound S.kept catalogue desk sites.items → FitsSchema (schemas_of catalogue) whole.now
         → IsRun (database catalogue) whole.now (held D.kept S.kept world.machines) [] []) }
+    ensures lists { (first : Catalogue) (rest : List Catalogue) → map catalogue_of chain.now ≡ first ∷ rest → FitsSchema (schemas_of first) whole.now → (D.kept desk).version ≡ 1
+        → IfOk result (λ world. OfStores D.is_clean S.is_clean world.machines → AreNew D.is_sound D.kept S.is_sound S.kept first desk sites.items → IsListRun (databases first rest) whole.now (held D.kept S.kept world.machines) [] [] × StandsIn (databases first rest) world.machines.desk) }
     ensures none { IfOk result (λ world. world.entries.items ≡ []) }
     ensures clean { IfOk result (λ world. OfStores D.is_clean S.is_clean world.machines → OfGiven D.is_clean S.is_clean desk sites.items) }
     ensures sound { IfOk result (λ world. OfStores D.is_clean S.is_clean world.machines → OfStores D.is_sound S.is_sound world.machines) }
@@ -158,6 +163,9 @@ impl<D: DeskStore, S: SiteStore> World<D, S> {
             → IsRun (database (catalogue_of self.old.machines.desk.catalog)) whole (held D.kept S.kept self.old.machines) self.old.entries.items past
             → OnOk result ((on : StepsOn (database (catalogue_of self.old.machines.desk.catalog)) whole (held D.kept S.kept self.old.machines) (held D.kept S.kept self.new.machines) self.old.entries.items self.new.entries.items past)
             × Holds (on.run_on.version, whole) (world_of (database (catalogue_of self.old.machines.desk.catalog)) (held D.kept S.kept self.new.machines) (map (sent (database (catalogue_of self.old.machines.desk.catalog))) (letters_in self.new.entries.items)) (past ++ on.deeds))) }
+        ensures lists { (db : Database) (whole : Relations) (past : List (Deed (language db))) → IsListed db → StandsIn db self.old.machines.desk → OfStores D.is_clean S.is_clean self.new.machines → OfStores D.is_sound S.is_sound self.old.machines
+            → IsListRun db whole (held D.kept S.kept self.old.machines) self.old.entries.items past → OnOk result (ListGoesOn db whole (held D.kept S.kept self.old.machines) (held D.kept S.kept self.new.machines) self.old.entries.items self.new.entries.items past × StandsIn db self.new.machines.desk) }
+        ensures stays { OnErr result (StaysInForce self.old.machines self.new.machines) }
         ensures spared { (whole : Relations) (past : List (Deed (language (database (catalogue_of self.old.machines.desk.catalog)))))
             → OfStores D.is_clean S.is_clean self.new.machines → OfStores D.is_sound S.is_sound self.old.machines
             → IsRun (database (catalogue_of self.old.machines.desk.catalog)) whole (held D.kept S.kept self.old.machines) self.old.entries.items past
@@ -192,6 +200,8 @@ impl<D: DeskStore, S: SiteStore> World<D, S> {
             → OfStores D.is_clean S.is_clean self.new.machines → OfStores D.is_sound S.is_sound self.old.machines
             → IsRun (database (catalogue_of self.old.machines.desk.catalog)) whole (held D.kept S.kept self.old.machines) self.old.entries.items past
             → RunsOn (database (catalogue_of self.old.machines.desk.catalog)) whole (held D.kept S.kept self.new.machines) self.new.entries.items past }
+        ensures lists { (db : Database) (whole : Relations) (past : List (Deed (language db))) → IsListed db → StandsIn db self.old.machines.desk → OfStores D.is_clean S.is_clean self.new.machines → OfStores D.is_sound S.is_sound self.old.machines
+            → IsListRun db whole (held D.kept S.kept self.old.machines) self.old.entries.items past → ListRunsOn db whole (held D.kept S.kept self.new.machines) self.new.entries.items past × StandsIn db self.new.machines.desk }
         ensures all { (whole : Relations) (past : List (Deed (language (database (catalogue_of self.old.machines.desk.catalog)))))
             → OfStores D.is_clean S.is_clean self.new.machines → OfStores D.is_sound S.is_sound self.old.machines
             → IsRun (database (catalogue_of self.old.machines.desk.catalog)) whole (held D.kept S.kept self.old.machines) self.old.entries.items past
@@ -219,6 +229,9 @@ impl<D: DeskStore, S: SiteStore> World<D, S> {
             → OfStores D.is_clean S.is_clean self.new.machines → OfStores D.is_sound S.is_sound self.old.machines
             → IsRun (database (catalogue_of self.old.machines.desk.catalog)) whole (held D.kept S.kept self.old.machines) self.old.entries.items past
             → OnOk result (RunsOn (database (catalogue_of self.old.machines.desk.catalog)) whole (held D.kept S.kept self.new.machines) self.new.entries.items past) }
+        ensures lists { (db : Database) (whole : Relations) (past : List (Deed (language db))) → IsListed db → StandsIn db self.old.machines.desk → OfStores D.is_clean S.is_clean self.new.machines → OfStores D.is_sound S.is_sound self.old.machines
+            → IsListRun db whole (held D.kept S.kept self.old.machines) self.old.entries.items past → OnOk result (ListRunsOn db whole (held D.kept S.kept self.new.machines) self.new.entries.items past × StandsIn db self.new.machines.desk) }
+        ensures stays { OnErr result (StaysInForce self.old.machines self.new.machines) }
         ensures happens { (whole : Relations) (past : List (Deed (language (database (catalogue_of self.old.machines.desk.catalog)))))
             → OfStores D.is_clean S.is_clean self.new.machines → OfStores D.is_sound S.is_sound self.old.machines
             → IsRun (database (catalogue_of self.old.machines.desk.catalog)) whole (held D.kept S.kept self.old.machines) self.old.entries.items past
@@ -248,6 +261,8 @@ impl<D: DeskStore, S: SiteStore> World<D, S> {
         ensures serial { (whole : Relations) (past : List (Deed (language (database (catalogue_of self.now.machines.desk.catalog)))))
             → IsRun (database (catalogue_of self.now.machines.desk.catalog)) whole (held D.kept S.kept self.now.machines) self.now.entries.items past
             → IfOk result (λ all. AnswerInTurn (database (catalogue_of self.now.machines.desk.catalog)) whole all.items) }
+        ensures lists { (db : Database) (whole : Relations) (past : List (Deed (language db))) → IsListed db
+            → IsListRun db whole (held D.kept S.kept self.now.machines) self.now.entries.items past → IfOk result (λ all. AnswerInTurn db whole all.items × IsSerialRun db whole (held D.kept S.kept self.now.machines) self.now.entries.items) }
     {
         runs_are_serial(self.machines.desk.catalog());
         committed_in(self.machines.alloc, self.entries.entries())

@@ -15,6 +15,12 @@ use Rattle.world.proofs.SiteSteps.{if_ok_too}
 use Rattle.world.proofs.Refusals.{by_desk_err, call_refused, desk_refused}
 use Rattle.world.proofs.Running.{over_of, by_desk_ok, runs_on}
 use Rattle.world.proofs.Told.{desk_restarts_silent, silent_step}
+use Rattle.world.specs.Frame.{StaysInForce}
+use Rattle.world.specs.Listed.{StandsIn}
+use Rattle.world.specs.Runs.{ListStepsOn}
+use Rattle.world.proofs.Listing.{by_desk_stays, desk_stays}
+use Rattle.world.proofs.ListRunning.{list_restarts_on}
+use Rattle.world.proofs.SiteSteps.{on_any_err}
 use Rattle.world.proofs.machines.apply_event.Goals as goal
 
 pub returns-in-Call-clause-ok : goal.returns-in-Call-clause-ok
@@ -174,3 +180,78 @@ returns-in-Deliver-clause-spared g c = λ db whole past of is clean sound so.
     let refused = HaveRefused (counts g.D.DeskStore.refused g.S.SiteStore.refused c.args.machines.now) (counts g.D.DeskStore.refused g.S.SiteStore.refused c.deliver.new.machines) in
     let entries = c.args.log.now.items in
     subst (λ (what : events.Event). IfOk c.deliver.result (λ out. Spares refused db before after entries (entries ++ entry_of what out ∷ []) past what)) (sym c.in-Deliver.is) (c.deliver.ensures.spared db whole past of is clean sound so)
+
+pub returns-in-Call-clause-lists : goal.returns-in-Call-clause-lists
+returns-in-Call-clause-lists g c = λ db whole past of stands clean sound so.
+    let before = held g.D.DeskStore.kept g.S.SiteStore.kept c.args.machines.now in
+    let after = held g.D.DeskStore.kept g.S.SiteStore.kept c.call.new.machines in
+    let entries = c.args.log.now.items in
+    subst (λ (what : events.Event). IfOk c.by_desk.result (λ out. ListStepsOn db whole before after entries (entries ++ entry_of what out ∷ []) past × StandsIn db c.call.new.machines.desk)) (sym c.in-Call.is)
+    (by_desk_ok (λ out. ListStepsOn db whole before after entries (entries ++ entry_of (event.Call c.in-Call.asked) out ∷ []) past × StandsIn db c.call.new.machines.desk) c.call.result c.by_desk.result c.by_desk.ensures (c.call.ensures.lists db whole entries past of stands so))
+
+pub returns-in-DeskRestarts-clause-lists : goal.returns-in-DeskRestarts-clause-lists
+returns-in-DeskRestarts-clause-lists g c = λ db whole past of stands clean sound so.
+    let before = held g.D.DeskStore.kept g.S.SiteStore.kept c.args.machines.now in
+    let after = held g.D.DeskStore.kept g.S.SiteStore.kept c.restart.new.self in
+    let entries = c.args.log.now.items in
+    let kept = c.in-DeskRestarts.kept in
+    let what = event.DeskRestarts kept in
+    subst (λ (what : events.Event). IfOk c.by_desk-in-DeskRestarts.result (λ out. ListStepsOn db whole before after entries (entries ++ entry_of what out ∷ []) past × StandsIn db c.restart.new.self.desk)) (sym c.in-DeskRestarts.is)
+    (by_desk_ok (λ out. ListStepsOn db whole before after entries (entries ++ entry_of what out ∷ []) past × StandsIn db c.restart.new.self.desk) c.restart.result c.by_desk-in-DeskRestarts.result c.by_desk-in-DeskRestarts.ensures
+    (if_ok_too c.restart.result (λ out kept_so leads. (list_restarts_on db whole before after entries past what out desk_restarts (Desk_restarts true) so leads.0 refl (ap Desk_restarts (sym kept_so)) refl refl refl (desk_restarts_silent (world_of db before [] []) refl), leads.1))
+    c.restart.ensures.called (c.restart.ensures.lists db of stands clean sound so.fit)))
+
+pub returns-in-Deliver-clause-lists : goal.returns-in-Deliver-clause-lists
+returns-in-Deliver-clause-lists g c = λ db whole past of stands clean sound so.
+    let before = held g.D.DeskStore.kept g.S.SiteStore.kept c.args.machines.now in
+    let after = held g.D.DeskStore.kept g.S.SiteStore.kept c.deliver.new.machines in
+    let entries = c.args.log.now.items in
+    subst (λ (what : events.Event). IfOk c.deliver.result (λ out. ListStepsOn db whole before after entries (entries ++ entry_of what out ∷ []) past × StandsIn db c.deliver.new.machines.desk)) (sym c.in-Deliver.is) (c.deliver.ensures.lists db whole past of stands clean sound so)
+
+pub returns-in-Call-clause-stays : goal.returns-in-Call-clause-stays
+returns-in-Call-clause-stays g c = by_desk_stays (StaysInForce c.args.machines.now c.call.new.machines) c.call.result c.by_desk.result c.by_desk.ensures c.call.ensures.stays
+
+pub returns-in-DeskRestarts-clause-stays : goal.returns-in-DeskRestarts-clause-stays
+returns-in-DeskRestarts-clause-stays g c = by_desk_stays (StaysInForce c.args.machines.now c.restart.new.self) c.restart.result c.by_desk-in-DeskRestarts.result c.by_desk-in-DeskRestarts.ensures c.restart.ensures.stays
+
+pub returns-in_ok-copy-in-SiteGivesUp-clause-lists : goal.returns-in_ok-copy-in-SiteGivesUp-clause-lists
+returns-in_ok-copy-in-SiteGivesUp-clause-lists g c = λ db whole past of stands clean sound so.
+    let before = held g.D.DeskStore.kept g.S.SiteStore.kept c.args.machines.now in
+    let after = held g.D.DeskStore.kept g.S.SiteStore.kept c.apply_event_at.new.machines in
+    let entries = c.args.log.now.items in
+    subst (λ (what : events.Event). IfOk c.apply_event_at.result (λ out. ListStepsOn db whole before after entries (entries ++ entry_of what out ∷ []) past × StandsIn db c.apply_event_at.new.machines.desk)) (sym c.in-SiteGivesUp.is)
+    (c.apply_event_at.ensures.lists db whole entries (event.SiteGivesUp c.in-SiteGivesUp.site c.in-SiteGivesUp.ticket) past of stands clean sound (ap (λ (site : List ℕ). event.SiteGivesUp site c.in-SiteGivesUp.ticket) (sym c.in_ok-copy-in-SiteGivesUp.ensures)) so)
+
+pub returns-in_ok-copy-in-SiteGivesUp-clause-stays : goal.returns-in_ok-copy-in-SiteGivesUp-clause-stays
+returns-in_ok-copy-in-SiteGivesUp-clause-stays g c = on_any_err c.apply_event_at.result (desk_stays c.args.machines.now c.apply_event_at.new.machines c.apply_event_at.ensures.desk)
+
+pub returns-in_err-copy-in-SiteGivesUp-clause-stays : goal.returns-in_err-copy-in-SiteGivesUp-clause-stays
+returns-in_err-copy-in-SiteGivesUp-clause-stays g c = desk_stays c.args.machines.now c.args.machines.now refl
+
+pub returns-in_ok-copy-in-SiteInquires-clause-lists : goal.returns-in_ok-copy-in-SiteInquires-clause-lists
+returns-in_ok-copy-in-SiteInquires-clause-lists g c = λ db whole past of stands clean sound so.
+    let before = held g.D.DeskStore.kept g.S.SiteStore.kept c.args.machines.now in
+    let after = held g.D.DeskStore.kept g.S.SiteStore.kept c.apply_event_at-in-SiteInquires.new.machines in
+    let entries = c.args.log.now.items in
+    subst (λ (what : events.Event). IfOk c.apply_event_at-in-SiteInquires.result (λ out. ListStepsOn db whole before after entries (entries ++ entry_of what out ∷ []) past × StandsIn db c.apply_event_at-in-SiteInquires.new.machines.desk)) (sym c.in-SiteInquires.is)
+    (c.apply_event_at-in-SiteInquires.ensures.lists db whole entries (event.SiteInquires c.in-SiteInquires.site) past of stands clean sound (ap (λ (site : List ℕ). event.SiteInquires site) (sym c.in_ok-copy-in-SiteInquires.ensures)) so)
+
+pub returns-in_ok-copy-in-SiteInquires-clause-stays : goal.returns-in_ok-copy-in-SiteInquires-clause-stays
+returns-in_ok-copy-in-SiteInquires-clause-stays g c = on_any_err c.apply_event_at-in-SiteInquires.result (desk_stays c.args.machines.now c.apply_event_at-in-SiteInquires.new.machines c.apply_event_at-in-SiteInquires.ensures.desk)
+
+pub returns-in_err-copy-in-SiteInquires-clause-stays : goal.returns-in_err-copy-in-SiteInquires-clause-stays
+returns-in_err-copy-in-SiteInquires-clause-stays g c = desk_stays c.args.machines.now c.args.machines.now refl
+
+pub returns-in_ok-copy-in-SiteRestarts-clause-lists : goal.returns-in_ok-copy-in-SiteRestarts-clause-lists
+returns-in_ok-copy-in-SiteRestarts-clause-lists g c = λ db whole past of stands clean sound so.
+    let before = held g.D.DeskStore.kept g.S.SiteStore.kept c.args.machines.now in
+    let after = held g.D.DeskStore.kept g.S.SiteStore.kept c.apply_event_at-in-SiteRestarts.new.machines in
+    let entries = c.args.log.now.items in
+    subst (λ (what : events.Event). IfOk c.apply_event_at-in-SiteRestarts.result (λ out. ListStepsOn db whole before after entries (entries ++ entry_of what out ∷ []) past × StandsIn db c.apply_event_at-in-SiteRestarts.new.machines.desk)) (sym c.in-SiteRestarts.is)
+    (c.apply_event_at-in-SiteRestarts.ensures.lists db whole entries (event.SiteRestarts c.in-SiteRestarts.site c.in-SiteRestarts.kept) past of stands clean sound (ap (λ (site : List ℕ). event.SiteRestarts site c.in-SiteRestarts.kept) (sym c.in_ok-copy-in-SiteRestarts.ensures)) so)
+
+pub returns-in_ok-copy-in-SiteRestarts-clause-stays : goal.returns-in_ok-copy-in-SiteRestarts-clause-stays
+returns-in_ok-copy-in-SiteRestarts-clause-stays g c = on_any_err c.apply_event_at-in-SiteRestarts.result (desk_stays c.args.machines.now c.apply_event_at-in-SiteRestarts.new.machines c.apply_event_at-in-SiteRestarts.ensures.desk)
+
+pub returns-in_err-copy-in-SiteRestarts-clause-stays : goal.returns-in_err-copy-in-SiteRestarts-clause-stays
+returns-in_err-copy-in-SiteRestarts-clause-stays g c = desk_stays c.args.machines.now c.args.machines.now refl

@@ -15,6 +15,9 @@ use Rattle.world.proofs.SiteSteps.{if_ok}
 use Rattle.world.proofs.Refusals.{letter_refused, unsent_refused}
 use Rattle.world.proofs.Refusing.{if_err}
 use Rattle.world.proofs.Running.{comes_on, spared_on}
+use Rattle.world.proofs.ListRunning.{list_comes_on}
+use Rattle.world.proofs.Listing.{desk_stays}
+use Rattle.std.proofs.Common.{refl}
 use Rattle.world.proofs.machines.deliver.Goals as goal
 
 pub returns-clause-ok : goal.returns-clause-ok
@@ -102,3 +105,24 @@ returns-then-not-has_site-clause-refused g c = λ db of is fit.
     let none : is_unsent old.desk.catalog.0 c.args.log.now.items (event.Deliver c.args.number c.args.kept) ≡ true = ap (is_none_of old.desk.catalog.0) there ∙ ap not nowhere in
     unsent_refused (OfStores D.is_clean S.is_clean old × OfStores D.is_sound S.is_sound old) db (counted D.kept S.kept D.refused S.refused old) (counted D.kept S.kept D.refused S.refused old) c.args.log.now.items old.desk.catalog.0 (event.Deliver c.args.number c.args.kept)
     (of.sites _ ∙ ap (λ (x : Catalogue). x.sites) is) none
+
+pub returns-clause-lists : goal.returns-clause-lists
+returns-clause-lists g c = λ db whole past of stands clean sound so.
+    let before = held g.D.DeskStore.kept g.S.SiteStore.kept c.args.machines.now in
+    let after = held g.D.DeskStore.kept g.S.SiteStore.kept c.deliver.new.self in
+    let letter = c.in_ok-again.again in
+    let same = c.in_ok-again.ensures in
+    let there = sym c.letter.ensures ∙ ap option_copied c.in-Some.is ∙ ap Some (sym same) in
+    let named : List (List ℕ) → Type 0 = λ sites. list_any (λ site. pointwise nat_eq site letter.site) sites ≡ true in
+    let there_too = sym c.has_site.ensures ∙ c.if-not-has_site.false in
+    let of_site = subst named (sym (of.sites _ ∙ ap (λ (x : Catalogue). x.sites) stands.here)) (subst (λ l. list_any (λ site. pointwise nat_eq site l.site) c.args.machines.now.desk.catalog.0 ≡ true) (sym same) (subst (λ x. list_any (λ site. pointwise nat_eq site c.in-Some.letter.now.site) x.0 ≡ true) c.catalog.ensures there_too)) in
+    if_ok c.deliver.result (λ out came. (list_comes_on db whole before after c.args.log.now.items past out c.args.number letter c.args.kept so there came.0, came.1)) (c.deliver.ensures.lists db of stands clean sound so.fit of_site)
+
+pub returns-in_default-clause-stays : goal.returns-in_default-clause-stays
+returns-in_default-clause-stays g c = desk_stays c.args.machines.now c.args.machines.now refl
+
+pub returns-then-not-has_site-clause-stays : goal.returns-then-not-has_site-clause-stays
+returns-then-not-has_site-clause-stays g c = desk_stays c.args.machines.now c.args.machines.now refl
+
+pub returns-in_err-again-clause-stays : goal.returns-in_err-again-clause-stays
+returns-in_err-again-clause-stays g c = desk_stays c.args.machines.now c.args.machines.now refl

@@ -33,3 +33,9 @@ returns-in-Err-clause-err c =
     ap (λ (r : Refusal). is_memory (Desk r))
     (desk_refusal_is_memory there.0.sites (desk_kept c.new.result) (desk_kept c.in-Err.unstarted.store) c.in-Err.unstarted.refusal c.new.ensures.commits c.new.ensures.life same start.refusal (start.full tt)
     (λ is. start.damaged there.0 there.1.0 tt tt is there.1.1) (λ is. let none = sym there.1.1 ∙ start.chain tt tt is in cc) start.own)
+
+pub returns-in-Ok-clause-version : goal.returns-in-Ok-clause-version
+returns-in-Ok-clause-version c =
+    let desk = c.in-Ok.desk in
+    let rises = c.in-Ok.ensures.ok (database (catalogue_of desk.catalog)) (record { sites = refl; distinct = c.relations.ensures.formed.distinct }) tt in
+    rises.fits.version ∙ (c.in-Ok.ensures.life tt).version ∙ c.new.ensures.version

@@ -1,11 +1,21 @@
 -- Why `start_on` meets its contract.
-use Rattle.std.proofs.Common.{sym, ap, ◌∙◌, subst, length, List, ℕ}
+use Rattle.std.proofs.Common.{refl, sym, ap, ◌∙◌, subst, length, List, [], ℕ}
 use Rattle.catalog.specs.Relation.{catalogue_of}
 use Rattle.reader.specs.Printable.{AreDistinct}
 use Rattle.world.specs.Contents.{held}
 use Rattle.world.proofs.ComingUp.{all_sound}
 use Rattle.world.proofs.NewStores.{all_started, as_many, given_clean}
 use Rattle.world.proofs.Openings.{opens_of}
+use Rattle.std.proofs.Common.{◌≡◌, ◌∷◌, map}
+use Rattle.std.specs.List.{AllByRecursion}
+use Rattle.catalog.specs.Catalogue.{Catalogue}
+use Rattle.catalog.specs.Chain.{Follow, IsChain}
+use Rattle.catalog.specs.Formed.{IsFormed}
+use Rattle.desk.specs.CatalogueDatabase.{databases}
+use Rattle.desk.specs.OfCatalogue.{from_number}
+use Rattle.world.specs.Start.{AreNew}
+use Rattle.world.proofs.ListIsBase.{head_is, list_started}
+use Rattle.world.proofs.ListIsLawful.{each_formed, formed_all}
 use Rattle.world.proofs.start.start_on.Goals as goal
 
 pub sites_up-requires : goal.sites_up-requires
@@ -38,3 +48,22 @@ returns-clause-sound g c = λ clean.
     let up = c.in_ok-desk.ensures.up in
     let catalogue = catalogue_of c.in_ok-desk.desk.catalog in
     (up.leaves_store.sound clean.0 (up.learnt clean.0), all_sound S.is_clean S.is_sound S.kept S.refused catalogue catalogue.sites c.in_ok-filled.filled.items c.in_ok-sites.sites.items c.in_ok-sites.ensures.up clean.1)
+
+pub returns-clause-lists : goal.returns-clause-lists
+returns-clause-lists g c = λ first rest same fits one clean new.
+    let D = g.D.DeskStore in
+    let S = g.S.SiteStore in
+    let desk = c.in_ok-desk.desk in
+    let up = c.in_ok-desk.ensures.up in
+    let here = catalogue_of desk.catalog in
+    let machines = held D.kept S.kept (record { alloc = c.args.alloc; desk = desk; sites = c.in_ok-sites.sites; traffic = c.none.result }) in
+    let follow : Follow first rest = subst IsChain same c.as_slice.ensures.chain in
+    let formed : AllByRecursion IsFormed (first ∷ rest) = subst (AllByRecursion IsFormed) same (each_formed c.args.chain.now (subst (AllByRecursion (λ catalog. IsFormed (catalogue_of catalog))) c.as_slice.ensures.catalogs c.are_formed.ensures.formed)) in
+    let own = up.rises (databases here []) (record { sites = refl; distinct = c.relations-relations.ensures.formed.distinct }) clean.0 in
+    let version : desk.volatile.version ≡ 1 = own.fits.version ∙ (up.life clean.0).version ∙ one in
+    let stands : here ∷ map catalogue_of desk.later.items ≡ first ∷ rest = c.in_ok-desk.ensures.catalogs ∙ ap (λ cs. from_number desk.volatile.version cs) same ∙ ap (λ n. from_number n (first ∷ rest)) version in
+    let is = head_is here first (map catalogue_of desk.later.items) rest stands in
+    let fresh = subst (λ x. AreNew D.is_sound D.kept S.is_sound S.kept x c.args.desk c.args.sites.items) (sym is) new in
+    list_started first rest follow (formed_all first rest formed.0 formed.1) c.args.whole.now machines desk version version stands fits
+    (all_started S.is_clean S.is_sound S.kept S.refused here c.args.whole.now 0 here.sites c.args.sites.items c.in_ok-filled.filled.items c.in_ok-sites.sites.items c.in_ok-filled.ensures.fills c.in_ok-sites.ensures.up clean.1 fresh.sound.1 fresh.keep.leaves fresh.keep.sites)
+    (up.rises (databases first rest) (record { sites = ap (λ (x : Catalogue). x.sites) (sym is); distinct = formed.0.distinct }) clean.0) (λ txn. (up.life clean.0).commits txn ∙ fresh.keep.commits txn)

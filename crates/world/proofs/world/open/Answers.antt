@@ -10,6 +10,8 @@ use Rattle.world.specs.Contents.{held}
 use Rattle.world.specs.Runs.{IsRun}
 use Rattle.world.proofs.DatabaseIsOpened.{opens_run}
 use Rattle.world.proofs.OfChain.{last_of}
+use Rattle.desk.specs.CatalogueDatabase.{databases}
+use Rattle.world.proofs.ListIsBase.{list_run}
 use Rattle.world.proofs.world.open.Goals as goal
 
 pub returns-clause-ok : goal.returns-clause-ok
@@ -21,3 +23,8 @@ returns-clause-ok c = λ catalogue fitting last.
 
 pub returns-clause-single : goal.returns-clause-single
 returns-clause-single c = λ catalogue alone. last_of 1 catalogue _ c.in_ok-machines.machines.desk alone c.in_ok-machines.ensures.catalogs
+
+pub returns-clause-lists : goal.returns-clause-lists
+returns-clause-lists c = λ first rest same fits.
+    let opened = c.in_ok-machines.ensures.lists first rest same fits in
+    (list_run (databases first rest) c.args.whole.now (held desk_kept kept_of c.in_ok-machines.machines) opened.0, opened.1)

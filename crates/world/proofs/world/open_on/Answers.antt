@@ -9,6 +9,8 @@ use Rattle.world.specs.Runs.{IsRun}
 use Rattle.world.specs.Start.{AreNew}
 use Rattle.world.proofs.DatabaseIsOpened.{opens_run}
 use Rattle.world.proofs.OfChain.{last_of}
+use Rattle.desk.specs.CatalogueDatabase.{databases}
+use Rattle.world.proofs.ListIsBase.{list_run}
 use Rattle.world.proofs.world.open_on.Goals as goal
 
 pub returns-clause-ok : goal.returns-clause-ok
@@ -22,3 +24,8 @@ returns-clause-ok g c = λ catalogue last clean.
 
 pub returns-clause-single : goal.returns-clause-single
 returns-clause-single g c = λ catalogue alone. last_of c.in_ok-machines.machines.desk.volatile.version catalogue _ c.in_ok-machines.machines.desk alone c.in_ok-machines.ensures.catalogs
+
+pub returns-clause-lists : goal.returns-clause-lists
+returns-clause-lists g c = λ first rest same fits one clean new.
+    let opened = c.in_ok-machines.ensures.lists first rest same fits one clean new in
+    (list_run (databases first rest) c.args.whole.now (held g.D.DeskStore.kept g.S.SiteStore.kept c.in_ok-machines.machines) opened.0, opened.1)

@@ -17,6 +17,7 @@ use Rattle.world.specs.Counted.{HaveRefused, counts_of}
 use Rattle.world.specs.Taking.{stop_of}
 use Rattle.world.proofs.Refusals.{places_so}
 use Rattle.world.proofs.Stops.{later_stops}
+use Rattle.world.proofs.Machinery.{list_put_out, list_within}
 use Rattle.world.proofs.machines.Machines.at_site.Goals as goal
 
 pub returns-in-Ok-clause-ok : goal.returns-in-Ok-clause-ok
@@ -80,3 +81,20 @@ returns-in-Err-clause-fails g c = λ seat there.
     let new = c.act_among.new.sites.items in
     places_so {T = List ℕ} (Err c.in-Err.fault) (AllByRecursion (λ site. S.is_clean site.store) new × AllByRecursion (λ site. S.is_sound site.store) old) (HaveRefused (counts_of S.refused old) (counts_of S.refused new)) _ _
     (λ so. (so.0.1, so.1.1)) (λ more. inr more) c.args.what c.args.kept seat (c.in-Err.ensures.fails seat there)
+
+pub returns-in-Ok-clause-lists : goal.returns-in-Ok-clause-lists
+returns-in-Ok-clause-lists g c = λ db choice seat clean sound fit there.
+    let content = g.S.SiteStore.kept in
+    let out = c.put_out in
+    list_put_out db (held g.D.DeskStore.kept content c.args.self.now) seat (seats_in content c.act_among.new.sites.items) c.in-Ok.letters.items fit c.args.what choice c.requires (c.in-Ok.ensures.ok seat clean.1 sound.1 fit.sites there)
+    out.result.kept out.result.letters out.result.replies out.ensures.kept out.ensures.letters out.ensures.replies
+
+pub returns-in-Ok-clause-passes : goal.returns-in-Ok-clause-passes
+returns-in-Ok-clause-passes g c = λ db choice seat letter clean sound fit is there.
+    let content = g.S.SiteStore.kept in
+    let before = held g.D.DeskStore.kept content c.args.self.now in
+    let after = seats_in content c.act_among.new.sites.items in
+    let out = c.put_out in
+    let found : seat_of (place_of c.args.what) before.seats ≡ Some seat = ap (λ what. seat_of (place_of what) before.seats) is ∙ there in
+    let did = subst (λ what. SomeSeatDoes what seat before.seats after c.in-Ok.letters.items) is (c.in-Ok.ensures.ok seat clean.1 sound.1 fit.sites found) in
+    list_within db before seat after c.in-Ok.letters.items fit letter choice (sym (ap is_for_site is) ∙ c.requires) did out.result.kept out.ensures.kept

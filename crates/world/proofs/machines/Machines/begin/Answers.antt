@@ -10,6 +10,9 @@ use Rattle.protocol.specs.Desk.{is_desk_within}
 use Rattle.world.proofs.Refusing.{if_err}
 use Rattle.world.proofs.Stops.{begin_stops}
 use Rattle.world.proofs.InForce.{begin_refused}
+use Rattle.world.proofs.Listing.{list_begin, may_begin_where, stands_by_store}
+use Rattle.world.proofs.Running.{over_of}
+use Rattle.world.proofs.SiteSteps.{if_ok_too}
 use Rattle.world.proofs.machines.Machines.begin.Goals as goal
 
 pub returns-clause-ok : goal.returns-clause-ok
@@ -37,3 +40,14 @@ returns-clause-leaves g c = record {
   catalog = search rules;
   later = search rules;
 }
+
+pub returns-clause-lists : goal.returns-clause-lists
+returns-clause-lists g c = λ db of stands fit.
+    let before = held g.D.DeskStore.kept g.S.SiteStore.kept c.args.self.now in
+    let old = c.args.self.now.desk in
+    let new = c.begin.new.self in
+    let plainly = c.begin.ensures.plainly in
+    if_ok_too c.begin.result (λ out free begun. (
+      record { leads = list_begin db before (g.D.DeskStore.kept new.store) (volatile_of new.volatile) new.later.items plainly.later out.letters out.replies fit begun; may = may_begin_where db before free; within = ap is_desk_within (sym begun.state) ∙ begun.within },
+      stands_by_store db g.D.DeskStore.kept old new plainly.store plainly.catalog plainly.later fit.desk begun.fits stands,
+    )) c.begin.ensures.accepted (c.begin.ensures.ok db (over_of db _ old.catalog of stands.here) fit.desk)

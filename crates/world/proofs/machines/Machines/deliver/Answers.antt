@@ -13,6 +13,10 @@ use Rattle.world.proofs.Seating.{seat_there}
 use Rattle.world.proofs.Spared.{order_spared, reply_spared}
 use Rattle.world.specs.Stopping.{StopsFor}
 use Rattle.world.proofs.Stops.{desk_stops}
+use Rattle.world.proofs.Listing.{desk_stays, stands_same}
+use Rattle.world.specs.Listed.{ListCame, StandsIn}
+use Rattle.world.specs.Frame.{StaysInForce}
+use Rattle.std.proofs.Common.{OnErr}
 use Rattle.world.proofs.machines.Machines.deliver.Goals as goal
 
 -- an order evaluates nothing, so any answer will do
@@ -80,3 +84,31 @@ returns-then-not-is_order-clause-blames g c = λ made clean sound.
       | in-Ok w ↦ subst (λ result. IfErr result (λ told. IfSome (stop_of told) (StopsFor (counts g.D.DeskStore.refused g.S.SiteStore.refused c.args.self.now) (counts g.D.DeskStore.refused g.S.SiteStore.refused c.reply.new.self)))) (sym w.result-is) tt
       | in-Err w ↦ subst (λ result. IfErr result (λ told. IfSome (stop_of told) (StopsFor (counts g.D.DeskStore.refused g.S.SiteStore.refused c.args.self.now) (counts g.D.DeskStore.refused g.S.SiteStore.refused c.reply.new.self)))) (sym w.result-is) (desk_stops (counts g.D.DeskStore.refused g.S.SiteStore.refused c.args.self.now) (counts g.D.DeskStore.refused g.S.SiteStore.refused c.reply.new.self) w.in-Err.refusal w.in-Err.ensures.own)
     ]
+
+pub returns-in-Ok-at_site-clause-lists : goal.returns-in-Ok-at_site-clause-lists
+returns-in-Ok-at_site-clause-lists g c = λ db of stands clean sound fit of_site.
+    let name = c.args.letter.site in
+    let seat = seat_there name (held g.D.DeskStore.kept g.S.SiteStore.kept c.args.self.now).seats (subst (λ names. list_any (λ site. pointwise nat_eq site name) names ≡ true) (sym fit.names) of_site) in (
+      record { choice = (Exists, []); within = c.in-Ok-at_site.ensures.passes db (Exists, []) seat.0 c.args.letter clean sound fit refl seat.1; leads = c.in-Ok-at_site.ensures.lists db (Exists, []) seat.0 clean sound fit seat.1 },
+      stands_same db c.args.self.now.desk c.at_site.new.self.desk c.at_site.ensures.desk stands,
+    )
+
+pub returns-then-not-is_order-clause-lists : goal.returns-then-not-is_order-clause-lists
+returns-then-not-is_order-clause-lists g c = λ db of stands clean sound fit of_site.
+    let before = held g.D.DeskStore.kept g.S.SiteStore.kept c.args.self.now in
+    let after = held g.D.DeskStore.kept g.S.SiteStore.kept c.reply.new.self in
+    let no_order = sym c.is_order.ensures ∙ c.if-not-is_order.true in
+    elim c.match-reply.branch [
+      | in-Ok w ↦ subst (λ result. IfOk result (λ out. ListCame db c.args.letter out.kept before after out.letters out.replies × StandsIn db c.reply.new.self.desk)) (sym w.result-is) (w.in-Ok.ensures.lists db of stands clean sound fit no_order of_site)
+      | in-Err w ↦ subst (λ result. IfOk result (λ out. ListCame db c.args.letter out.kept before after out.letters out.replies × StandsIn db c.reply.new.self.desk)) (sym w.result-is) tt
+    ]
+
+pub returns-then-not-is_order-clause-stays : goal.returns-then-not-is_order-clause-stays
+returns-then-not-is_order-clause-stays g c =
+    elim c.match-reply.branch [
+      | in-Ok w ↦ subst (λ result. OnErr result (StaysInForce c.args.self.now c.reply.new.self)) (sym w.result-is) tt
+      | in-Err w ↦ subst (λ result. OnErr result (StaysInForce c.args.self.now c.reply.new.self)) (sym w.result-is) w.in-Err.ensures.stays
+    ]
+
+pub returns-in-Err-at_site-clause-stays : goal.returns-in-Err-at_site-clause-stays
+returns-in-Err-at_site-clause-stays g c = desk_stays c.args.self.now c.at_site.new.self c.at_site.ensures.desk

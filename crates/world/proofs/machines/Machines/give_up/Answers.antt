@@ -10,6 +10,9 @@ use Rattle.world.specs.Contents.{held}
 use Rattle.world.proofs.Ends.{give_up_accepted, give_up_explained}
 use Rattle.world.proofs.Machinery.{asked_leads}
 use Rattle.world.proofs.SiteSteps.{if_ok}
+use Rattle.world.proofs.Listing.{list_asked, stands_by_store}
+use Rattle.world.proofs.Running.{over_of}
+use Rattle.std.proofs.Common.{refl}
 use Rattle.world.proofs.machines.Machines.give_up.Goals as goal
 
 pub returns-clause-ok : goal.returns-clause-ok
@@ -29,3 +32,15 @@ returns-clause-leaves g c = record {
   catalog = search rules;
   later = search rules;
 }
+
+pub returns-clause-lists : goal.returns-clause-lists
+returns-clause-lists g c = λ db choice of stands fit.
+    let before = held g.D.DeskStore.kept g.S.SiteStore.kept c.args.self.now in
+    let old = c.args.self.now.desk in
+    let new = c.give_up.new.self in
+    let plainly = c.give_up.ensures.plainly in
+    let txn = txn_in db before.table c.args.txn in
+    if_ok c.give_up.result (λ out steps. (
+      list_asked db before (g.D.DeskStore.kept new.store) (volatile_of new.volatile) new.later.items plainly.later c.args.txn choice Give_up out.letters out.replies fit steps tt (give_up_explained (txn_name c.args.txn) choice txn) refl (give_up_accepted txn),
+      stands_by_store db g.D.DeskStore.kept old new plainly.store plainly.catalog plainly.later fit.desk steps.fits stands,
+    )) (c.give_up.ensures.ok db choice (over_of db _ old.catalog of stands.here) fit.desk)

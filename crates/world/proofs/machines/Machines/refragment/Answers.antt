@@ -1,5 +1,5 @@
 -- Why `refragment` meets its contract.
-use Rattle.std.proofs.Common.{◌∷◌, rules, ap}
+use Rattle.std.proofs.Common.{◌∷◌, ◌∙◌, rules, sym, ap}
 use Rattle.catalog.specs.FragmentLeaf.{schemas_of}
 use Rattle.catalog.specs.Relation.{catalogue_of}
 use Rattle.desk.specs.State.{volatile_of}
@@ -7,6 +7,9 @@ use Rattle.world.specs.Counted.{counts, counts_of}
 use Rattle.world.proofs.Counting.{none_fewer}
 use Rattle.world.proofs.Refusing.{if_err, refragment_refused}
 use Rattle.world.proofs.Stops.{refragment_stops}
+use Rattle.world.proofs.Listing.{first_next, list_moved, stands_by_store}
+use Rattle.world.proofs.SiteSteps.{if_ok_too}
+use Rattle.world.specs.Contents.{held}
 use Rattle.world.proofs.machines.Machines.refragment.Goals as goal
 
 pub returns-clause-told : goal.returns-clause-told
@@ -27,3 +30,14 @@ returns-clause-leaves g c = record {
   catalog = search rules;
   later = search rules;
 }
+
+pub returns-clause-lists : goal.returns-clause-lists
+returns-clause-lists g c = λ db of stands fit.
+    let before = held g.D.DeskStore.kept g.S.SiteStore.kept c.args.self.now in
+    let old = c.args.self.now.desk in
+    let new = c.refragment.new.self in
+    let asked = c.refragment.ensures.refragments in
+    if_ok_too c.refragment.result (λ out some by. (
+      list_moved db before (g.D.DeskStore.kept new.store) (volatile_of new.volatile) new.later.items (λ none. some (sym asked.plainly.later ∙ none)) c.args.text.now out.letters out.replies fit by,
+      stands_by_store db g.D.DeskStore.kept old new asked.plainly.store asked.plainly.catalog asked.plainly.later fit.desk by.does.fits stands,
+    )) asked.next (asked.ok db of stands.here (first_next db old.volatile.version old.later.items stands.next) fit.desk)

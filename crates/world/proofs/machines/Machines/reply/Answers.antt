@@ -8,6 +8,9 @@ use Rattle.world.proofs.Machinery.{reply_leads, reply_of}
 use Rattle.world.proofs.OneCatalogue.{no_next, single_stays}
 use Rattle.world.proofs.SiteSteps.{if_ok}
 use Rattle.world.proofs.Reasoned.{desk_tells}
+use Rattle.world.proofs.Listing.{first_next, list_reply, list_stands}
+use Rattle.world.specs.Frame.{StaysInForce}
+use Rattle.world.proofs.Listing.{stays_where}
 use Rattle.world.proofs.machines.Machines.reply.Goals as goal
 
 pub returns-clause-ok : goal.returns-clause-ok
@@ -42,3 +45,19 @@ returns-clause-leaves g c =
 
 pub returns-clause-refusal : goal.returns-clause-refusal
 returns-clause-refusal g c = if_ok c.take_kept.result (λ out refuses none. ⊎_elim (λ unmade. inl unmade) (λ refused. inr (inl refused)) (refuses none)) c.take_kept.ensures.takes.takes.store.refusal
+
+pub returns-clause-lists : goal.returns-clause-lists
+returns-clause-lists g c = λ db of stands clean sound fit no_order of_site.
+    let before = held g.D.DeskStore.kept g.S.SiteStore.kept c.args.self.now in
+    let old = c.args.self.now.desk in
+    let new = c.take_kept.new.self in
+    let said = reply_of c.args.letter.now.body no_order in
+    let stood = c.take_kept.ensures.takes.catalogs in
+    if_ok c.take_kept.result (λ out takes.
+    let those = list_stands db before (g.D.DeskStore.kept new.store) (volatile_of new.volatile) old.catalog new.catalog new.later.items c.args.letter.now said.0 said.1 out.kept out.letters out.replies fit takes stood stands.here stands.next in (
+      list_reply db before (g.D.DeskStore.kept new.store) (volatile_of new.volatile) old.catalog new.catalog new.later.items c.args.letter.now said.0 said.1 out.kept out.letters out.replies fit takes stood,
+      record { here = those.0; next = those.1 },
+    )) (c.take_kept.ensures.takes.takes.ok db said.0 of stands.here (first_next db old.volatile.version old.later.items stands.next) clean.0 sound.0 fit.desk said.1 of_site)
+
+pub returns-clause-stays : goal.returns-clause-stays
+returns-clause-stays g c = stays_where c.take_kept.result c.args.self.now c.take_kept.new.self c.take_kept.ensures.takes.takes.err c.take_kept.ensures.takes.catalogs

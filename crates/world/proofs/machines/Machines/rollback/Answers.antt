@@ -14,6 +14,9 @@ use Rattle.catalog.specs.Relation.{catalogue_of}
 use Rattle.desk.specs.CatalogueDatabase.{database}
 use Rattle.world.proofs.Refusing.{if_err}
 use Rattle.world.proofs.Stops.{refused_stops}
+use Rattle.world.proofs.Listing.{list_asked, stands_by_store}
+use Rattle.world.proofs.Running.{over_of}
+use Rattle.std.proofs.Common.{refl}
 use Rattle.world.proofs.machines.Machines.rollback.Goals as goal
 
 pub returns-clause-ok : goal.returns-clause-ok
@@ -36,3 +39,15 @@ returns-clause-leaves g c = record {
   catalog = search rules;
   later = search rules;
 }
+
+pub returns-clause-lists : goal.returns-clause-lists
+returns-clause-lists g c = λ db choice of stands fit.
+    let before = held g.D.DeskStore.kept g.S.SiteStore.kept c.args.self.now in
+    let old = c.args.self.now.desk in
+    let new = c.rollback.new.self in
+    let plainly = c.rollback.ensures.plainly in
+    let txn = txn_in db before.table c.args.txn in
+    if_ok_too c.rollback.result (λ out accepted steps. (
+      list_asked db before (g.D.DeskStore.kept new.store) (volatile_of new.volatile) new.later.items plainly.later c.args.txn choice Rollback out.letters out.replies fit steps tt (rollback_explained (txn_name c.args.txn) choice txn) refl accepted,
+      stands_by_store db g.D.DeskStore.kept old new plainly.store plainly.catalog plainly.later fit.desk steps.fits stands,
+    )) (c.rollback.ensures.accepted db) (c.rollback.ensures.ok db choice (over_of db _ old.catalog of stands.here) fit.desk)

@@ -14,6 +14,8 @@ use Rattle.world.specs.Counted.{counts, counts_of}
 use Rattle.catalog.specs.Relation.{catalogue_of}
 use Rattle.desk.specs.CatalogueDatabase.{database}
 use Rattle.world.proofs.Stops.{statement_stops}
+use Rattle.world.proofs.Listing.{list_asked, may_state, stands_by_store}
+use Rattle.world.proofs.SiteSteps.{if_ok_too}
 use Rattle.world.proofs.machines.Machines.statement.Goals as goal
 
 pub returns-clause-ok : goal.returns-clause-ok
@@ -44,3 +46,23 @@ returns-clause-leaves g c = record {
   catalog = search rules;
   later = search rules;
 }
+
+pub returns-clause-lists : goal.returns-clause-lists
+returns-clause-lists g c = λ db of stands fit.
+    let before = held g.D.DeskStore.kept g.S.SiteStore.kept c.args.self.now in
+    let old = c.args.self.now.desk in
+    let new = c.statement.new.self in
+    let states = c.statement.ensures.states in
+    let txn = txn_in db before.table c.args.txn in
+    if_ok_too c.statement.result (λ out still so. so still) states.still
+    (if_ok_all c.statement.result (λ (s : Statement). refusal (State (before.table.version, s)) txn ≡ None) (λ out accepted stated still. (
+      record {
+        statement = stated.statement;
+        choice = stated.runs.choice;
+        spelled = stated.spelled;
+        fits = record { of_schemas = stated.fits; stays = stated.runs.ordinary };
+        asked = list_asked db before (g.D.DeskStore.kept new.store) (volatile_of new.volatile) new.later.items states.plainly.later c.args.txn stated.runs.choice (State (before.table.version, stated.statement)) out.letters out.replies fit stated.runs.steps stated.runs.placed stated.runs.explained
+            (may_state db before c.args.txn stated.statement still stated.runs.ordinary) (accepted stated.statement);
+      },
+      stands_by_store db g.D.DeskStore.kept old new states.plainly.store states.plainly.catalog states.plainly.later fit.desk stated.runs.steps.fits stands,
+    )) (λ s. states.accepted db s) (c.statement.ensures.ok db of stands.here fit.desk))

@@ -11,6 +11,9 @@ use Rattle.world.specs.Counted.{HaveRefused, counts}
 use Rattle.world.specs.declared.event.Event.{Event}
 use Rattle.world.specs.Runs.{IsRun, RunsHold, Spares, entry_of}
 use Rattle.world.proofs.Running.{spares_pushed, step_pushed}
+use Rattle.world.specs.Runs.{IsListRun}
+use Rattle.world.proofs.ListIsBase.{list_holds}
+use Rattle.world.proofs.Listing.{desk_stays}
 use Rattle.world.proofs.world.World.happens.Goals as goal
 
 pub returns-in-Err-clause-refused : goal.returns-in-Err-clause-refused
@@ -59,3 +62,15 @@ returns-in-Ok-clause-spared g c = λ whole past clean sound run.
 
 pub returns-in_err-make_room-clause-leaves : goal.returns-in_err-make_room-clause-leaves
 returns-in_err-make_room-clause-leaves g c = database_still g.D.DeskStore.is_clean g.S.SiteStore.is_clean g.D.DeskStore.is_sound g.S.SiteStore.is_sound g.D.DeskStore.refused g.S.SiteStore.refused c.args.self.now.machines
+
+pub returns-in-Ok-clause-lists : goal.returns-in-Ok-clause-lists
+returns-in-Ok-clause-lists g c = λ db whole past listed stands clean sound run.
+    let before = held g.D.DeskStore.kept g.S.SiteStore.kept c.args.self.now.machines in
+    let after = held g.D.DeskStore.kept g.S.SiteStore.kept c.apply_event.new.machines in
+    let with_room = subst (λ (entries : List Entry). IsListRun db whole before entries past) (sym c.in_ok-make_room.ensures.items) run in
+    let did = c.in-Ok.ensures.lists db whole past listed.base.of_catalogue stands clean sound with_room in
+    let on = step_pushed db whole before after _ _ _ past (entry_of c.args.event c.in-Ok.out) c.in_ok-make_room.ensures.items c.push.ensures did.0 in
+    ((on, list_holds db listed whole after c.push.new.self.items (past ++ on.deeds) on.run_on), did.1)
+
+pub returns-in_err-make_room-clause-stays : goal.returns-in_err-make_room-clause-stays
+returns-in_err-make_room-clause-stays g c = desk_stays c.args.self.now.machines c.args.self.now.machines refl

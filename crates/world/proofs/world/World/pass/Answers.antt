@@ -10,6 +10,8 @@ use Rattle.world.specs.Contents.{OfStores, held}
 use Rattle.world.proofs.Counting.{with_counts}
 use Rattle.world.proofs.RunGoesOn.{passes_by, runs_same}
 use Rattle.world.proofs.Refusals.{refused_soundly}
+use Rattle.world.proofs.Listing.{desk_stays, stands_as}
+use Rattle.std.proofs.Common.{refl}
 use Rattle.world.proofs.world.World.pass.Goals as goal
 
 pub returns-in-Ok-clause-runs : goal.returns-in-Ok-clause-runs
@@ -45,3 +47,20 @@ returns-else-is_memory-clause-happens g c = λ whole past clean sound run.
 
 pub returns-in_err-again-clause-leaves : goal.returns-in_err-again-clause-leaves
 returns-in_err-again-clause-leaves g c = database_still g.D.DeskStore.is_clean g.S.SiteStore.is_clean g.D.DeskStore.is_sound g.S.SiteStore.is_sound g.D.DeskStore.refused g.S.SiteStore.refused c.args.self.now.machines
+
+pub returns-in-Ok-clause-lists : goal.returns-in-Ok-clause-lists
+returns-in-Ok-clause-lists g c = λ db whole past listed stands clean sound run.
+    let did = c.in-Ok.ensures.lists db whole past listed stands clean sound run in
+    (record { deeds = did.0.0.deeds; run_on = did.0.0.run_on }, did.1)
+
+pub returns-else-is_memory-clause-lists : goal.returns-else-is_memory-clause-lists
+returns-else-is_memory-clause-lists g c = λ db whole past listed stands clean sound run.
+    let before = held g.D.DeskStore.kept g.S.SiteStore.kept c.args.self.now.machines in
+    let after = held g.D.DeskStore.kept g.S.SiteStore.kept c.happens.new.self.machines in
+    let stays = c.in-Err.ensures.stays in (
+      runs_same db whole before after c.args.self.now.entries.items c.happens.new.self.entries.items past run (c.in-Err.ensures.err clean sound) c.in-Err.ensures.same,
+      stands_as db c.args.self.now.machines.desk c.happens.new.self.machines.desk stays.version stays.catalog stays.later stands,
+    )
+
+pub returns-in_err-again-clause-stays : goal.returns-in_err-again-clause-stays
+returns-in_err-again-clause-stays g c = desk_stays c.args.self.now.machines c.args.self.now.machines refl
