@@ -156,20 +156,20 @@ list_done_on db whole before after entries past (Restart site) at kept out choic
 
 -- ---- a relation gets another split
 -- the first turn of who moves: it states its statement, and is in no first phase
-moved_shows : (db : Database) (t : Name) (s : (language db).Statement) (choice : Choice (language db)) → (phases_of (on_state t (fresh_as true) s choice Idle).deeds ≡ []) × (stated_of (on_state t (fresh_as true) s choice Idle).deeds ≡ (t, s) ∷ [])
-moved_shows db t s choice = state_shows t s choice (Known (fresh_as true)) refl
+moved_shows : (db : Database) (t : Name) (s : (language db).Statement) (choice : Choice (language db)) → (phases_of (on_state {L = language db} t (fresh_as true) s choice Idle).deeds ≡ []) × (stated_of (on_state {L = language db} t (fresh_as true) s choice Idle).deeds ≡ (t, s) ∷ [])
+moved_shows db t s choice = state_shows {L = language db} t s choice (Known (fresh_as true)) refl
 
 pub list_moves_on : (db : Database) (whole : Relations) (before after : Machines) (entries : List Entry) (past : List (Deed (language db))) (out : Out) (text : List ℕ) → IsListRun db whole before entries past → ListMoved db text before after out.letters out.replies →
     ListStepsOn db whole before after entries (entries ++ entry_of (event.Call (call.Refragment text)) out ∷ []) past
 list_moves_on db whole before after entries past out text so moved =
     let w = world_of db before (map (sent db) (letters_in entries)) past in
-    let s = (before.table.version, kinds.Refragment moved.refragment) in
+    let s : (language db).Statement = (before.table.version, kinds.Refragment moved.refragment) in
     let t = next_txn (desk_of db before.table) in
     let shown = moved_shows db t s moved.choice in
     let what = event.Call (call.Refragment text) in
     let said : map notice_of out.replies ≡ (t, Begun) ∷ filter_map (told db) (first_turn (world_of db before [] []) s moved.choice).deeds = moved.leads.replies ∙ ap (filter_map (told db)) moved.all in
     list_runs_on db whole before after entries past what out (λ w. refragments w s moved.choice) (world.Refragment s moved.choice) so moved.leads (if_true (may_move w s) (refragments w s moved.choice) w moved.may)
-    (moved.refragment, moved.choice, (moved.spelled, refl)) (moved.may, (moved.begun_within, moved.within)) (record {
+    (moved.refragment, moved.choice, (moved.spelled, refl)) (moved.may, moved.begun_within, moved.within) (record {
       phased = sym shown.0 ∙ ap phases_of (sym moved.all);
       stated = subst (AreStated db (text_by what out.replies)) (sym (ap stated_of moved.all ∙ shown.1)) (first_named out.replies said);
     })

@@ -1,7 +1,8 @@
 -- Steps of one machine are steps of the world, whichever catalogue comes into force.
-use Rattle.std.proofs.Common.{◌≡◌, ◌≢◌, ◌⊎◌, refl, sym, ap, ◌∙◌, subst, ℕ, suc, ◌==◌, ◌&&◌, not, Bool, true, false, List, [], ◌∷◌, ◌++◌, map, Option, Some, None, is_some, ⊎_elim, inl, inr, if◌then◌else◌, append_assoc, ◌||◌, Result, Ok, Err, OnErr}
+use Rattle.std.proofs.Common.{arith, ◌≡◌, ◌≢◌, ◌⊎◌, refl, sym, ap, ◌∙◌, subst, ℕ, zero, suc, ◌==◌, ◌&&◌, not, Bool, true, false, List, [], ◌∷◌, ◌++◌, map, Option, Some, None, is_some, ⊎_elim, inl, inr, if◌then◌else◌, append_assoc, ◌||◌, Result, Ok, Err, OnErr}
 use Rattle.std.specs.List.{flat_map, list_all, list_any}
 use Rattle.std.proofs.lemmas.Bool.{eq-eqb}
+use Rattle.std.proofs.lemmas.Bool.Decides.{nat_tests}
 use Rattle.std.proofs.lemmas.List.{append-nil}
 use Rattle.catalog.specs.declared.relation.SplitRelation.{SplitRelation}
 use Rattle.catalog.specs.Relation.{catalogue_of}
@@ -192,17 +193,13 @@ module _ (db : Database) (before : Machines) (kept : DeskContent) (after : Volat
       (left_true (is_moving (txn_in db before.table letter.txn)) (is_committed wanted.deeds (txn_name letter.txn)) rises) (keeps_turn.ends (right_true (is_moving (txn_in db before.table letter.txn)) (is_committed wanted.deeds (txn_name letter.txn)) rises)) t
 
   abbrev Stood : Type 0
-  Stood = (now, later) ≡ (if after.version == before.table.version then (catalog, before.later) else follow catalog before.later)
+  Stood = ◌≡◌ {A = Catalogs} (now, later) (if after.version == before.table.version then (catalog, before.later) else follow catalog before.later)
 
   apart : (n : ℕ) → (suc n == n) ≡ false
-  apart n = go n
-    where
-      go : (n : ℕ) → (suc n == n) ≡ false
-      go 0 = refl
-      go (suc n) = go n
+  apart n = grind (arith, nat_tests)
 
   -- the catalogues are the same, or they follow where who moves is committed
-  cases : Stood → ((raised ≡ false) × ((now, later) ≡ (catalog, before.later))) ⊎ ((raised ≡ true) × ((now, later) ≡ follow catalog before.later))
+  cases : Stood → ((raised ≡ false) × ◌≡◌ {A = Catalogs} (now, later) (catalog, before.later)) ⊎ ((raised ≡ true) × ◌≡◌ {A = Catalogs} (now, later) (follow catalog before.later))
   cases stood = ⊎_elim
       (λ rises.
       let test : (after.version == before.table.version) ≡ false = ap (λ n. n == before.table.version) (by_raise true rises) ∙ apart before.table.version in
@@ -225,7 +222,7 @@ module _ (db : Database) (before : Machines) (kept : DeskContent) (after : Volat
   }
 
   -- and those of the database under their numbers
-  follows_on : (n m : ℕ) (those : List (List (List ℕ) × List SplitRelation)) → m ≡ suc n → those ≢ [] → InForce db n catalog → AreNextOf db n those → (now, later) ≡ follow catalog those → InForce db m now × AreNextOf db m later
+  follows_on : (n m : ℕ) (those : List (List (List ℕ) × List SplitRelation)) → m ≡ suc n → those ≢ [] → InForce db n catalog → AreNextOf db n those → ◌≡◌ {A = Catalogs} (now, later) (follow catalog those) → InForce db m now × AreNextOf db m later
   follows_on n m [] e some here next is = absurd (some refl)
   follows_on n m (c ∷ rest) e some here next is = (
     subst (λ (pair : Catalogs). InForce db m pair.0) (sym is) (subst (λ k. InForce db k c) (sym e) next.0),
@@ -259,8 +256,8 @@ pub may_begin_where : (db : Database) (before : Machines) → anyone_moves befor
 may_begin_where db before none = none_moves db before.table.standing before.table.txns none
 
 -- the first turn of a statement commits nobody
-mute_first : (db : Database) (t : Name) (s : (language db).Statement) (choice : Choice (language db)) → is_committed (on_state t (fresh_as true) s choice Idle).deeds t ≡ false
-mute_first db t s choice = (states_live t (fresh_as true) s (map ask_of ((language db).fetches s)) choice).mute.commits t
+mute_first : (db : Database) (t : Name) (s : (language db).Statement) (choice : Choice (language db)) → is_committed (on_state {L = language db} t (fresh_as true) s choice Idle).deeds t ≡ false
+mute_first db t s choice = (states_live {L = language db} t (fresh_as true) s (map ask_of ((language db).fetches s)) choice).mute.commits t
 
 no_raise : (a b : Bool) → b ≡ false → (a && b) ≡ false
 no_raise true b e = e
@@ -341,12 +338,12 @@ catalog_is one other e = ap (λ (pair : Catalogs). pair.0) e
 
 -- so where a letter is refused: its turn doesn't happen
 pub stays_where : {D S T E : Type 0} (result : Result T E) (old : code.Machines D S) (new : desks.Desk D) → OnErr result (volatile_of new.volatile ≡ volatile_of old.desk.volatile) →
-    (new.catalog, new.later.items) ≡ (if new.volatile.version == old.desk.volatile.version then (old.desk.catalog, old.desk.later.items) else follow old.desk.catalog old.desk.later.items) →
+    ◌≡◌ {A = Catalogs} (new.catalog, new.later.items) (if new.volatile.version == old.desk.volatile.version then (old.desk.catalog, old.desk.later.items) else follow old.desk.catalog old.desk.later.items) →
     OnErr result (StaysInForce old (record { alloc = old.alloc; desk = new; sites = old.sites; traffic = old.traffic }))
 stays_where (Ok x) old new none stood = tt
 stays_where (Err e) old new same stood =
     let version : new.volatile.version ≡ old.desk.volatile.version = ap (λ (table : VolatileState). table.version) same in
-    let those : (new.catalog, new.later.items) ≡ (old.desk.catalog, old.desk.later.items) = stood ∙ ap (λ (b : Bool). if b then (old.desk.catalog, old.desk.later.items) else follow old.desk.catalog old.desk.later.items) (eq-eqb new.volatile.version old.desk.volatile.version version) in
+    let those : ◌≡◌ {A = Catalogs} (new.catalog, new.later.items) (old.desk.catalog, old.desk.later.items) = stood ∙ ap (λ (b : Bool). if b then (old.desk.catalog, old.desk.later.items) else follow old.desk.catalog old.desk.later.items) (eq-eqb new.volatile.version old.desk.volatile.version version) in
     record { version = version; catalog = catalog_is (new.catalog, new.later.items) (old.desk.catalog, old.desk.later.items) those; later = later_is (new.catalog, new.later.items) (old.desk.catalog, old.desk.later.items) those }
 
 pub stays_by : {D S T E : Type 0} (result : Result T E) (old : code.Machines D S) (new : desks.Desk D) → OnErr result (volatile_of new.volatile ≡ volatile_of old.desk.volatile) → new.catalog ≡ old.desk.catalog → new.later.items ≡ old.desk.later.items →

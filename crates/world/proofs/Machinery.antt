@@ -252,7 +252,7 @@ module _ (db : Database) (before : Machines) (seat : Seat) (after : List Seat) (
           past = sym (append-nil past) i;
           version = before.table.version;
         };
-          placed = subst (AreHomed (language db) (IsPlace db)) inquired (inquiries_homed (language db) (IsPlace db) site (states_of S before.seats site));
+        placed = subst (AreHomed (language db) (IsPlace db)) inquired (inquiries_homed (language db) (IsPlace db) site (states_of S before.seats site));
         explained = tt;
         replies = refl;
       })

@@ -29,7 +29,7 @@ sites_are (first ∷ rest) chain n catalog later e = same_sites (catalogue_of fi
 -- there is a first one
 pub first_there : (chain : List (List (List ℕ) × List SplitRelation)) → IsChain (map catalogue_of chain) → (n : ℕ) → n ≡ 1 → (first : Catalogue) × (rest : List Catalogue) × (from_number n (map catalogue_of chain) ≡ first ∷ rest)
 first_there [] chain n one = absurd chain
-first_there (first ∷ rest) chain n one = (catalogue_of first, (map catalogue_of rest, ap (λ m. from_number m (map catalogue_of (first ∷ rest))) one))
+first_there (first ∷ rest) chain n one = (catalogue_of first, map catalogue_of rest, ap (λ m. from_number m (map catalogue_of (first ∷ rest))) one)
 
 -- so where the store keeps the number of the last one
 pub last_by : {D : Type 0} (n m : ℕ) (catalogue : Catalogue) (chain : List Catalogue) (desk : Desk D) → n ≡ m → StandsLast m chain catalogue → StandsAt n chain desk → IsLast catalogue desk

@@ -59,7 +59,7 @@ call_since result first second third one = if_err result (stops_since first seco
 pub memory_stops : (before after : List ℕ) (told : Refusal) → told ≡ Memory → StopsFor before after told
 memory_stops before after told is = subst (StopsFor before after) (sym is) tt
 
-full_stops : (before after : List ℕ) (told : Refusal) → told ≡ Full → StopsFor before after told
+pub full_stops : (before after : List ℕ) (told : Refusal) → told ≡ Full → StopsFor before after told
 full_stops before after told is = subst (StopsFor before after) (sym is) tt
 
 pub begin_stops : (before after : List ℕ) (told : Refusal) → (told ≡ Memory) ⊎ (told ≡ Full) ⊎ (told ≡ NotAlone) → StopsFor before after told

@@ -1,5 +1,7 @@
 //! A relation gets the split that the next catalogue has for it, in a transaction of its own.
 
+ghost use Rattle.std.specs.Prelude.{◌≡◌, [], Err};
+ghost use Rattle.desk.specs.declared.refusal.Refusal.TheVariants as refusals;
 ghost use Rattle.world.specs.Contents.{OfStores};
 ghost use Rattle.world.specs.Counted.{counts};
 ghost use Rattle.world.specs.Frame.{Blames, LeavesDatabase};
@@ -41,14 +43,19 @@ fn conclude<D: DeskStore, S: SiteStore>(
     }
 }
 
-/// Runs the REFRAGMENT of this text. Its client hears the answer where it was committed, and else why not.
+/// Runs the REFRAGMENT of this text. Its client hears the answer where it was committed, and else why not. Where no catalogue comes
+/// later it finds none that is next.
 pub(crate) fn run_refragment<D: DeskStore, S: SiteStore>(
     machines: &mut Machines<D, S>,
     text: &str,
 ) -> Result<Vec<Notice>, Refusal>
+    ensures none { machines.old.desk.later.items ≡ [] → (result ≡ Err refusals.NoNext) × (machines.new ≡ machines.old) }
     ensures leaves { LeavesDatabase D.is_clean S.is_clean D.is_sound S.is_sound D.refused S.refused machines.old machines.new }
     ensures blames { Blames (OfStores D.is_clean S.is_clean) (OfStores D.is_sound S.is_sound) (counts D.refused S.refused) machines.old machines.new result }
 {
+    if machines.desk.later().is_empty() {
+        return Err(Refusal::NoNext);
+    }
     match announce(machines, text) {
         Ok(heard) => conclude(machines, heard),
         Err(refusal) => Err(refusal),

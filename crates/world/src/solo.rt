@@ -22,7 +22,7 @@ ghost use Rattle.desk.specs.CatalogueDatabase.{database, fits};
 ghost use Rattle.world.specs.Counted.{counts};
 ghost use Rattle.world.specs.BatchRuns.{HasRun, WasStopped};
 ghost use Rattle.world.specs.Fault.{FailsFor, is_memory};
-ghost use Rattle.world.specs.Frame.{Blames, ComesTo, LeavesDatabase, LeavesMachines, StaysAsItIs};
+ghost use Rattle.world.specs.Frame.{ComesTo, LeavesDatabase, LeavesMachines, StaysAsItIs};
 ghost use Rattle.world.specs.Chain.{IsLast, StandsAt, StandsLast, sites_of};
 ghost use Rattle.world.specs.Contents.{OfGiven, OfStores, counted, held, unrefused};
 ghost use Rattle.world.specs.Machines.{AreFit};
@@ -210,19 +210,20 @@ impl<D: DeskStore + Drop, S: SiteStore + Drop> Solo<D, S> {
         ensures own { IfErr result StopsOpening }
     {
         let desk = desk_up(alloc, chain, desk)?;
-        let sites = sites_up(alloc, desk.catalog(), sites)?;
+        let catalog = desk.catalog();
+        database_is_of_catalogue(catalog);
+        one_client_is_a_run(catalog);
+        machines_come_up(catalog);
+        restarts_recover(catalog);
+        begins_anew(catalog);
+        new_stores_were_served(catalog);
+        let sites = sites_up(alloc, catalog, sites)?;
         let mut machines = Machines {
             alloc,
             desk,
             sites,
             traffic: Traffic::none(),
         };
-        database_is_of_catalogue(machines.desk.catalog());
-        one_client_is_a_run(machines.desk.catalog());
-        machines_come_up(machines.desk.catalog());
-        restarts_recover(machines.desk.catalog());
-        begins_anew(machines.desk.catalog());
-        new_stores_were_served(machines.desk.catalog());
         recover(&mut machines)?;
         ensure_no_commit_row(&mut machines)?;
         machines.traffic = Traffic::none();
@@ -306,19 +307,6 @@ impl<D: DeskStore, S: SiteStore> Solo<D, S> {
         }
     }
 
-    /// A REFRAGMENT, which is a transaction of its own. Where no catalogue comes later it finds none that is next.
-    fn refragments(&mut self, text: &str) -> Result<Vec<Notice>, Refusal>
-        ensures none { self.old.machines.desk.later.items ≡ [] → (result ≡ Err refusals.NoNext) × (self.new.machines ≡ self.old.machines) }
-        ensures leaves { LeavesDatabase D.is_clean S.is_clean D.is_sound S.is_sound D.refused S.refused self.old.machines self.new.machines }
-        ensures blames { Blames (OfStores D.is_clean S.is_clean) (OfStores D.is_sound S.is_sound) (counts D.refused S.refused) self.old.machines self.new.machines result }
-        ensures still { self.new.current ≡ self.old.current }
-    {
-        if self.machines.desk.later().is_empty() {
-            return Err(Refusal::NoNext);
-        }
-        run_refragment(&mut self.machines, text)
-    }
-
     /// A statement: of the open transaction, or a transaction of its own.
     fn states(&mut self, statement: &Statement, text: &str) -> Result<Vec<Notice>, Refusal>
         ensures comes { ComesTo (OfStores D.is_clean S.is_clean) (OfStores D.is_sound S.is_sound) (counted D.kept S.kept D.refused S.refused) self.old.machines self.new.machines result
@@ -327,7 +315,7 @@ impl<D: DeskStore, S: SiteStore> Solo<D, S> {
     {
         let Some(txn) = self.current else {
             if statement.is_refragment() {
-                return self.refragments(text);
+                return run_refragment(&mut self.machines, text);
             }
             return run_autocommit(&mut self.machines, text);
         };

@@ -138,8 +138,9 @@ pub(crate) fn start(
 {
     are_formed(chain.as_slice());
     let desk = start_desk(alloc, chain)?;
-    let _relations = desk.catalog().relations();
-    let sites = start_sites(alloc, desk.catalog(), whole)?;
+    let catalog = desk.catalog();
+    let _relations = catalog.relations();
+    let sites = start_sites(alloc, catalog, whole)?;
     Ok(Machines {
         alloc,
         desk,
@@ -235,9 +236,10 @@ pub(crate) fn start_on<D: DeskStore + Drop, S: SiteStore + Drop>(
 {
     are_formed(chain.as_slice());
     let desk = desk_up(alloc, chain, desk)?;
-    let _relations = desk.catalog().relations();
-    let filled = fill_all(alloc, desk.catalog(), whole, sites)?;
-    let sites = sites_up(alloc, desk.catalog(), filled)?;
+    let catalog = desk.catalog();
+    let _relations = catalog.relations();
+    let filled = fill_all(alloc, catalog, whole, sites)?;
+    let sites = sites_up(alloc, catalog, filled)?;
     Ok(Machines {
         alloc,
         desk,

@@ -5,4 +5,3 @@ use Rattle.catalog.specs.Catalogue.{Catalogue}
 use Rattle.catalog.specs.Relation.{catalogue_of}
 use Rattle.world.specs.Chain.{sites_of}
 use Rattle.world.proofs.chain.alone.Goals as goal
-

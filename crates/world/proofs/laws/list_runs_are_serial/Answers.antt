@@ -6,4 +6,4 @@ use Rattle.world.proofs.DatabaseIsOpened.{list_runs_serial}
 use Rattle.world.proofs.laws.list_runs_are_serial.Goals as goal
 
 pub returns : goal.returns
-returns = λ db listed. list_runs_serial db (list_law local (statements db) listed.lawful)
+returns c = λ db listed. list_runs_serial db (list_law local (statements db) listed.lawful)

@@ -226,7 +226,7 @@ pub returns-in_ok-copy-in-SiteGivesUp-clause-stays : goal.returns-in_ok-copy-in-
 returns-in_ok-copy-in-SiteGivesUp-clause-stays g c = on_any_err c.apply_event_at.result (desk_stays c.args.machines.now c.apply_event_at.new.machines c.apply_event_at.ensures.desk)
 
 pub returns-in_err-copy-in-SiteGivesUp-clause-stays : goal.returns-in_err-copy-in-SiteGivesUp-clause-stays
-returns-in_err-copy-in-SiteGivesUp-clause-stays g c = desk_stays c.args.machines.now c.args.machines.now refl
+returns-in_err-copy-in-SiteGivesUp-clause-stays g c = on_any_err c.from_residual.result (desk_stays c.args.machines.now c.args.machines.now refl)
 
 pub returns-in_ok-copy-in-SiteInquires-clause-lists : goal.returns-in_ok-copy-in-SiteInquires-clause-lists
 returns-in_ok-copy-in-SiteInquires-clause-lists g c = λ db whole past of stands clean sound so.
@@ -240,7 +240,7 @@ pub returns-in_ok-copy-in-SiteInquires-clause-stays : goal.returns-in_ok-copy-in
 returns-in_ok-copy-in-SiteInquires-clause-stays g c = on_any_err c.apply_event_at-in-SiteInquires.result (desk_stays c.args.machines.now c.apply_event_at-in-SiteInquires.new.machines c.apply_event_at-in-SiteInquires.ensures.desk)
 
 pub returns-in_err-copy-in-SiteInquires-clause-stays : goal.returns-in_err-copy-in-SiteInquires-clause-stays
-returns-in_err-copy-in-SiteInquires-clause-stays g c = desk_stays c.args.machines.now c.args.machines.now refl
+returns-in_err-copy-in-SiteInquires-clause-stays g c = on_any_err c.from_residual-in_err-copy-in-SiteInquires.result (desk_stays c.args.machines.now c.args.machines.now refl)
 
 pub returns-in_ok-copy-in-SiteRestarts-clause-lists : goal.returns-in_ok-copy-in-SiteRestarts-clause-lists
 returns-in_ok-copy-in-SiteRestarts-clause-lists g c = λ db whole past of stands clean sound so.
@@ -254,4 +254,4 @@ pub returns-in_ok-copy-in-SiteRestarts-clause-stays : goal.returns-in_ok-copy-in
 returns-in_ok-copy-in-SiteRestarts-clause-stays g c = on_any_err c.apply_event_at-in-SiteRestarts.result (desk_stays c.args.machines.now c.apply_event_at-in-SiteRestarts.new.machines c.apply_event_at-in-SiteRestarts.ensures.desk)
 
 pub returns-in_err-copy-in-SiteRestarts-clause-stays : goal.returns-in_err-copy-in-SiteRestarts-clause-stays
-returns-in_err-copy-in-SiteRestarts-clause-stays g c = desk_stays c.args.machines.now c.args.machines.now refl
+returns-in_err-copy-in-SiteRestarts-clause-stays g c = on_any_err c.from_residual-in_err-copy-in-SiteRestarts.result (desk_stays c.args.machines.now c.args.machines.now refl)

@@ -17,6 +17,7 @@ use Rattle.world.proofs.Refusing.{if_err}
 use Rattle.world.proofs.Running.{comes_on, spared_on}
 use Rattle.world.proofs.ListRunning.{list_comes_on}
 use Rattle.world.proofs.Listing.{desk_stays}
+use Rattle.world.proofs.SiteSteps.{on_any_err}
 use Rattle.std.proofs.Common.{refl}
 use Rattle.world.proofs.machines.deliver.Goals as goal
 
@@ -125,4 +126,4 @@ pub returns-then-not-has_site-clause-stays : goal.returns-then-not-has_site-clau
 returns-then-not-has_site-clause-stays g c = desk_stays c.args.machines.now c.args.machines.now refl
 
 pub returns-in_err-again-clause-stays : goal.returns-in_err-again-clause-stays
-returns-in_err-again-clause-stays g c = desk_stays c.args.machines.now c.args.machines.now refl
+returns-in_err-again-clause-stays g c = on_any_err c.from_residual.result (desk_stays c.args.machines.now c.args.machines.now refl)

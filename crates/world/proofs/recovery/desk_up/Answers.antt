@@ -17,7 +17,7 @@ returns-in-Ok-clause-up g c = record {
 }
 
 pub returns-in-Ok-clause-sites : goal.returns-in-Ok-clause-sites
-returns-in-Ok-clause-sites g c = sites_are c.args.chain.now c.as_slice-_catalogs.ensures.chain c.in-Ok.desk.volatile.version c.in-Ok.desk.catalog (map catalogue_of c.in-Ok.desk.later.items) c.in-Ok.ensures.catalogs
+returns-in-Ok-clause-sites g c = sites_are c.args.chain.now c.as_slice-catalogs.ensures.chain c.in-Ok.desk.volatile.version c.in-Ok.desk.catalog (map catalogue_of c.in-Ok.desk.later.items) c.in-Ok.ensures.catalogs
 
 pub returns-in-Err-clause-own : goal.returns-in-Err-clause-own
 returns-in-Err-clause-own g c =

@@ -2,6 +2,7 @@
 use Rattle.std.proofs.Common.{[], None, subst}
 use Rattle.meaning.specs.Whole.{FitsSchema}
 use Rattle.catalog.specs.FragmentLeaf.{schemas_of}
+use Rattle.catalog.specs.Formed.{IsFormed}
 use Rattle.catalog.specs.Relation.{catalogue_of}
 use Rattle.desk.specs.CatalogueDatabase.{database, fits}
 use Rattle.world.specs.Client.{IsServed}
@@ -22,7 +23,7 @@ returns-clause-served g c = λ catalogue last clean.
     let here = catalogue_of machines.desk.catalog in
     subst (λ x. AreNew D.is_sound D.kept S.is_sound S.kept x c.args.desk c.args.sites.items → FitsSchema (schemas_of x) c.args.whole.now → IsServed (database x) c.args.whole.now (counted D.kept S.kept D.refused S.refused machines) []) last.is
     (λ new fitting.
-    let so = opens_run here c.args.whole.now (held D.kept S.kept machines) (c.database_is_of_catalogue.ensures.of_catalogue.formed 0) fitting (c.in_ok-machines.ensures.opens clean new last.none (database here)) in
+    let so = opens_run here c.args.whole.now (held D.kept S.kept machines) (subst (λ x. IsFormed (catalogue_of x)) c.catalog.ensures (c.database_is_of_catalogue.ensures.of_catalogue.formed 0)) fitting (c.in_ok-machines.ensures.opens clean new last.none (database here)) in
     record { version = so.version; reached = record { opening = so.opening; opens = so.opens; events = so.events; gone = []; is = so.is; explained = so.explained }; fit = fit_counted (database here) (held D.kept S.kept machines) (counts D.refused S.refused machines) so.fit })
 
 pub returns-clause-stands : goal.returns-clause-stands
@@ -32,7 +33,7 @@ returns-clause-stands g c = λ catalogue last clean.
     let machines = c.in_ok-machines.machines in
     let here = catalogue_of machines.desk.catalog in
     subst (λ x. AreNew D.is_sound D.kept S.is_sound S.kept x c.args.desk c.args.sites.items → FitsSchema (schemas_of x) c.args.whole.now → Stands (database x) (fits x) None (counted D.kept S.kept D.refused S.refused machines) []) last.is
-    (λ new fitting. opens_quiet here c.args.whole.now (held D.kept S.kept machines) (c.database_is_of_catalogue.ensures.of_catalogue.formed 0) fitting (c.in_ok-machines.ensures.opens clean new last.none (database here)))
+    (λ new fitting. opens_quiet here c.args.whole.now (held D.kept S.kept machines) (subst (λ x. IsFormed (catalogue_of x)) c.catalog.ensures (c.database_is_of_catalogue.ensures.of_catalogue.formed 0)) fitting (c.in_ok-machines.ensures.opens clean new last.none (database here)))
 
 pub returns-clause-single : goal.returns-clause-single
 returns-clause-single g c = λ catalogue alone. last_of c.in_ok-machines.machines.desk.volatile.version catalogue _ c.in_ok-machines.machines.desk alone c.in_ok-machines.ensures.catalogs

@@ -2,6 +2,7 @@
 use Rattle.std.proofs.Common.{[], subst}
 use Rattle.meaning.specs.Whole.{FitsSchema}
 use Rattle.catalog.specs.FragmentLeaf.{schemas_of}
+use Rattle.catalog.specs.Formed.{IsFormed}
 use Rattle.catalog.specs.Relation.{catalogue_of}
 use Rattle.desk.specs.CatalogueDatabase.{database}
 use Rattle.world.specs.Contents.{held}
@@ -20,7 +21,7 @@ returns-clause-ok g c = λ catalogue last clean.
     let machines = c.in_ok-machines.machines in
     let here = catalogue_of machines.desk.catalog in
     subst (λ x. AreNew D.is_sound D.kept S.is_sound S.kept x c.args.desk c.args.sites.items → FitsSchema (schemas_of x) c.args.whole.now → IsRun (database x) c.args.whole.now (held D.kept S.kept machines) [] []) last.is
-    (λ new fitting. opens_run here c.args.whole.now (held D.kept S.kept machines) (c.database_is_of_catalogue.ensures.of_catalogue.formed 0) fitting (c.in_ok-machines.ensures.opens clean new last.none (database here)))
+    (λ new fitting. opens_run here c.args.whole.now (held D.kept S.kept machines) (subst (λ x. IsFormed (catalogue_of x)) c.catalog.ensures (c.database_is_of_catalogue.ensures.of_catalogue.formed 0)) fitting (c.in_ok-machines.ensures.opens clean new last.none (database here)))
 
 pub returns-clause-single : goal.returns-clause-single
 returns-clause-single g c = λ catalogue alone. last_of c.in_ok-machines.machines.desk.volatile.version catalogue _ c.in_ok-machines.machines.desk alone c.in_ok-machines.ensures.catalogs

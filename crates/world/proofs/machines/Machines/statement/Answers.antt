@@ -1,7 +1,9 @@
 -- Why `statement` meets its contract.
 use Rattle.world.proofs.Counting.{none_fewer}
 use Rattle.catalog.specs.FragmentLeaf.{schemas_of}
-use Rattle.std.proofs.Common.{◌≡◌, None, ◌∷◌, rules, ap, ◌∙◌}
+use Rattle.desk.specs.Transition.{is_moving}
+use Rattle.world.specs.Listed.{ListStated, StandsIn}
+use Rattle.std.proofs.Common.{◌≡◌, false, IfOk, None, ◌∷◌, rules, ap, ◌∙◌}
 use Rattle.protocol.specs.Desk.{State, refusal}
 use Rattle.meaning.specs.declared.statement.Statement.{Statement}
 use Rattle.desk.specs.Request.{txn_in}
@@ -54,7 +56,7 @@ returns-clause-lists g c = λ db of stands fit.
     let new = c.statement.new.self in
     let states = c.statement.ensures.states in
     let txn = txn_in db before.table c.args.txn in
-    if_ok_too c.statement.result (λ out still so. so still) states.still
+    let stated : IfOk c.statement.result (λ out. is_moving (before.table.standing c.args.txn) ≡ false → ListStated db c.args.txn c.args.text.now before (held g.D.DeskStore.kept g.S.SiteStore.kept (record { alloc = c.args.self.now.alloc; desk = new; sites = c.args.self.now.sites; traffic = c.args.self.now.traffic })) out.letters out.replies × StandsIn db new) =
     (if_ok_all c.statement.result (λ (s : Statement). refusal (State (before.table.version, s)) txn ≡ None) (λ out accepted stated still. (
       record {
         statement = stated.statement;
@@ -65,4 +67,5 @@ returns-clause-lists g c = λ db of stands fit.
             (may_state db before c.args.txn stated.statement still stated.runs.ordinary) (accepted stated.statement);
       },
       stands_by_store db g.D.DeskStore.kept old new states.plainly.store states.plainly.catalog states.plainly.later fit.desk stated.runs.steps.fits stands,
-    )) (λ s. states.accepted db s) (c.statement.ensures.ok db of stands.here fit.desk))
+    )) (λ s. states.accepted db s) (c.statement.ensures.ok db of stands.here fit.desk)) in
+    if_ok_too c.statement.result (λ out still so. so still) states.still stated

@@ -1,6 +1,7 @@
 -- Why `open_stores` meets its contract.
 use Rattle.std.proofs.Common.{◌≡◌, sym, refl, ap, subst, ◌++◌, ◌∙◌, List, [], ℕ, length, map}
 use Rattle.std.proofs.lemmas.List.{length-map}
+use Rattle.catalog.specs.declared.relation.SplitRelation.{SplitRelation}
 use Rattle.catalog.specs.Relation.{catalogue_of}
 use Rattle.desk.specs.CatalogueDatabase.{database}
 use Rattle.world.specs.Chain.{IsLast, StandsLast}
@@ -19,7 +20,7 @@ use Rattle.world.proofs.Recovers.{goes_further}
 use Rattle.world.proofs.solo.Solo.open_stores.Goals as goal
 
 pub sites_up-requires : goal.sites_up-requires
-sites_up-requires g c = c.requires ∙ sym (ap (λ (sites : List (List ℕ)). length sites) c.in_ok-desk.ensures.sites)
+sites_up-requires g c = c.requires ∙ sym (ap (λ (sites : List (List ℕ)). length sites) c.in_ok-desk.ensures.sites) ∙ sym (ap (λ (x : List (List ℕ) × List SplitRelation). length x.0) c.catalog-catalog.ensures)
 
 pub returns-clause-last : goal.returns-clause-last
 returns-clause-last g c = λ catalogue at clean.
@@ -27,7 +28,7 @@ returns-clause-last g c = λ catalogue at clean.
     let desk = c.in_ok-desk.desk in
     let up = c.in_ok-desk.ensures.up in
     let now = c.recover.ensures.leaves.clean (c.ensure_no_commit_row.ensures.leaves.clean clean) in
-    let rises = up.rises (database (catalogue_of desk.catalog)) (record { sites = refl; distinct = (c.database_is_of_catalogue.ensures.of_catalogue.formed 0).distinct }) now.0 in
+    let rises = up.rises (database (catalogue_of c.catalog-catalog.result.now)) (record { sites = ap (λ (x : List (List ℕ) × List SplitRelation). x.0) c.catalog-catalog.ensures; distinct = (c.database_is_of_catalogue.ensures.of_catalogue.formed 0).distinct }) now.0 in
     let last = last_by desk.volatile.version (D.kept c.args.desk).version catalogue _ desk (rises.fits.version ∙ (up.life now.0).version) at c.in_ok-desk.ensures.catalogs in
     let stays = c.recover.ensures.leaves.catalogs last.none in
     record { is = ap catalogue_of (c.ensure_no_commit_row.ensures.leaves.catalog ∙ stays.0) ∙ last.is; none = c.ensure_no_commit_row.ensures.leaves.later ∙ stays.1 }
@@ -44,29 +45,28 @@ returns-clause-goes_on g c = λ catalogue at clean.
     let D = g.D.DeskStore in
     let S = g.S.SiteStore in
     let desk = c.in_ok-desk.desk in
-    let here = catalogue_of desk.catalog in
+    let here = catalogue_of c.catalog-catalog.result.now in
     let db = database here in
     let up = c.in_ok-desk.ensures.up in
     let sites = c.in_ok-sites.sites.items in
     let seats = c.in_ok-sites.ensures.up in
-    let machines = record { alloc = c.args.alloc; desk = desk; sites = c.in_ok-sites.sites; traffic = c.none.result } in
-    let first = counted D.kept S.kept D.refused S.refused machines in
+    let first = counted D.kept S.kept D.refused S.refused (record { alloc = c.args.alloc; desk = desk; sites = c.in_ok-sites.sites; traffic = c.none.result }) in
     let middle = counted D.kept S.kept D.refused S.refused c.recover.new.machines in
     let last = counted D.kept S.kept D.refused S.refused c.ensure_no_commit_row.new.machines in
     let of = c.database_is_of_catalogue.ensures.of_catalogue in
     let clean_mid = c.ensure_no_commit_row.ensures.leaves.clean clean in
     let now = c.recover.ensures.leaves.clean clean_mid in
-    let rises = up.rises db (record { sites = refl; distinct = (of.formed 0).distinct }) now.0 in
+    let rises = up.rises db (record { sites = ap (λ (x : List (List ℕ) × List SplitRelation). x.0) c.catalog-catalog.ensures; distinct = (of.formed 0).distinct }) now.0 in
     let stands = last_by desk.volatile.version (D.kept c.args.desk).version catalogue _ desk (rises.fits.version ∙ (up.life now.0).version) at c.in_ok-desk.ensures.catalogs in
-    let sound : OfStores D.is_sound S.is_sound machines = (up.leaves_store.sound now.0 (up.learnt now.0), all_sound S.is_clean S.is_sound S.kept S.refused here here.sites c.args.sites.items sites seats now.1) in
-    subst (λ x. GoesOnOver x (D.kept c.args.desk) (map S.kept c.args.sites.items) last) stands.is
+    let sound : OfStores D.is_sound S.is_sound (record { alloc = c.args.alloc; desk = desk; sites = c.in_ok-sites.sites; traffic = c.none.result }) = (up.leaves_store.sound now.0 (up.learnt now.0), all_sound S.is_clean S.is_sound S.kept S.refused here here.sites c.args.sites.items sites seats now.1) in
+    subst (λ x. GoesOnOver x (D.kept c.args.desk) (map S.kept c.args.sites.items) last) (ap catalogue_of c.catalog-catalog.ensures ∙ stands.is)
     (λ whole old past have served memory same.
     let places = placed here 0 whole (of.formed 0) served.reached.opens.is_whole in
     let fit = up_fit S.is_clean S.is_sound S.kept S.refused here db 0 whole (of.formed 0) places c.args.sites.items sites seats now.1 have first refl rises stands.none in
     let again = up_again S.is_clean S.is_sound S.kept S.refused here db 0 whole (of.formed 0) places c.args.sites.items sites seats now.1 have first refl rises stands.none in
     let came = came_up S.is_clean S.is_sound S.kept S.refused here db 0 whole (of.formed 0) places c.args.sites.items sites seats now.1 have first refl rises stands.none old served.fit (D.kept c.args.desk) same (up.life now.0) up.memory in
     let goes = goes_further db whole past old middle
-    (c.in_ok-recover.ensures.ok db of refl clean_mid sound fit c.one_client_is_a_run.ensures c.restarts_recover.ensures whole (past ++ lost_by db old) again (c.machines_come_up.ensures.served whole old first past served memory came)) in
+    (c.in_ok-recover.ensures.ok db of (ap catalogue_of c.catalog-catalog.ensures) clean_mid sound fit c.one_client_is_a_run.ensures c.restarts_recover.ensures whole (past ++ lost_by db old) again (c.machines_come_up.ensures.served whole old first past served memory came)) in
     going_on db whole past (held D.kept S.kept c.recover.new.machines) (held D.kept S.kept c.ensure_no_commit_row.new.machines) (counts D.refused S.refused c.recover.new.machines) (counts D.refused S.refused c.ensure_no_commit_row.new.machines)
     (c.ensure_no_commit_row.ensures.same clean (c.recover.ensures.leaves.sound clean_mid sound)) goes)
 
@@ -75,21 +75,21 @@ returns-clause-anew g c = λ catalogue at clean.
     let D = g.D.DeskStore in
     let S = g.S.SiteStore in
     let desk = c.in_ok-desk.desk in
-    let here = catalogue_of desk.catalog in
+    let here = catalogue_of c.catalog-catalog.result.now in
     let db = database here in
     let up = c.in_ok-desk.ensures.up in
-    let machines = record { alloc = c.args.alloc; desk = desk; sites = c.in_ok-sites.sites; traffic = c.none.result } in
     let last = c.ensure_no_commit_row.new.machines in
     let clean_mid = c.ensure_no_commit_row.ensures.leaves.clean clean in
     let now = c.recover.ensures.leaves.clean clean_mid in
-    let rises = up.rises db (record { sites = refl; distinct = (c.database_is_of_catalogue.ensures.of_catalogue.formed 0).distinct }) now.0 in
+    let rises = up.rises db (record { sites = ap (λ (x : List (List ℕ) × List SplitRelation). x.0) c.catalog-catalog.ensures; distinct = (c.database_is_of_catalogue.ensures.of_catalogue.formed 0).distinct }) now.0 in
     let stands = last_by desk.volatile.version (D.kept c.args.desk).version catalogue _ desk (rises.fits.version ∙ (up.life now.0).version) at c.in_ok-desk.ensures.catalogs in
-    let sound : OfStores D.is_sound S.is_sound machines = (up.leaves_store.sound now.0 (up.learnt now.0), all_sound S.is_clean S.is_sound S.kept S.refused here here.sites c.args.sites.items c.in_ok-sites.sites.items c.in_ok-sites.ensures.up now.1) in
+    let is : here ≡ catalogue = ap catalogue_of c.catalog-catalog.ensures ∙ stands.is in
+    let sound : OfStores D.is_sound S.is_sound (record { alloc = c.args.alloc; desk = desk; sites = c.in_ok-sites.sites; traffic = c.none.result }) = (up.leaves_store.sound now.0 (up.learnt now.0), all_sound S.is_clean S.is_sound S.kept S.refused here here.sites c.args.sites.items c.in_ok-sites.sites.items c.in_ok-sites.ensures.up now.1) in
     let sound_mid = c.recover.ensures.leaves.sound clean_mid sound in
     let still = c.ensure_no_commit_row.ensures.same clean sound_mid in
-    subst (λ x. BeginsAnewOver x (D.kept c.args.desk) (map S.kept c.args.sites.items) (counted D.kept S.kept D.refused S.refused last)) stands.is
+    subst (λ x. BeginsAnewOver x (D.kept c.args.desk) (map S.kept c.args.sites.items) (counted D.kept S.kept D.refused S.refused last)) is
     (λ whole old past have served memory same.
-    let goes = returns-clause-goes_on g c here (subst (StandsLast (D.kept c.args.desk).version (map catalogue_of c.args.chain.now)) (sym stands.is) at) clean whole old past have served memory same in
+    let goes = returns-clause-goes_on g c here (subst (StandsLast (D.kept c.args.desk).version (map catalogue_of c.args.chain.now)) (sym is) at) clean whole old past have served memory same in
     let fit = subst (AreFit db) still (fit_uncounted db (held D.kept S.kept last) (counts D.refused S.refused last) goes.served.fit) in
     let none = subst (λ (m : Machines). AreDecided m.table []) (sym still) (c.in_ok-ensure_no_commit_row.ensures.none db clean sound_mid fit) in
     begins_on db c.begins_anew.ensures whole past (counted D.kept S.kept D.refused S.refused last) goes none)
@@ -99,28 +99,30 @@ returns-clause-without_rows g c = λ catalogue at clean.
     let D = g.D.DeskStore in
     let S = g.S.SiteStore in
     let desk = c.in_ok-desk.desk in
-    let here = catalogue_of desk.catalog in
+    let here = catalogue_of c.catalog-catalog.result.now in
     let last = c.ensure_no_commit_row.new.machines in
     let up = c.in_ok-desk.ensures.up in
     let now = c.recover.ensures.leaves.clean (c.ensure_no_commit_row.ensures.leaves.clean clean) in
-    let rises = up.rises (database here) (record { sites = refl; distinct = (c.database_is_of_catalogue.ensures.of_catalogue.formed 0).distinct }) now.0 in
+    let rises = up.rises (database here) (record { sites = ap (λ (x : List (List ℕ) × List SplitRelation). x.0) c.catalog-catalog.ensures; distinct = (c.database_is_of_catalogue.ensures.of_catalogue.formed 0).distinct }) now.0 in
     let before = last_by desk.volatile.version (D.kept c.args.desk).version catalogue _ desk (rises.fits.version ∙ (up.life now.0).version) at c.in_ok-desk.ensures.catalogs in
-    subst (λ x. BeginsWithoutRows x (D.kept c.args.desk) (map S.kept c.args.sites.items) (counted D.kept S.kept D.refused S.refused last)) before.is
+    let is : here ≡ catalogue = ap catalogue_of c.catalog-catalog.ensures ∙ before.is in
+    subst (λ x. BeginsWithoutRows x (D.kept c.args.desk) (map S.kept c.args.sites.items) (counted D.kept S.kept D.refused S.refused last)) is
     (λ whole fits empty nothing.
-    let were = c.new_stores_were_served.ensures whole (D.kept c.args.desk) (map S.kept c.args.sites.items) fits empty (length-map c.args.sites.items S.kept ∙ (c.requires ∙ sym (ap (λ (sites : List (List ℕ)). length sites) c.in_ok-desk.ensures.sites))) nothing in
-    returns-clause-anew g c here (subst (StandsLast (D.kept c.args.desk).version (map catalogue_of c.args.chain.now)) (sym before.is) at) clean whole were.machines [] nothing.leaves were.served were.memory were.kept)
+    let many = length-map c.args.sites.items S.kept ∙ (c.requires ∙ sym (ap (λ (sites : List (List ℕ)). length sites) c.in_ok-desk.ensures.sites) ∙ sym (ap (λ (x : List (List ℕ) × List SplitRelation). length x.0) c.catalog-catalog.ensures)) in
+    let were = c.new_stores_were_served.ensures whole (D.kept c.args.desk) (map S.kept c.args.sites.items) fits empty many nothing in
+    returns-clause-anew g c here (subst (StandsLast (D.kept c.args.desk).version (map catalogue_of c.args.chain.now)) (sym is) at) clean whole were.machines [] nothing.leaves were.served were.memory were.kept)
 
 pub returns-clause-clean : goal.returns-clause-clean
 returns-clause-clean g c = λ clean.
     let S = g.S.SiteStore in
-    let here = catalogue_of c.in_ok-desk.desk.catalog in
+    let here = catalogue_of c.catalog-catalog.result.now in
     let now = c.recover.ensures.leaves.clean (c.ensure_no_commit_row.ensures.leaves.clean clean) in
     (c.in_ok-desk.ensures.up.leaves_store.clean now.0, stores_were_clean S.is_clean S.is_sound S.kept S.refused here here.sites c.args.sites.items c.in_ok-sites.sites.items c.in_ok-sites.ensures.up now.1)
 
 pub returns-clause-sound : goal.returns-clause-sound
 returns-clause-sound g c = λ clean.
     let S = g.S.SiteStore in
-    let here = catalogue_of c.in_ok-desk.desk.catalog in
+    let here = catalogue_of c.catalog-catalog.result.now in
     let up = c.in_ok-desk.ensures.up in
     let clean_mid = c.ensure_no_commit_row.ensures.leaves.clean clean in
     let now = c.recover.ensures.leaves.clean clean_mid in

@@ -39,9 +39,9 @@ returns-then-is_refragment-clause-comes g c =
     let clean = OfStores g.D.DeskStore.is_clean g.S.SiteStore.is_clean in
     let sound = OfStores g.D.DeskStore.is_sound g.S.SiteStore.is_sound in
     let view = counted g.D.DeskStore.kept g.S.SiteStore.kept g.D.DeskStore.refused g.S.SiteStore.refused in
-    let leaves = c.refragments.ensures.leaves in
-    is_refragmented clean sound view c.args.self.now.machines c.refragments.new.self.machines c.refragments.result c.args.text.now c.args.self.now.current c.args.statement.now (sym c.is_refragment.ensures ∙ c.if-is_refragment.true) c.in_default.is
-    leaves.clean leaves.sound leaves.counts leaves.catalogs c.refragments.ensures.blames c.refragments.ensures.none
+    let leaves = c.run_refragment.ensures.leaves in
+    is_refragmented clean sound view c.args.self.now.machines c.run_refragment.new.machines c.run_refragment.result c.args.text.now c.args.self.now.current c.args.statement.now (sym c.is_refragment.ensures ∙ c.if-is_refragment.true) c.in_default.is
+    leaves.clean leaves.sound leaves.counts leaves.catalogs c.run_refragment.ensures.blames c.run_refragment.ensures.none
 
 pub returns-in_default-clause-comes : goal.returns-in_default-clause-comes
 returns-in_default-clause-comes g c =

@@ -14,6 +14,7 @@ use Rattle.world.proofs.Running.{spares_pushed, step_pushed}
 use Rattle.world.specs.Runs.{IsListRun}
 use Rattle.world.proofs.ListIsBase.{list_holds}
 use Rattle.world.proofs.Listing.{desk_stays}
+use Rattle.world.proofs.SiteSteps.{on_any_err}
 use Rattle.world.proofs.world.World.happens.Goals as goal
 
 pub returns-in-Err-clause-refused : goal.returns-in-Err-clause-refused
@@ -73,4 +74,4 @@ returns-in-Ok-clause-lists g c = λ db whole past listed stands clean sound run.
     ((on, list_holds db listed whole after c.push.new.self.items (past ++ on.deeds) on.run_on), did.1)
 
 pub returns-in_err-make_room-clause-stays : goal.returns-in_err-make_room-clause-stays
-returns-in_err-make_room-clause-stays g c = desk_stays c.args.self.now.machines c.args.self.now.machines refl
+returns-in_err-make_room-clause-stays g c = on_any_err c.from_residual.result (desk_stays c.args.self.now.machines c.args.self.now.machines refl)

@@ -11,6 +11,7 @@ use Rattle.world.proofs.Counting.{with_counts}
 use Rattle.world.proofs.RunGoesOn.{passes_by, runs_same}
 use Rattle.world.proofs.Refusals.{refused_soundly}
 use Rattle.world.proofs.Listing.{desk_stays, stands_as}
+use Rattle.world.proofs.SiteSteps.{on_any_err}
 use Rattle.std.proofs.Common.{refl}
 use Rattle.world.proofs.world.World.pass.Goals as goal
 
@@ -63,4 +64,4 @@ returns-else-is_memory-clause-lists g c = λ db whole past listed stands clean s
     )
 
 pub returns-in_err-again-clause-stays : goal.returns-in_err-again-clause-stays
-returns-in_err-again-clause-stays g c = desk_stays c.args.self.now.machines c.args.self.now.machines refl
+returns-in_err-again-clause-stays g c = on_any_err c.from_residual.result (desk_stays c.args.self.now.machines c.args.self.now.machines refl)

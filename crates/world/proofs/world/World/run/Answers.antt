@@ -46,7 +46,7 @@ loop-event-preserved g c =
       ap (λ n. n + 1) all.1,
       λ whole past clean sound run.
           let clean_mid = c.in-Ok.ensures.leaves.clean clean in
-          let so = all.2.0 whole past clean_mid sound run in
+          let so = all.2 whole past clean_mid sound run in
           let sound_mid = all.0.sound clean_mid sound in
           let first = counted D.kept S.kept D.refused S.refused start.machines in
           let last = counted D.kept S.kept D.refused S.refused now.machines in
@@ -55,7 +55,7 @@ loop-event-preserved g c =
             subst (λ es. Follows db es first start.entries.items last now.entries.items) (sym one_more) further,
           ),
       λ list whole past listed stands clean sound run.
-          let so = all.2.1 list whole past listed stands (c.in-Ok.ensures.leaves.clean clean) sound run in
+          let so = all.3 list whole past listed stands (c.in-Ok.ensures.leaves.clean clean) sound run in
           let next = c.in-Ok.ensures.lists list whole (past ++ so.0.deeds) listed so.1 clean (all.0.sound (c.in-Ok.ensures.leaves.clean clean) sound) so.0.run_on in
           (runs_further list whole (held D.kept S.kept mid.machines) (held D.kept S.kept now.machines) mid.entries.items now.entries.items past so.0 next.0, next.1),
     )
@@ -70,7 +70,7 @@ returns-in-Err-clause-runs g c = λ whole past clean sound run.
     let now = c.pass.new.self in
     let db = database (catalogue_of start.machines.desk.catalog) in
     let clean_mid = c.in-Err.ensures.leaves.clean clean in
-    let so = all.2.0 whole past clean_mid sound run in
+    let so = all.2 whole past clean_mid sound run in
     subst (λ (m : Machines). RunsOn db whole m now.entries.items past) (sym (c.in-Err.ensures.err clean (all.0.sound clean_mid sound))) (subst (λ (es : List Entry). RunsOn db whole (held D.kept S.kept mid.machines) es past) (sym c.in-Err.ensures.same) so.0)
 
 pub returns-in-Err-clause-some : goal.returns-in-Err-clause-some
@@ -87,7 +87,7 @@ returns-in-Err-clause-some g c = λ whole past clean sound run.
     let there = counted D.kept S.kept D.refused S.refused mid.machines in
     let last = counted D.kept S.kept D.refused S.refused now.machines in
     let clean_mid = c.in-Err.ensures.leaves.clean clean in
-    let so = all.2.0 whole past clean_mid sound run in
+    let so = all.2 whole past clean_mid sound run in
     let follows = subst (λ (es : List Entry). Follows db (take c.loop-event.event-index events) first start.entries.items there es) (sym c.in-Err.ensures.same) so.1 in
     subst (λ (n : ℕ). FollowsAtLeast db (take n events) first start.entries.items last now.entries.items) (sym all.1) (record {
       there = there;
@@ -97,7 +97,7 @@ returns-in-Err-clause-some g c = λ whole past clean sound run.
     })
 
 pub returns-clause-runs : goal.returns-clause-runs
-returns-clause-runs g c = λ whole past clean sound run. (c.loop-event.invariant.2.0 whole past clean sound run).0
+returns-clause-runs g c = λ whole past clean sound run. (c.loop-event.invariant.2 whole past clean sound run).0
 
 pub returns-clause-all : goal.returns-clause-all
 returns-clause-all g c = λ whole past clean sound run.
@@ -107,13 +107,13 @@ returns-clause-all g c = λ whole past clean sound run.
     let mid = c.loop-event.self in
     let events = c.args.events.now in
     let db = database (catalogue_of start.machines.desk.catalog) in
-    subst (λ (es : List Event). Follows db es (counted D.kept S.kept D.refused S.refused start.machines) start.entries.items (counted D.kept S.kept D.refused S.refused mid.machines) mid.entries.items) (take_all c.loop-event.event-index events c.loop-event-test.false) (c.loop-event.invariant.2.0 whole past clean sound run).1
+    subst (λ (es : List Event). Follows db es (counted D.kept S.kept D.refused S.refused start.machines) start.entries.items (counted D.kept S.kept D.refused S.refused mid.machines) mid.entries.items) (take_all c.loop-event.event-index events c.loop-event-test.false) (c.loop-event.invariant.2 whole past clean sound run).1
 
 pub returns-in-Err-clause-leaves : goal.returns-in-Err-clause-leaves
 returns-in-Err-clause-leaves g c = leaves_then g.D.DeskStore.is_clean g.S.SiteStore.is_clean g.D.DeskStore.is_sound g.S.SiteStore.is_sound g.D.DeskStore.refused g.S.SiteStore.refused c.args.self.now.machines c.loop-event.self.machines c.pass.new.self.machines c.loop-event.invariant.0 c.in-Err.ensures.leaves
 
 pub returns-clause-lists : goal.returns-clause-lists
-returns-clause-lists g c = λ list whole past listed stands clean sound run. c.loop-event.invariant.2.1 list whole past listed stands clean sound run
+returns-clause-lists g c = λ list whole past listed stands clean sound run. c.loop-event.invariant.3 list whole past listed stands clean sound run
 
 pub returns-in-Err-clause-lists : goal.returns-in-Err-clause-lists
 returns-in-Err-clause-lists g c = λ list whole past listed stands clean sound run.
@@ -123,7 +123,7 @@ returns-in-Err-clause-lists g c = λ list whole past listed stands clean sound r
     let mid = c.loop-event.self in
     let now = c.pass.new.self in
     let clean_mid = c.in-Err.ensures.leaves.clean clean in
-    let so = all.2.1 list whole past listed stands clean_mid sound run in
+    let so = all.3 list whole past listed stands clean_mid sound run in
     let stays = c.in-Err.ensures.stays in (
       subst (λ (m : Machines). ListRunsOn list whole m now.entries.items past) (sym (c.in-Err.ensures.err clean (all.0.sound clean_mid sound))) (subst (λ (es : List Entry). ListRunsOn list whole (held D.kept S.kept mid.machines) es past) (sym c.in-Err.ensures.same) so.0),
       stands_as list mid.machines.desk now.machines.desk stays.version stays.catalog stays.later so.1,
