@@ -49,6 +49,31 @@ where = \"no >= 10\"
 site = \"south\"
 ";
 
+/// The same relations: the second is split into three parts.
+pub const DEPT_IN_THREE: &str = "sites = [\"north\", \"south\"]
+
+[relations.emp]
+columns = [\"id int\", \"name text\", \"dept int\", \"pay int\"]
+[[relations.emp.rows]]
+where = \"dept < 10\"
+site = \"south\"
+[[relations.emp.rows]]
+where = \"dept >= 10\"
+site = \"north\"
+
+[relations.dept]
+columns = [\"no int\", \"title text\"]
+[[relations.dept.rows]]
+where = \"no < 5\"
+site = \"south\"
+[[relations.dept.rows]]
+where = \"no >= 5 AND no < 11\"
+site = \"north\"
+[[relations.dept.rows]]
+where = \"no >= 11\"
+site = \"south\"
+";
+
 /// One relation, split by rows.
 pub const ITEM: &str = "sites = [\"north\", \"south\"]
 

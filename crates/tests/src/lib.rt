@@ -6,7 +6,11 @@
 #[cfg(test)]
 mod calls;
 #[cfg(test)]
+mod catalogue_schedules;
+#[cfg(test)]
 mod catalogues;
+#[cfg(test)]
+mod chance;
 #[cfg(test)]
 mod desks;
 #[cfg(test)]

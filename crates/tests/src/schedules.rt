@@ -2,9 +2,11 @@
 //! transaction after another. Over lists transactions end in each way in which they can.
 
 use crate::catalogues::EMP_AND_DEPT;
+use crate::chance::Chance;
 use crate::sqldatabases::site_stores;
 use crate::statements::{catalog, line};
-use crate::worlds::{loaded, opened};
+use crate::worlds::{loaded, opened_over};
+use catalog::chain::Chain;
 use desk::refusal::Refusal;
 use desk::reply::{Notice, Reply, Why};
 use meaning::schema::Schema;
@@ -35,6 +37,9 @@ const EVENTS: usize = 300;
 
 const CLIENTS: usize = 4;
 
+/// The place of the client whose transaction gives a relation another split.
+const MOVER: usize = 5;
+
 /// The rows with which each schedule begins.
 const LOAD: &str = "INSERT INTO dept VALUES (1, 'paint')
 INSERT INTO dept VALUES (7, 'dock')
@@ -42,49 +47,6 @@ INSERT INTO dept VALUES (12, 'paint')
 INSERT INTO emp VALUES (1, 'Ada', 1, 10)
 INSERT INTO emp VALUES (2, 'Bo', 7, 20)
 INSERT INTO emp VALUES (3, 'Cy', 12, 30)";
-
-/// Numbers by chance, each made of the one before it.
-#[derive(Drop)]
-struct Chance {
-    last: u64,
-}
-
-impl Chance {
-    /// The next number, below this one.
-    fn below(&mut self, bound: u64) -> u64 {
-        let next = self.last.wrapping_mul(6364136223846793005);
-        self.last = next.wrapping_add(1442695040888963407);
-        (self.last >> 33).checked_rem(bound).unwrap_or(0)
-    }
-
-    /// Whether something comes to pass that does so this often in a hundred times.
-    fn is_met(&mut self, often: u64) -> bool {
-        self.below(100) < often
-    }
-
-    fn site(&mut self) -> &'static str {
-        if self.is_met(50) { "north" } else { "south" }
-    }
-
-    fn statement(&mut self, alloc: Global) -> Result<Text, Memory> {
-        let (key, dept, pay) = (self.below(5), self.below(14), self.below(20));
-        let text = match self.below(10) {
-            0 => format!(in alloc; "SELECT id, dept, pay FROM emp WHERE id = {key}"),
-            1 => format!(in alloc; "SELECT name FROM emp WHERE pay >= {pay}"),
-            2 => format!(in alloc;
-                "SELECT emp.id, dept.title FROM emp JOIN dept ON emp.dept = dept.no WHERE emp.pay >= {pay}"
-            ),
-            3 => format!(in alloc; "UPDATE emp SET dept = {dept} WHERE id = {key}"),
-            4 => format!(in alloc; "UPDATE emp SET pay = pay + {pay}"),
-            5 => format!(in alloc; "UPDATE emp SET name = 'n{pay}' WHERE id = {key}"),
-            6 => format!(in alloc; "UPDATE dept SET title = 't{pay}' WHERE no >= {dept}"),
-            7 => format!(in alloc; "SELECT title FROM dept WHERE no = {dept}"),
-            8 => format!(in alloc; "INSERT INTO emp VALUES ({key}, 'i', {dept}, {pay})"),
-            _ => format!(in alloc; "DELETE FROM emp WHERE dept < {dept} AND id = {key}"),
-        }?;
-        Ok(Text::new(text))
-    }
-}
 
 /// The ways in which transactions end.
 const WAYS: [&str; 8] = [
@@ -175,6 +137,17 @@ struct Client {
 }
 
 impl Client {
+    /// The client of a transaction that has begun to give a relation another split, with these replies.
+    fn mover(replies: &[Notice]) -> Client {
+        Client {
+            txn: replies.first().map(|notice| notice.txn),
+            left: 0,
+            rolls_back: false,
+            is_done: false,
+            slow_at: "",
+        }
+    }
+
     /// The next call.
     fn call(&self, alloc: Global, chance: &mut Chance) -> Result<Call, Memory> {
         let Some(txn) = self.txn else {
@@ -208,20 +181,22 @@ impl Client {
 
 /// A schedule as it grows.
 #[derive(Drop)]
-struct Schedule {
+pub(crate) struct Schedule {
     chance: Chance,
     /// How often something breaks, of a hundred events.
     trouble: u64,
-    world: World<PlainDesk, PlainSite>,
+    pub(crate) world: World<PlainDesk, PlainSite>,
     clients: Vec<Client>,
+    /// The client of the last transaction that gives a relation another split.
+    mover: Option<Client>,
     /// Whether each letter came, by its number.
     came: Vec<bool>,
-    events: Vec<Event>,
+    pub(crate) events: Vec<Event>,
     ends: Ends,
 }
 
 impl Schedule {
-    fn new(alloc: Global, seed: u64) -> Result<Schedule, Memory> {
+    fn new(alloc: Global, seed: u64, chain: &Chain) -> Result<Schedule, Memory> {
         let mut chance = Chance { last: seed };
         let mut clients = Vec::new(alloc);
         for _ in 0..CLIENTS {
@@ -236,8 +211,9 @@ impl Schedule {
         Ok(Schedule {
             trouble: chance.below(4),
             chance,
-            world: opened(alloc, LOAD)?,
+            world: opened_over(alloc, chain, LOAD)?,
             clients,
+            mover: None,
             came: Vec::new(alloc),
             events: Vec::new(alloc),
             ends: Ends::new(),
@@ -315,8 +291,27 @@ impl Schedule {
         None
     }
 
+    /// The next relation gets its other split, if it may: a transaction for that begins, or its commit is asked for.
+    fn refragment(&mut self, alloc: Global) -> Result<(), Memory> {
+        if let Some(client) = &self.mover {
+            if !client.is_done {
+                let event = Event::Call(client.call(alloc, &mut self.chance)?);
+                return self.happens(event, MOVER);
+            }
+        }
+        let text = match self.world.version() {
+            1 => "REFRAGMENT emp",
+            _ => "REFRAGMENT dept",
+        };
+        let event = Event::Call(Call::Refragment(Text::copy_of(alloc, text)?));
+        self.happens(event, MOVER)
+    }
+
     /// Something happens.
     fn grow(&mut self, alloc: Global) -> Result<(), Memory> {
+        if !self.world.later().is_empty() && self.chance.is_met(8) {
+            return self.refragment(alloc);
+        }
         if self.chance.is_met(self.trouble) {
             let event = self.trouble(alloc)?;
             return self.happens(event, CLIENTS);
@@ -344,20 +339,27 @@ impl Schedule {
     fn happens(&mut self, event: Event, place: usize) -> Result<(), Memory> {
         self.events.push(event.copy()?)?;
         let is_locked = self.is_locked(&event);
-        let client = self.clients.get_mut(place);
+        let begins = matches!(event, Event::Call(Call::Refragment(_)));
+        let client = if place == MOVER {
+            self.mover.as_mut()
+        } else {
+            self.clients.get_mut(place)
+        };
         match self.world.step(event) {
             Ok(entry) => {
                 for _ in entry.out.letters.as_slice() {
                     self.came.push(false)?;
                 }
                 self.ends.hear(entry.out.replies.as_slice(), is_locked);
-                if let Some(client) = client {
+                if begins {
+                    self.mover = Some(Client::mover(entry.out.replies.as_slice()));
+                } else if let Some(client) = client {
                     client.goes_on(entry.out.replies.as_slice());
                 }
             }
             Err(Fault::Desk(Refusal::Memory)) => return Err(Memory),
             Err(Fault::Site(SiteFault::Memory)) => return Err(Memory),
-            Err(Fault::Desk(Refusal::Busy)) => {}
+            Err(Fault::Desk(Refusal::Busy | Refusal::NotAlone)) => {}
             Err(_) => {
                 if let Some(client) = client {
                     client.is_done = true;
@@ -403,7 +405,7 @@ fn is_shown<D: DeskStore, S: SiteStore>(
 }
 
 /// Whether the committed transactions were answered so, and the relations are what they make of them.
-fn is_serial<D: DeskStore, S: SiteStore>(
+pub(crate) fn is_serial<D: DeskStore, S: SiteStore>(
     alloc: Global,
     world: &mut World<D, S>,
 ) -> Result<bool, Memory> {
@@ -418,7 +420,11 @@ fn is_serial<D: DeskStore, S: SiteStore>(
 }
 
 /// Whether the same events come to that over stores in SQLite too.
-fn is_serial_over_sql(alloc: Global, events: &[Event]) -> Result<bool, Memory> {
+pub(crate) fn is_serial_over_sql(
+    alloc: Global,
+    chain: &Chain,
+    events: &[Event],
+) -> Result<bool, Memory> {
     let catalog = catalog(alloc, EMP_AND_DEPT)?;
     let whole = loaded(alloc, &catalog, LOAD)?;
     let sites = site_stores(alloc, &catalog)?;
@@ -426,8 +432,7 @@ fn is_serial_over_sql(alloc: Global, events: &[Event]) -> Result<bool, Memory> {
     if sites.len() != catalog.sites().len() {
         return Err(Memory);
     }
-    let chain = alone(alloc, &catalog)?;
-    let Ok(mut world) = open_on(alloc, &chain, &whole, sites, desk) else {
+    let Ok(mut world) = open_on(alloc, chain, &whole, sites, desk) else {
         return Err(Memory);
     };
     if world.run(events).is_err() {
@@ -439,14 +444,21 @@ fn is_serial_over_sql(alloc: Global, events: &[Event]) -> Result<bool, Memory> {
 /// Whether the schedule of a seed comes to that over lists and, where asked for, over SQLite. How its transactions ended
 /// is added to these.
 fn plays(alloc: Global, seed: u64, in_sql: bool, ends: &mut Ends) -> Result<bool, Memory> {
-    let mut schedule = Schedule::new(alloc, seed)?;
+    let chain = alone(alloc, &catalog(alloc, EMP_AND_DEPT)?)?;
+    let mut schedule = played(alloc, seed, &chain)?;
+    let is_right = is_serial(alloc, &mut schedule.world)?
+        && (!in_sql || is_serial_over_sql(alloc, &chain, schedule.events.as_slice())?);
+    ends.add_all(&schedule.ends);
+    Ok(is_right)
+}
+
+/// The schedule of a seed over these catalogues, to its end.
+pub(crate) fn played(alloc: Global, seed: u64, chain: &Chain) -> Result<Schedule, Memory> {
+    let mut schedule = Schedule::new(alloc, seed, chain)?;
     for _ in 0..EVENTS {
         schedule.grow(alloc)?;
     }
-    let is_right = is_serial(alloc, &mut schedule.world)?
-        && (!in_sql || is_serial_over_sql(alloc, schedule.events.as_slice())?);
-    ends.add_all(&schedule.ends);
-    Ok(is_right)
+    Ok(schedule)
 }
 
 /// Once more where memory ran out.

@@ -4,6 +4,7 @@ use crate::catalogues::EMP_AND_DEPT;
 use crate::desks::put_notice;
 use crate::statements::{catalog, empty, line};
 use catalog::catalogue::Catalog;
+use catalog::chain::Chain;
 use desk::refusal::Refusal;
 use meaning::whole::Whole;
 use reader::print_answer::print_answer;
@@ -67,8 +68,18 @@ fn events(alloc: Global, steps: &[Step]) -> Result<Vec<Event>, Memory> {
 /// A world over these relations.
 pub(crate) fn opened(alloc: Global, load: &str) -> Result<World<PlainDesk, PlainSite>, Memory> {
     let catalog = catalog(alloc, EMP_AND_DEPT)?;
+    opened_over(alloc, &alone(alloc, &catalog)?, load)
+}
+
+/// A world of these catalogues over these relations.
+pub(crate) fn opened_over(
+    alloc: Global,
+    chain: &Chain,
+    load: &str,
+) -> Result<World<PlainDesk, PlainSite>, Memory> {
+    let catalog = catalog(alloc, EMP_AND_DEPT)?;
     let whole = loaded(alloc, &catalog, load)?;
-    match open(alloc, &alone(alloc, &catalog)?, &whole) {
+    match open(alloc, chain, &whole) {
         Ok(world) => Ok(world),
         Err(_) => Err(Memory),
     }
