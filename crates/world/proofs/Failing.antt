@@ -31,8 +31,8 @@ use Rattle.world.specs.declared.fault.Fault.TheVariants as fault
 use Rattle.desk.specs.CatalogueDatabase.{IsBase, database}
 use Rattle.world.specs.Counted.{HaveRefused, NoFewer}
 use Rattle.world.specs.Fault.{FailsFor, is_memory}
-use Rattle.world.specs.Machines.{AreFit, Machines}
-use Rattle.world.specs.Settled.{AreDecided, AreThoseOf, brought_of}
+use Rattle.world.specs.Machines.{Machines}
+use Rattle.world.specs.Settled.{AreDecided, HasSitesOf, SettlesTo, brought_of}
 use Rattle.desk.specs.Place.{Place, home_in}
 use Rattle.world.proofs.DatabasePlaces.{home_there}
 use Rattle.world.proofs.DatabaseIsHoused.{housed, parts_fit}
@@ -55,16 +55,16 @@ pub fails_on : {T : Type 0} (result : Result T Fault) (told : Fault) (before aft
 fails_on (Ok done) told before after is why = tt
 fails_on (Err now) told before after is why = subst (FailsFor before after) (sym is) why
 
--- machines that are the same fit the same catalogue
-pub fit_still : (x y : List (List ℕ) × List SplitRelation) (one other : Machines) → y ≡ x → other ≡ one → AreFit (database (catalogue_of x)) one → AreFit (database (catalogue_of y)) other
-fit_still x y one other catalog same fit = subst (λ z. AreFit (database (catalogue_of z)) other) (sym catalog) (subst (AreFit (database (catalogue_of x))) (sym same) fit)
+-- machines that are the same have the same sites
+pub fit_still : (x y : List (List ℕ) × List SplitRelation) (one other : Machines) → y ≡ x → other ≡ one → HasSitesOf (catalogue_of x) one → HasSitesOf (catalogue_of y) other
+fit_still x y one other catalog same fit = subst (λ z. HasSitesOf (catalogue_of z) other) (sym catalog) (subst (HasSitesOf (catalogue_of x)) (sym same) fit)
 
 -- what came of fetches at the later ones is what they are to bring at the earlier ones
 pub came_so : (x y : List (List ℕ) × List SplitRelation) (one other : Machines) (whole : Relations) (decided : List Txn) (came : List FetchRows) (fetches : List Fetch) → y ≡ x → other ≡ one →
-    (AreFit (database (catalogue_of y)) other → AreThoseOf (database (catalogue_of y)) other whole → AreDecided other.table decided → came ≡ map (brought_of (database (catalogue_of y)) other.table.version whole) fetches) →
-    AreFit (database (catalogue_of x)) one → AreThoseOf (database (catalogue_of x)) one whole → AreDecided one.table decided → came ≡ map (brought_of (database (catalogue_of x)) one.table.version whole) fetches
+    (HasSitesOf (catalogue_of y) other → SettlesTo (catalogue_of y) other whole → AreDecided other.table decided → came ≡ map (brought_of (catalogue_of y) whole) fetches) →
+    HasSitesOf (catalogue_of x) one → SettlesTo (catalogue_of x) one whole → AreDecided one.table decided → came ≡ map (brought_of (catalogue_of x) whole) fetches
 came_so x y one other whole decided came fetches catalog same brings =
-    let Brings : List (List ℕ) × List SplitRelation → Machines → Type 0 = λ z machines. AreFit (database (catalogue_of z)) machines → AreThoseOf (database (catalogue_of z)) machines whole → AreDecided machines.table decided → came ≡ map (brought_of (database (catalogue_of z)) machines.table.version whole) fetches in
+    let Brings : List (List ℕ) × List SplitRelation → Machines → Type 0 = λ z machines. HasSitesOf (catalogue_of z) machines → SettlesTo (catalogue_of z) machines whole → AreDecided machines.table decided → came ≡ map (brought_of (catalogue_of z) whole) fetches in
     subst (Brings x) same (subst (λ z. Brings z other) catalog brings)
 
 -- ---- what fetches bring

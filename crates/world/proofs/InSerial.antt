@@ -14,7 +14,7 @@ use Rattle.protocol.specs.Local.{local}
 use Rattle.desk.specs.Database.{Database, language, statements}
 use Rattle.world.specs.declared.event.Entry.{Entry}
 use Rattle.world.specs.Machines.{Machines}
-use Rattle.world.specs.Runs.{AreTexts, IsRun, RunsAreSerial, relations_after}
+use Rattle.world.specs.Runs.{AreTexts, IsSerialRun, relations_after}
 use Rattle.world.specs.Settled.{AreThoseOf, ShowsSerial, rows_shown}
 use Rattle.world.specs.Replies.{committed_in, texts_of}
 use Rattle.meaning.proofs.Kept.{meaning_fits}
@@ -38,25 +38,21 @@ module _ (db : Database) (lawful : IsLawfulList local (statements db)) where
   serial_fits (txn ∷ txns) texts given whole spelled fits = serial_fits txns texts given _ spelled (after_fits (given txn) whole (statements_fit (texts txn) (given txn) (spelled txn)) fits)
 
   -- what is shown of each whole database that the fragments come to is shown of that of the serial run
-  pub shows_serial : (whole : Relations) (machines : Machines) (entries : List Entry) (past : List (Deed (language db))) (name : List ℕ) (shown : Option (List (List Value))) → RunsAreSerial db → IsRun db whole machines entries past →
+  pub shows_serial : (whole : Relations) (machines : Machines) (entries : List Entry) (name : List ℕ) (shown : Option (List (List Value))) → IsSerialRun db whole machines entries → FitsSchema db.schemas whole →
       ((after : Relations) → AreThoseOf db machines after → FitsSchema db.schemas after → shown ≡ rows_shown db after name) → ShowsSerial db whole entries name shown
-  shows_serial whole machines entries past name shown serial run shows =
-      let so = serial whole machines entries past run in
-      record {
-        statements = so.statements;
-        spelled = so.spelled;
-        rows = shows (relations_after db (map so.statements (committed_in entries)) whole) so.rebuilt (serial_fits (committed_in entries) (texts_of entries) so.statements whole so.spelled run.opens.is_whole);
-      }
+  shows_serial whole machines entries name shown so fits shows = record {
+    statements = so.statements;
+    spelled = so.spelled;
+    rows = shows (relations_after db (map so.statements (committed_in entries)) whole) so.rebuilt (serial_fits (committed_in entries) (texts_of entries) so.statements whole so.spelled fits);
+  }
 
   -- so of what a call shows, where it shows something
-  pub serial_shown : {T E : Type 0} (result : Result T E) (items : T → Option (List (List Value))) (whole : Relations) (machines : Machines) (entries : List Entry) (past : List (Deed (language db))) (name : List ℕ) → RunsAreSerial db → IsRun db whole machines entries past →
+  pub serial_shown : {T E : Type 0} (result : Result T E) (items : T → Option (List (List Value))) (whole : Relations) (machines : Machines) (entries : List Entry) (name : List ℕ) → IsSerialRun db whole machines entries → FitsSchema db.schemas whole →
       ((after : Relations) → AreThoseOf db machines after → FitsSchema db.schemas after → IfOk result (λ shown. items shown ≡ rows_shown db after name)) → IfOk result (λ shown. ShowsSerial db whole entries name (items shown))
-  serial_shown (Ok shown) items whole machines entries past name serial run shows = shows_serial whole machines entries past name (items shown) serial run shows
-  serial_shown (Err fault) items whole machines entries past name serial run shows = tt
+  serial_shown (Ok shown) items whole machines entries name so fits shows = shows_serial whole machines entries name (items shown) so fits shows
+  serial_shown (Err fault) items whole machines entries name so fits shows = tt
 
   -- what holds of each whole database that the fragments may come to holds after a run: they come to that of the serial run
-  pub serial_gives : (P : Type 0) (whole : Relations) (machines : Machines) (entries : List Entry) (past : List (Deed (language db))) → RunsAreSerial db → IsRun db whole machines entries past →
+  pub serial_gives : (P : Type 0) (whole : Relations) (machines : Machines) (entries : List Entry) → IsSerialRun db whole machines entries → FitsSchema db.schemas whole →
       ((after : Relations) → AreThoseOf db machines after → FitsSchema db.schemas after → P) → P
-  serial_gives P whole machines entries past serial run gives =
-      let so = serial whole machines entries past run in
-      gives (relations_after db (map so.statements (committed_in entries)) whole) so.rebuilt (serial_fits (committed_in entries) (texts_of entries) so.statements whole so.spelled run.opens.is_whole)
+  serial_gives P whole machines entries so fits gives = gives (relations_after db (map so.statements (committed_in entries)) whole) so.rebuilt (serial_fits (committed_in entries) (texts_of entries) so.statements whole so.spelled fits)

@@ -42,6 +42,7 @@ pub mod Counting
 pub mod Leaves
 pub mod Stops
 pub mod Failing
+pub mod Fragments
 pub mod Spared
 pub mod Deliveries
 pub mod Reaching

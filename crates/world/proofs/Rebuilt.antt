@@ -1,5 +1,5 @@
 -- What the settled fragments bring to the SELECT of all columns of a relation, and what it answers.
-use Rattle.std.proofs.Common.{◌≡◌, ◌<◌, ◌≤◌, refl, sym, ap, ap₂, ◌∙◌, subst, ℕ, zero, suc, ◌+◌, nat_eq, Bool, true, false, ◌||◌, List, [], ◌∷◌, map, filter, length, Option, Some, None, unwrap_or, option_map, arith}
+use Rattle.std.proofs.Common.{◌≡◌, ◌<◌, ◌≤◌, refl, sym, ap, ap₂, ◌∙◌, subst, ℕ, zero, suc, ◌+◌, nat_eq, Bool, true, false, ◌||◌, List, [], ◌∷◌, map, filter, length, Option, Some, None, is_some, unwrap_or, option_map, arith}
 use Rattle.std.specs.Cmp.Lexicographic.{pointwise}
 use Rattle.std.specs.FinMap as fin
 use Rattle.std.specs.List.{AllByRecursion, list_any, range_with_len, slice_get}
@@ -54,13 +54,13 @@ use Rattle.desk.specs.Transaction.{ask_of}
 use Rattle.desk.proofs.AtHomes.{found_so}
 use Rattle.desk.proofs.Explaining.{are_brought, stated_plainly}
 use Rattle.desk.specs.CatalogueDatabase.{IsBase, content_at, database}
-use Rattle.world.specs.Machines.{AreFit, Machines}
+use Rattle.world.specs.Machines.{Machines}
 use Rattle.world.specs.Sites.{Seat, seat_of, states_of}
-use Rattle.world.specs.Settled.{AreDecided, AreThoseOf, brought_of, everything, parts_kept, settled_at, settled_in}
+use Rattle.world.specs.Settled.{AreDecided, HasSitesOf, SettlesTo, brought_of, everything, parts_kept, settled_at, settled_in}
 use Rattle.world.proofs.DatabasePlaces.{content_nowhere, home_there}
 use Rattle.world.proofs.DatabaseIsStored.{values_stored}
 use Rattle.world.proofs.Seating.{name_is, name_self, seat_there}
-use Rattle.world.proofs.SettledSites.{kept_there, settled_there}
+use Rattle.world.proofs.SettledSites.{kept_there}
 
 -- ---- the site of a leaf of the catalogue is there
 named_there : (sites : List (List ℕ)) (number : ℕ) (site : List ℕ) → slice_get sites number ≡ Some site → list_any (λ other. pointwise nat_eq other site) sites ≡ true
@@ -75,7 +75,7 @@ named_there (first ∷ sites) (suc number) site there = go (pointwise nat_eq fir
     go false later = later
 
 -- where the machines fit a catalogue, there is a seat for the site that it has of a leaf
-pub site_seated : (catalogue : Catalogue) (machines : Machines) (leaf : Leaf) (place : List ℕ) → AreFit (database catalogue) machines → site_in catalogue leaf ≡ Some place → (seat : Seat) × (seat_of place machines.seats ≡ Some seat)
+pub site_seated : (catalogue : Catalogue) (machines : Machines) (leaf : Leaf) (place : List ℕ) → HasSitesOf catalogue machines → site_in catalogue leaf ≡ Some place → (seat : Seat) × (seat_of place machines.seats ≡ Some seat)
 site_seated catalogue machines leaf place fit is = go (leaf_named leaf (catalogue_leaves catalogue)) is
   where
     go : (o : Option FragmentLeaf) → option_and_then (λ (l : FragmentLeaf). slice_get catalogue.sites l.site) o ≡ Some place → (seat : Seat) × (seat_of place machines.seats ≡ Some seat)
@@ -83,7 +83,7 @@ site_seated catalogue machines leaf place fit is = go (leaf_named leaf (catalogu
     go (Some there) is = seat_there place machines.seats (subst (λ names. list_any (λ other. pointwise nat_eq other place) names ≡ true) (sym fit.names) (named_there catalogue.sites there.site place is))
 
 module _ (catalogue : Catalogue) (formed : IsFormed catalogue) where
-  seated : (machines : Machines) (leaf : Leaf) (there : FragmentLeaf) → AreFit (database catalogue) machines → leaf_named leaf (catalogue_leaves catalogue) ≡ Some there → (seat : Seat) × (seat_of (home_in catalogue leaf) machines.seats ≡ Some seat)
+  seated : (machines : Machines) (leaf : Leaf) (there : FragmentLeaf) → HasSitesOf catalogue machines → leaf_named leaf (catalogue_leaves catalogue) ≡ Some there → (seat : Seat) × (seat_of (home_in catalogue leaf) machines.seats ≡ Some seat)
   seated machines leaf there fit is =
       let site = home_in catalogue leaf in
       seat_there site machines.seats (subst (λ names. list_any (λ other. pointwise nat_eq other site) names ≡ true) (sym fit.names) (named_there catalogue.sites there.site site (home_there catalogue formed leaf there is)))
@@ -92,7 +92,7 @@ module _ (catalogue : Catalogue) (formed : IsFormed catalogue) where
   abbrev pub Found : Machines → List Txn → Leaf → Option (List (List Value)) → Type 0
   Found machines decided leaf shown = shown ≡ option_and_then (λ place. option_map (λ content. fin.values content) (settled_at decided leaf machines.seats place)) (site_in catalogue leaf)
 
-  at_home : (machines : Machines) (decided : List Txn) (leaf : Leaf) (there : FragmentLeaf) (shown : Option (List (List Value))) → AreFit (database catalogue) machines → leaf_named leaf (catalogue_leaves catalogue) ≡ Some there → Found machines decided leaf shown →
+  at_home : (machines : Machines) (decided : List Txn) (leaf : Leaf) (there : FragmentLeaf) (shown : Option (List (List Value))) → HasSitesOf catalogue machines → leaf_named leaf (catalogue_leaves catalogue) ≡ Some there → Found machines decided leaf shown →
       (content : Content) × (settled_at decided leaf machines.seats (home_in catalogue leaf) ≡ Some content) × (shown ≡ Some (fin.values content))
   at_home machines decided leaf there shown fit is so =
       let one = seated machines leaf there fit is in
@@ -107,21 +107,21 @@ module _ (catalogue : Catalogue) (formed : IsFormed catalogue) where
   not_there machines decided leaf shown is so = so ∙ ap (option_and_then (λ place. option_map (λ content. fin.values content) (settled_at decided leaf machines.seats place))) (ap (option_and_then (λ (l : FragmentLeaf). slice_get catalogue.sites l.site)) is)
 
   -- the parts that are kept
-  pub kept_is : (machines : Machines) (leaf : Leaf) (shown : Option (List (List Value))) → AreFit (database catalogue) machines → Found machines [] leaf shown → shown ≡ parts_kept (database catalogue) machines leaf
-  kept_is machines leaf shown fit so = go (leaf_named leaf (catalogue_leaves catalogue)) refl
+  pub kept_is : (db : Database) (machines : Machines) (leaf : Leaf) (shown : Option (List (List Value))) → db.catalogue machines.table.version ≡ catalogue → HasSitesOf catalogue machines → Found machines [] leaf shown → shown ≡ parts_kept db machines leaf
+  kept_is db machines leaf shown in_force fit so = go (leaf_named leaf (catalogue_leaves catalogue)) refl ∙ sym (ap (λ (c : Catalogue). shows (site_in c leaf)) in_force)
     where
       shows : Option (List ℕ) → Option (List (List Value))
-      shows place = option_map (λ site. fin.values ((states_of (statements (database catalogue)) machines.seats site).kept (site, leaf))) place
+      shows place = option_map (λ site. fin.values ((states_of (statements db) machines.seats site).kept (site, leaf))) place
 
-      go : (o : Option FragmentLeaf) → leaf_named leaf (catalogue_leaves catalogue) ≡ o → shown ≡ parts_kept (database catalogue) machines leaf
+      go : (o : Option FragmentLeaf) → leaf_named leaf (catalogue_leaves catalogue) ≡ o → shown ≡ shows (site_in catalogue leaf)
       go None is = not_there machines [] leaf shown is so ∙ sym (ap shows (ap (option_and_then (λ (l : FragmentLeaf). slice_get catalogue.sites l.site)) is))
       go (Some there) is =
           let one = at_home machines [] leaf there shown fit is so in
-          let kept = kept_there (database catalogue) machines leaf (home_in catalogue leaf) one.0 one.1 in
+          let kept = kept_there db machines leaf (home_in catalogue leaf) one.0 one.1 in
           one.2 ∙ ap (λ (content : Content). Some (fin.values content)) (sym kept) ∙ sym (ap shows (ap (option_and_then (λ (l : FragmentLeaf). slice_get catalogue.sites l.site)) is ∙ home_there catalogue formed leaf there is))
 
   -- what a fetch brings
-  pub brought_is : (machines : Machines) (whole : Relations) (decided : List Txn) (leaf : Leaf) (conds : List Cond) (shown : Option (List (List Value))) → AreFit (database catalogue) machines → AreThoseOf (database catalogue) machines whole → AreDecided machines.table decided → Found machines decided leaf shown →
+  pub brought_is : (machines : Machines) (whole : Relations) (decided : List Txn) (leaf : Leaf) (conds : List Cond) (shown : Option (List (List Value))) → HasSitesOf catalogue machines → SettlesTo catalogue machines whole → AreDecided machines.table decided → Found machines decided leaf shown →
       filter (conds_hold conds) (unwrap_or shown []) ≡ parts conds (content_at catalogue (placed_in catalogue leaf) whole)
   brought_is machines whole decided leaf conds shown fit those are so = go (leaf_named leaf (catalogue_leaves catalogue)) refl
     where
@@ -132,9 +132,8 @@ module _ (catalogue : Catalogue) (formed : IsFormed catalogue) where
           ∙ sym (ap (parts conds) (content_nowhere catalogue (home_in catalogue leaf) leaf whole is))
       go (Some there) is =
           let one = at_home machines decided leaf there shown fit is so in
-          let settled_so = settled_there (database catalogue) machines decided (placed_in catalogue leaf) one.0 are one.1 in
           ap (λ (o : Option (List (List Value))). filter (conds_hold conds) (unwrap_or o [])) one.2
-          ∙ ap (parts conds) (sym settled_so ∙ those (placed_in catalogue leaf))
+          ∙ ap (filter (conds_hold conds)) (those decided leaf one.0 are (ap is_some is) one.1)
 
 -- ---- a plan's fetches bring what they are to bring
 module _ (db : Database) (n : ℕ) (whole : Relations) where
@@ -149,19 +148,19 @@ module _ (db : Database) (n : ℕ) (whole : Relations) where
   all_given [] = tt
   all_given (fetch ∷ fetches) = (refl, all_given fetches)
 
-  all_brought : (fetches : List Fetch) → brought (map ghost_ask fetches) ≡ map (brought_of db n whole) fetches
+  all_brought : (fetches : List Fetch) → brought (map ghost_ask fetches) ≡ map (λ fetch. record { leaf = fetch.leaf; parts = parts fetch.conds (db.content n (placed_in (db.catalogue n) fetch.leaf) whole) }) fetches
   all_brought [] = refl
-  all_brought (fetch ∷ fetches) = ap (λ rest. brought_of db n whole fetch ∷ rest) (all_brought fetches)
+  all_brought (fetch ∷ fetches) = ap (λ rest. record { leaf = fetch.leaf; parts = parts fetch.conds (db.content n (placed_in (db.catalogue n) fetch.leaf) whole) } ∷ rest) (all_brought fetches)
 
-pub are_all_brought : (catalogue : Catalogue) → IsBase (database catalogue) → LeafNamesAreUnique → (n : ℕ) (stated : Statement) (reduced : Reduced) (whole : Relations) → IsStatementOf (schemas_of catalogue) stated → is_refragment stated ≡ false → AreFetchesOf catalogue stated reduced.fetches.items → FindsAll catalogue stated reduced.fetches.items (shape reduced.plan) →
-    FitsSchema (schemas_of catalogue) whole → (rows : List FetchRows) → rows ≡ map (brought_of (database catalogue) n whole) reduced.fetches.items → AreBrought catalogue whole reduced.fetches.items (given rows)
-are_all_brought catalogue base unique n stated reduced whole of stays fetches finds fits rows are =
+pub are_all_brought : (catalogue : Catalogue) → IsBase (database catalogue) → LeafNamesAreUnique → (stated : Statement) (reduced : Reduced) (whole : Relations) → IsStatementOf (schemas_of catalogue) stated → is_refragment stated ≡ false → AreFetchesOf catalogue stated reduced.fetches.items → FindsAll catalogue stated reduced.fetches.items (shape reduced.plan) →
+    FitsSchema (schemas_of catalogue) whole → (rows : List FetchRows) → rows ≡ map (brought_of catalogue whole) reduced.fetches.items → AreBrought catalogue whole reduced.fetches.items (given rows)
+are_all_brought catalogue base unique stated reduced whole of stays fetches finds fits rows are =
     let db = database catalogue in
-    let asks = map (ghost_ask db n whole) reduced.fetches.items in
+    let asks = map (ghost_ask db 0 whole) reduced.fetches.items in
     let plan : ReducedPlan = record { nodes = postfix (shape reduced.plan); fetches = reduced.fetches.items } in
-    let planned : IsOfPlan db n stated plan asks = record { statement = stated_plainly db n stated (record { of_schemas = of; stays = stays }); fetches = fetches; finds = subst (FindsAll catalogue stated reduced.fetches.items) (sym (plan_is (shape reduced.plan))) finds; in_order = in_order db n whole reduced.fetches.items } in
-    subst (λ rs. AreBrought catalogue whole reduced.fetches.items (given rs)) (all_brought db n whole reduced.fetches.items ∙ sym are)
-    (are_brought db base.of_catalogue n unique stated plan asks planned whole fits (all_given db n whole reduced.fetches.items))
+    let planned : IsOfPlan db 0 stated plan asks = record { statement = stated_plainly db 0 stated (record { of_schemas = of; stays = stays }); fetches = fetches; finds = subst (FindsAll catalogue stated reduced.fetches.items) (sym (plan_is (shape reduced.plan))) finds; in_order = in_order db 0 whole reduced.fetches.items } in
+    subst (λ rs. AreBrought catalogue whole reduced.fetches.items (given rs)) (all_brought db 0 whole reduced.fetches.items ∙ sym are)
+    (are_brought db base.of_catalogue 0 unique stated plan asks planned whole fits (all_given db 0 whole reduced.fetches.items))
 
 -- ---- the SELECT of all columns
 below : (first n : ℕ) → AllByRecursion (λ col. col < first + n) (range_with_len first n)

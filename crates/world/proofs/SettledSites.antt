@@ -62,8 +62,8 @@ is_some_list : (found : Option (List Voter)) → is_some (option_map of_desk.by_
 is_some_list None = refl
 is_some_list (Some voters) = refl
 
-pub decided_are : (db : Database) (kept after : of_desk.DeskContent) (table : desk_state.VolatileState) (all : DeskKept) → desk_state.Fits db kept table → of_desk.IsUnchanged kept after → of_desk.Lists after all → AreDecided table (map (λ row. row.txn) all.commits)
-decided_are db kept after table all fits same lists = λ txn. listed_among all.commits txn ∙ sym (is_some_list (of_desk.voters_in txn all.commits)) ∙ ap is_some (lists.rows txn ∙ same.commits txn ∙ sym (fits.rows txn))
+pub decided_are : (kept after : of_desk.DeskContent) (table : desk_state.VolatileState) (all : DeskKept) → ((txn : Txn) → kept_voters (table.standing txn) ≡ kept.commits txn) → of_desk.IsUnchanged kept after → of_desk.Lists after all → AreDecided table (map (λ row. row.txn) all.commits)
+decided_are kept after table all rows same lists = λ txn. listed_among all.commits txn ∙ sym (is_some_list (of_desk.voters_in txn all.commits)) ∙ ap is_some (lists.rows txn ∙ same.commits txn ∙ sym (rows txn))
 
 -- ---- the settled fragments of a site, at its own leaf
 module _ (db : Database) (table : desk_state.VolatileState) (decided : List Txn) (are : AreDecided table decided) (site : List ℕ) (leaf : Leaf) where

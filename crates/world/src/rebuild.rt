@@ -6,19 +6,19 @@ ghost use Rattle.std.specs.List.{AllByRecursion, Contains, filter};
 ghost use Rattle.std.specs.Option.{option_and_then, option_copied, option_map};
 ghost use Rattle.catalog.specs.Relation.{catalogue_of};
 ghost use Rattle.desk.specs.Database.{Database};
+ghost use Rattle.desk.specs.OfCatalogue.{InForce};
+ghost use Rattle.desk.specs.CatalogueDatabase.{database};
 ghost use Rattle.desk.specs.Place.{site_in};
 ghost use Rattle.world.specs.declared.fault.Fault.TheVariants as faults;
-ghost use Rattle.desk.specs.CatalogueDatabase.{database};
 ghost use Rattle.world.specs.Counted.{counts, counts_of};
 ghost use Rattle.world.specs.Fault.{FailsFor};
 ghost use Rattle.world.specs.Frame.{LeavesMachines, LeavesSites, StaysAsItIs};
 ghost use Rattle.store.specs.Frame.{LeavesStore};
 ghost use Rattle.world.specs.Contents.{OfStores, held};
-ghost use Rattle.world.specs.Machines.{AreFit};
 ghost use Rattle.world.specs.Sites.{IsSeated, Seat, seat_of};
 ghost use Rattle.world.specs.Seated.{seat_from, seats_in};
 ghost use Rattle.world.specs.Recovery.{StopsOpening};
-ghost use Rattle.world.specs.Settled.{AreDecided, parts_kept, settled_at, settled_in, AreThoseOf, brought_of, everything, rows_shown};
+ghost use Rattle.world.specs.Settled.{AreDecided, HasSitesOf, KnowsRows, SettlesTo, parts_kept, settled_at, settled_in, brought_of, everything, rows_shown};
 ghost use Rattle.terms.specs.declared.value.Value.{Value};
 ghost use Rattle.terms.specs.Cond.{conds_hold};
 ghost use Rattle.meaning.specs.declared.answer.Answer.TheVariants as answers;
@@ -125,7 +125,7 @@ pub(crate) fn decided<D: DeskStore, S: SiteStore>(
 ) -> Result<Vec<Txn>, Fault>
     ensures sent { result ≢ Err faults.Unsent }
     ensures leaves { LeavesMachines D.is_clean S.is_clean D.is_sound S.is_sound D.refused S.refused machines.old machines.new }
-    ensures all { (db : Database) → OfStores D.is_clean S.is_clean machines.new → OfStores D.is_sound S.is_sound machines.old → AreFit db (held D.kept S.kept machines.old) → IfOk result (λ all. AreDecided (held D.kept S.kept machines.old).table all.items) }
+    ensures all { OfStores D.is_clean S.is_clean machines.new → OfStores D.is_sound S.is_sound machines.old → KnowsRows (held D.kept S.kept machines.old) → IfOk result (λ all. AreDecided (held D.kept S.kept machines.old).table all.items) }
     ensures same { StaysAsItIs (OfStores D.is_clean S.is_clean) (OfStores D.is_sound S.is_sound) (held D.kept S.kept) machines.old machines.new }
     ensures fails { OfStores D.is_clean S.is_clean machines.new → OfStores D.is_sound S.is_sound machines.old → IfErr result (FailsFor (counts D.refused S.refused machines.old) (counts D.refused S.refused machines.new)) }
     ensures own { IfErr result StopsOpening }
@@ -154,7 +154,7 @@ pub(crate) fn settled_parts<D: DeskStore, S: SiteStore>(
     ensures parts { OfStores D.is_clean S.is_clean machines.new → OfStores D.is_sound S.is_sound machines.old → AllByRecursion IsSeated (held D.kept S.kept machines.old).seats
         → IfOk result (λ found. option_map (λ parts. parts.items) found ≡ option_and_then (λ place. option_map (λ content. fin.values content) (settled_at decided.now leaf.now (held D.kept S.kept machines.old).seats place)) (site_in (catalogue_of machines.old.desk.catalog) leaf.now)) }
     ensures same { StaysAsItIs (OfStores D.is_clean S.is_clean) (OfStores D.is_sound S.is_sound) (held D.kept S.kept) machines.old machines.new }
-    ensures fails { OfStores D.is_clean S.is_clean machines.new → OfStores D.is_sound S.is_sound machines.old → AreFit (database (catalogue_of machines.old.desk.catalog)) (held D.kept S.kept machines.old) → IfErr result (FailsFor (counts D.refused S.refused machines.old) (counts D.refused S.refused machines.new)) }
+    ensures fails { OfStores D.is_clean S.is_clean machines.new → OfStores D.is_sound S.is_sound machines.old → HasSitesOf (catalogue_of machines.old.desk.catalog) (held D.kept S.kept machines.old) → IfErr result (FailsFor (counts D.refused S.refused machines.old) (counts D.refused S.refused machines.new)) }
 {
     let Some(place) = site_in(machines.desk.catalog(), leaf) else {
         return Ok(None);
@@ -172,10 +172,10 @@ pub fn kept_parts<D: DeskStore, S: SiteStore>(
 ) -> Result<Option<Vec<Part>>, Fault>
     ensures sent { result ≢ Err faults.Unsent }
     ensures leaves { LeavesMachines D.is_clean S.is_clean D.is_sound S.is_sound D.refused S.refused machines.old machines.new }
-    ensures parts { OfStores D.is_clean S.is_clean machines.new → OfStores D.is_sound S.is_sound machines.old → AreFit (database (catalogue_of machines.old.desk.catalog)) (held D.kept S.kept machines.old)
-        → IfOk result (λ shown. option_map (λ parts. parts.items) shown ≡ parts_kept (database (catalogue_of machines.old.desk.catalog)) (held D.kept S.kept machines.old) leaf.now) }
+    ensures parts { (db : Database) → InForce db (held D.kept S.kept machines.old).table.version machines.old.desk.catalog → OfStores D.is_clean S.is_clean machines.new → OfStores D.is_sound S.is_sound machines.old → HasSitesOf (catalogue_of machines.old.desk.catalog) (held D.kept S.kept machines.old)
+        → IfOk result (λ shown. option_map (λ parts. parts.items) shown ≡ parts_kept db (held D.kept S.kept machines.old) leaf.now) }
     ensures same { StaysAsItIs (OfStores D.is_clean S.is_clean) (OfStores D.is_sound S.is_sound) (held D.kept S.kept) machines.old machines.new }
-    ensures fails { OfStores D.is_clean S.is_clean machines.new → OfStores D.is_sound S.is_sound machines.old → AreFit (database (catalogue_of machines.old.desk.catalog)) (held D.kept S.kept machines.old) → IfErr result (FailsFor (counts D.refused S.refused machines.old) (counts D.refused S.refused machines.new)) }
+    ensures fails { OfStores D.is_clean S.is_clean machines.new → OfStores D.is_sound S.is_sound machines.old → HasSitesOf (catalogue_of machines.old.desk.catalog) (held D.kept S.kept machines.old) → IfErr result (FailsFor (counts D.refused S.refused machines.old) (counts D.refused S.refused machines.new)) }
 {
     let _relations = machines.desk.catalog().relations();
     settled_parts(machines, &[], leaf)
@@ -247,9 +247,9 @@ fn bring_one<D: DeskStore, S: SiteStore>(
     ensures sent { result ≢ Err faults.Unsent }
     ensures leaves { LeavesMachines D.is_clean S.is_clean D.is_sound S.is_sound D.refused S.refused machines.old machines.new }
     ensures same { StaysAsItIs (OfStores D.is_clean S.is_clean) (OfStores D.is_sound S.is_sound) (held D.kept S.kept) machines.old machines.new }
-    ensures fails { OfStores D.is_clean S.is_clean machines.new → OfStores D.is_sound S.is_sound machines.old → AreFit (database (catalogue_of machines.old.desk.catalog)) (held D.kept S.kept machines.old) → IfErr result (FailsFor (counts D.refused S.refused machines.old) (counts D.refused S.refused machines.new)) }
-    ensures brought { (whole : Relations) → OfStores D.is_clean S.is_clean machines.new → OfStores D.is_sound S.is_sound machines.old → AreFit (database (catalogue_of machines.old.desk.catalog)) (held D.kept S.kept machines.old) → AreThoseOf (database (catalogue_of machines.old.desk.catalog)) (held D.kept S.kept machines.old) whole → AreDecided (held D.kept S.kept machines.old).table decided.now
-        → IfOk result (λ rows. rows ≡ brought_of (database (catalogue_of machines.old.desk.catalog)) machines.old.desk.volatile.version whole fetch.now) }
+    ensures fails { OfStores D.is_clean S.is_clean machines.new → OfStores D.is_sound S.is_sound machines.old → HasSitesOf (catalogue_of machines.old.desk.catalog) (held D.kept S.kept machines.old) → IfErr result (FailsFor (counts D.refused S.refused machines.old) (counts D.refused S.refused machines.new)) }
+    ensures brought { (whole : Relations) → OfStores D.is_clean S.is_clean machines.new → OfStores D.is_sound S.is_sound machines.old → HasSitesOf (catalogue_of machines.old.desk.catalog) (held D.kept S.kept machines.old) → SettlesTo (catalogue_of machines.old.desk.catalog) (held D.kept S.kept machines.old) whole → AreDecided (held D.kept S.kept machines.old).table decided.now
+        → IfOk result (λ rows. rows ≡ brought_of (catalogue_of machines.old.desk.catalog) whole fetch.now) }
 {
     database_is_of_catalogue(machines.desk.catalog());
     let found = settled_parts(machines, decided, &fetch.leaf)?;
@@ -269,9 +269,9 @@ fn bring<D: DeskStore, S: SiteStore>(
     ensures sent { result ≢ Err faults.Unsent }
     ensures leaves { LeavesMachines D.is_clean S.is_clean D.is_sound S.is_sound D.refused S.refused machines.old machines.new }
     ensures same { StaysAsItIs (OfStores D.is_clean S.is_clean) (OfStores D.is_sound S.is_sound) (held D.kept S.kept) machines.old machines.new }
-    ensures fails { OfStores D.is_clean S.is_clean machines.new → OfStores D.is_sound S.is_sound machines.old → AreFit (database (catalogue_of machines.old.desk.catalog)) (held D.kept S.kept machines.old) → IfErr result (FailsFor (counts D.refused S.refused machines.old) (counts D.refused S.refused machines.new)) }
-    ensures brought { (whole : Relations) → OfStores D.is_clean S.is_clean machines.new → OfStores D.is_sound S.is_sound machines.old → AreFit (database (catalogue_of machines.old.desk.catalog)) (held D.kept S.kept machines.old) → AreThoseOf (database (catalogue_of machines.old.desk.catalog)) (held D.kept S.kept machines.old) whole → AreDecided (held D.kept S.kept machines.old).table decided.now
-        → IfOk result (λ rows. rows.items ≡ map (brought_of (database (catalogue_of machines.old.desk.catalog)) machines.old.desk.volatile.version whole) fetches.now) }
+    ensures fails { OfStores D.is_clean S.is_clean machines.new → OfStores D.is_sound S.is_sound machines.old → HasSitesOf (catalogue_of machines.old.desk.catalog) (held D.kept S.kept machines.old) → IfErr result (FailsFor (counts D.refused S.refused machines.old) (counts D.refused S.refused machines.new)) }
+    ensures brought { (whole : Relations) → OfStores D.is_clean S.is_clean machines.new → OfStores D.is_sound S.is_sound machines.old → HasSitesOf (catalogue_of machines.old.desk.catalog) (held D.kept S.kept machines.old) → SettlesTo (catalogue_of machines.old.desk.catalog) (held D.kept S.kept machines.old) whole → AreDecided (held D.kept S.kept machines.old).table decided.now
+        → IfOk result (λ rows. rows.items ≡ map (brought_of (catalogue_of machines.old.desk.catalog) whole) fetches.now) }
 {
     let mut brought = Vec::new(machines.alloc);
     for fetch in fetches {
@@ -334,9 +334,9 @@ fn answer_settled<D: DeskStore, S: SiteStore>(
     ensures sent { result ≢ Err faults.Unsent }
     ensures leaves { LeavesMachines D.is_clean S.is_clean D.is_sound S.is_sound D.refused S.refused machines.old machines.new }
     ensures same { StaysAsItIs (OfStores D.is_clean S.is_clean) (OfStores D.is_sound S.is_sound) (held D.kept S.kept) machines.old machines.new }
-    ensures fails { (whole : Relations) → OfStores D.is_clean S.is_clean machines.new → OfStores D.is_sound S.is_sound machines.old → AreFit (database (catalogue_of machines.old.desk.catalog)) (held D.kept S.kept machines.old) → AreThoseOf (database (catalogue_of machines.old.desk.catalog)) (held D.kept S.kept machines.old) whole → FitsSchema (schemas_of (catalogue_of machines.old.desk.catalog)) whole
+    ensures fails { (whole : Relations) → OfStores D.is_clean S.is_clean machines.new → OfStores D.is_sound S.is_sound machines.old → HasSitesOf (catalogue_of machines.old.desk.catalog) (held D.kept S.kept machines.old) → SettlesTo (catalogue_of machines.old.desk.catalog) (held D.kept S.kept machines.old) whole → FitsSchema (schemas_of (catalogue_of machines.old.desk.catalog)) whole
         → IfErr result (FailsFor (counts D.refused S.refused machines.old) (counts D.refused S.refused machines.new)) }
-    ensures answer { (whole : Relations) → OfStores D.is_clean S.is_clean machines.new → OfStores D.is_sound S.is_sound machines.old → AreFit (database (catalogue_of machines.old.desk.catalog)) (held D.kept S.kept machines.old) → AreThoseOf (database (catalogue_of machines.old.desk.catalog)) (held D.kept S.kept machines.old) whole → FitsSchema (schemas_of (catalogue_of machines.old.desk.catalog)) whole
+    ensures answer { (whole : Relations) → OfStores D.is_clean S.is_clean machines.new → OfStores D.is_sound S.is_sound machines.old → HasSitesOf (catalogue_of machines.old.desk.catalog) (held D.kept S.kept machines.old) → SettlesTo (catalogue_of machines.old.desk.catalog) (held D.kept S.kept machines.old) whole → FitsSchema (schemas_of (catalogue_of machines.old.desk.catalog)) whole
         → IfOk result (λ answer. answer ≡ (meaning statement.now whole).0) }
 {
     leaf_names_are_unique();
@@ -376,9 +376,9 @@ pub fn rebuilt<D: DeskStore, S: SiteStore>(
     ensures sent { result ≢ Err faults.Unsent }
     ensures leaves { LeavesMachines D.is_clean S.is_clean D.is_sound S.is_sound D.refused S.refused machines.old machines.new }
     ensures same { StaysAsItIs (OfStores D.is_clean S.is_clean) (OfStores D.is_sound S.is_sound) (held D.kept S.kept) machines.old machines.new }
-    ensures fails { (whole : Relations) → OfStores D.is_clean S.is_clean machines.new → OfStores D.is_sound S.is_sound machines.old → AreFit (database (catalogue_of machines.old.desk.catalog)) (held D.kept S.kept machines.old) → AreThoseOf (database (catalogue_of machines.old.desk.catalog)) (held D.kept S.kept machines.old) whole → FitsSchema (schemas_of (catalogue_of machines.old.desk.catalog)) whole
+    ensures fails { (whole : Relations) → OfStores D.is_clean S.is_clean machines.new → OfStores D.is_sound S.is_sound machines.old → HasSitesOf (catalogue_of machines.old.desk.catalog) (held D.kept S.kept machines.old) → SettlesTo (catalogue_of machines.old.desk.catalog) (held D.kept S.kept machines.old) whole → FitsSchema (schemas_of (catalogue_of machines.old.desk.catalog)) whole
         → IfErr result (FailsFor (counts D.refused S.refused machines.old) (counts D.refused S.refused machines.new)) }
-    ensures rows { (whole : Relations) → OfStores D.is_clean S.is_clean machines.new → OfStores D.is_sound S.is_sound machines.old → AreFit (database (catalogue_of machines.old.desk.catalog)) (held D.kept S.kept machines.old) → AreThoseOf (database (catalogue_of machines.old.desk.catalog)) (held D.kept S.kept machines.old) whole → FitsSchema (schemas_of (catalogue_of machines.old.desk.catalog)) whole
+    ensures rows { (whole : Relations) → OfStores D.is_clean S.is_clean machines.new → OfStores D.is_sound S.is_sound machines.old → HasSitesOf (catalogue_of machines.old.desk.catalog) (held D.kept S.kept machines.old) → SettlesTo (catalogue_of machines.old.desk.catalog) (held D.kept S.kept machines.old) whole → FitsSchema (schemas_of (catalogue_of machines.old.desk.catalog)) whole
         → IfOk result (λ shown. option_map (λ rows. rows.items) shown ≡ rows_shown (database (catalogue_of machines.old.desk.catalog)) whole name.now) }
 {
     let alloc = machines.alloc;

@@ -513,6 +513,7 @@ impl<D: DeskStore, S: SiteStore> Solo<D, S> {
             → AreThoseOf (database (catalogue_of self.old.machines.desk.catalog)) (counted D.kept S.kept D.refused S.refused self.old.machines) whole → FitsSchema (schemas_of (catalogue_of self.old.machines.desk.catalog)) whole
             → IfErr result (FailsFor (counts D.refused S.refused self.old.machines) (counts D.refused S.refused self.new.machines)) }
     {
+        database_is_of_catalogue(self.machines.desk.catalog());
         one_client_is_a_run(self.machines.desk.catalog());
         rebuilt(&mut self.machines, relation)
     }

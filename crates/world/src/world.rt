@@ -26,7 +26,7 @@ ghost use Rattle.world.specs.Counted.{HaveRefused, counts};
 ghost use Rattle.world.specs.Fault.{FailsFor, is_memory};
 ghost use Rattle.world.specs.Following.{Follows, FollowsAtLeast, Happens};
 ghost use Rattle.world.specs.Frame.{CallsNoStore, LeavesDatabase, LeavesMachines, StaysAsItIs, StaysInForce, StaysOnErr};
-ghost use Rattle.world.specs.Listed.{IsListed, StandsIn};
+ghost use Rattle.world.specs.Listed.{FitsList, IsListed, StandsIn};
 ghost use Rattle.world.specs.Chain.{IsLast, StandsAt, sites_of};
 ghost use Rattle.world.specs.Contents.{OfGiven, OfStores, counted, held};
 ghost use Rattle.world.specs.Committed.{AnswerInTurn, committed_of};
@@ -44,7 +44,9 @@ ghost use Rattle.world.specs.Start.{AreNew};
 use crate::committed::{Committed, committed_in};
 use crate::event::{Entry, Event};
 use crate::fault::Fault;
-use crate::laws::{database_is_of_catalogue, language_is_lawful, runs_are_serial, runs_hold};
+use crate::laws::{
+    database_is_of_catalogue, language_is_lawful, list_runs_are_serial, runs_are_serial, runs_hold,
+};
 use crate::log::Log;
 use crate::machines::{Machines, apply_event};
 use crate::rebuild::{kept_parts, rebuilt};
@@ -282,9 +284,13 @@ impl<D: DeskStore, S: SiteStore> World<D, S> {
         ensures leaves { LeavesMachines D.is_clean S.is_clean D.is_sound S.is_sound D.refused S.refused self.old.machines self.new.machines }
         ensures parts { OfStores D.is_clean S.is_clean self.new.machines → OfStores D.is_sound S.is_sound self.old.machines → AreFit (database (catalogue_of self.old.machines.desk.catalog)) (held D.kept S.kept self.old.machines)
             → IfOk result (λ shown. option_map (λ parts. parts.items) shown ≡ parts_kept (database (catalogue_of self.old.machines.desk.catalog)) (held D.kept S.kept self.old.machines) leaf.now) }
+        ensures lists { (db : Database) → IsListed db → StandsIn db self.old.machines.desk → OfStores D.is_clean S.is_clean self.new.machines → OfStores D.is_sound S.is_sound self.old.machines → FitsList db (held D.kept S.kept self.old.machines)
+            → IfOk result (λ shown. option_map (λ parts. parts.items) shown ≡ parts_kept db (held D.kept S.kept self.old.machines) leaf.now) }
         ensures same { StaysAsItIs (OfStores D.is_clean S.is_clean) (OfStores D.is_sound S.is_sound) (held D.kept S.kept) self.old.machines self.new.machines }
         ensures entries { self.new.entries.items ≡ self.old.entries.items }
         ensures fails { OfStores D.is_clean S.is_clean self.new.machines → OfStores D.is_sound S.is_sound self.old.machines → AreFit (database (catalogue_of self.old.machines.desk.catalog)) (held D.kept S.kept self.old.machines)
+            → IfErr result (FailsFor (counts D.refused S.refused self.old.machines) (counts D.refused S.refused self.new.machines)) }
+        ensures fails_lists { (db : Database) → IsListed db → StandsIn db self.old.machines.desk → OfStores D.is_clean S.is_clean self.new.machines → OfStores D.is_sound S.is_sound self.old.machines → FitsList db (held D.kept S.kept self.old.machines)
             → IfErr result (FailsFor (counts D.refused S.refused self.old.machines) (counts D.refused S.refused self.new.machines)) }
     {
         kept_parts(&mut self.machines, leaf)
@@ -304,6 +310,9 @@ impl<D: DeskStore, S: SiteStore> World<D, S> {
             → OfStores D.is_clean S.is_clean self.new.machines → OfStores D.is_sound S.is_sound self.old.machines
             → IsRun (database (catalogue_of self.old.machines.desk.catalog)) whole (held D.kept S.kept self.old.machines) self.old.entries.items past
             → IfOk result (λ shown. ShowsSerial (database (catalogue_of self.old.machines.desk.catalog)) whole self.old.entries.items relation.now (option_map (λ rows. rows.items) shown)) }
+        ensures lists { (db : Database) (whole : Relations) (past : List (Deed (language db))) → IsListed db → StandsIn db self.old.machines.desk → OfStores D.is_clean S.is_clean self.new.machines → OfStores D.is_sound S.is_sound self.old.machines
+            → IsListRun db whole (held D.kept S.kept self.old.machines) self.old.entries.items past
+            → IfOk result (λ shown. ShowsSerial db whole self.old.entries.items relation.now (option_map (λ rows. rows.items) shown)) }
         ensures same { StaysAsItIs (OfStores D.is_clean S.is_clean) (OfStores D.is_sound S.is_sound) (held D.kept S.kept) self.old.machines self.new.machines }
         ensures entries { self.new.entries.items ≡ self.old.entries.items }
         ensures fails_after { (whole : Relations) (past : List (Deed (language (database (catalogue_of self.old.machines.desk.catalog)))))
@@ -313,7 +322,12 @@ impl<D: DeskStore, S: SiteStore> World<D, S> {
         ensures fails { (whole : Relations) → OfStores D.is_clean S.is_clean self.new.machines → OfStores D.is_sound S.is_sound self.old.machines → AreFit (database (catalogue_of self.old.machines.desk.catalog)) (held D.kept S.kept self.old.machines)
             → AreThoseOf (database (catalogue_of self.old.machines.desk.catalog)) (held D.kept S.kept self.old.machines) whole → FitsSchema (schemas_of (catalogue_of self.old.machines.desk.catalog)) whole
             → IfErr result (FailsFor (counts D.refused S.refused self.old.machines) (counts D.refused S.refused self.new.machines)) }
+        ensures fails_lists { (db : Database) (whole : Relations) (past : List (Deed (language db))) → IsListed db → StandsIn db self.old.machines.desk → OfStores D.is_clean S.is_clean self.new.machines → OfStores D.is_sound S.is_sound self.old.machines
+            → IsListRun db whole (held D.kept S.kept self.old.machines) self.old.entries.items past
+            → IfErr result (FailsFor (counts D.refused S.refused self.old.machines) (counts D.refused S.refused self.new.machines)) }
     {
+        list_runs_are_serial();
+        database_is_of_catalogue(self.machines.desk.catalog());
         runs_are_serial(self.machines.desk.catalog());
         language_is_lawful(self.machines.desk.catalog());
         rebuilt(&mut self.machines, relation)

@@ -6,11 +6,10 @@ use Rattle.catalog.specs.declared.relation.SplitRelation.{SplitRelation}
 use Rattle.catalog.specs.Relation.{catalogue_of}
 use Rattle.plan.specs.declared.fetch.Fetch.{Fetch}
 use Rattle.answers.specs.declared.table.FetchRows.{FetchRows}
-use Rattle.desk.specs.CatalogueDatabase.{database}
 use Rattle.world.specs.Counted.{counts}
 use Rattle.world.specs.Contents.{OfStores, held}
-use Rattle.world.specs.Machines.{AreFit, Machines}
-use Rattle.world.specs.Settled.{AreDecided, AreThoseOf, brought_of}
+use Rattle.world.specs.Machines.{Machines}
+use Rattle.world.specs.Settled.{AreDecided, HasSitesOf, SettlesTo, brought_of}
 use Rattle.world.proofs.Counting.{no_fewer, no_fewer_then}
 use Rattle.world.proofs.Failing.{fails_on, fails_since, fit_still}
 use Rattle.world.proofs.rebuild.bring.Goals as goal
@@ -40,8 +39,8 @@ loop-fetch-preserved g c =
     let row = c.in_ok-bring_one.field-0 in
     let fetches = c.args.fetches.now in
     let i = c.loop-fetch.fetch-index in
-    let Brings : List (List ℕ) × List SplitRelation → Machines → Type 0 = λ x machines. (whole : Relations) → OfStores D.is_clean S.is_clean now → OfStores D.is_sound S.is_sound mid → AreFit (database (catalogue_of x)) machines → AreThoseOf (database (catalogue_of x)) machines whole →
-    AreDecided machines.table c.args.decided.now → row ≡ brought_of (database (catalogue_of x)) machines.table.version whole fetch in (
+    let Brings : List (List ℕ) × List SplitRelation → Machines → Type 0 = λ x machines. (whole : Relations) → OfStores D.is_clean S.is_clean now → OfStores D.is_sound S.is_sound mid → HasSitesOf (catalogue_of x) machines → SettlesTo (catalogue_of x) machines whole →
+    AreDecided machines.table c.args.decided.now → row ≡ brought_of (catalogue_of x) whole fetch in (
       λ clean. all.0 (step.leaves.clean clean),
       λ clean sound. step.leaves.sound clean (all.1 (step.leaves.clean clean) sound),
       λ clean sound. step.same clean (all.1 (step.leaves.clean clean) sound) ∙ all.2 (step.leaves.clean clean) sound,
@@ -51,7 +50,7 @@ loop-fetch-preserved g c =
           let mid_clean = step.leaves.clean clean in
           let mid_sound = all.1 mid_clean sound in
           let brings = subst (Brings start.desk.catalog) (all.2 mid_clean sound) (subst (λ x. Brings x (of mid)) all.3 step.brought) in
-          let bring = brought_of (database (catalogue_of start.desk.catalog)) start.desk.volatile.version whole in
+          let bring = brought_of (catalogue_of start.desk.catalog) whole in
           let one_more : take (i + 1) fetches ≡ take i fetches ++ fetch ∷ [] = take_more fetches i fetch c.loop-fetch-test.true ∙ ap (λ (f : Fetch). take i fetches ++ f ∷ []) (sym c.fetch-item.is) in
           c.in_ok-push.ensures.items
           ∙ ap₂ (λ (front : List FetchRows) (last : FetchRows). front ++ last ∷ []) (all.5 whole mid_clean sound fit those are) (brings whole clean mid_sound fit those are)
@@ -61,7 +60,7 @@ loop-fetch-preserved g c =
 
 pub returns-clause-brought : goal.returns-clause-brought
 returns-clause-brought g c = λ whole clean sound fit those are.
-    c.loop-fetch.invariant.5 whole clean sound fit those are ∙ ap (map (brought_of (database (catalogue_of c.args.machines.now.desk.catalog)) c.args.machines.now.desk.volatile.version whole)) (take_all c.loop-fetch.fetch-index c.args.fetches.now c.loop-fetch-test.false)
+    c.loop-fetch.invariant.5 whole clean sound fit those are ∙ ap (map (brought_of (catalogue_of c.args.machines.now.desk.catalog) whole)) (take_all c.loop-fetch.fetch-index c.args.fetches.now c.loop-fetch-test.false)
 
 pub returns-in_err-bring_one-clause-leaves : goal.returns-in_err-bring_one-clause-leaves
 returns-in_err-bring_one-clause-leaves g c = record {

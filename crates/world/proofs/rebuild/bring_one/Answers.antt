@@ -18,5 +18,5 @@ returns-clause-brought g c = λ whole clean sound fit those are.
     let found = option_map (λ parts. parts.items) c.in_ok-found.found in
     let rows : c.new.result ≡ parts fetch.conds (content_at catalogue (placed_in catalogue fetch.leaf) whole) =
     c.new.ensures ∙ c.meeting-parts.ensures ∙ ap (filter (conds_hold fetch.conds)) c.or_none.ensures
-    ∙ brought_is catalogue (base.of_catalogue.formed 0) before whole c.args.decided.now fetch.leaf fetch.conds found fit those are (c.in_ok-found.ensures.parts clean sound fit.sites) in
+    ∙ brought_is catalogue (base.of_catalogue.formed 0) before whole c.args.decided.now fetch.leaf fetch.conds found fit those are (c.in_ok-found.ensures.parts clean sound fit.seated) in
     λ i. record { leaf = c.in_ok-copy.ensures i; parts = rows i }

@@ -8,12 +8,12 @@ use Rattle.world.proofs.SettledSites.{decided_are}
 use Rattle.world.proofs.rebuild.decided.Goals as goal
 
 pub returns-clause-all : goal.returns-clause-all
-returns-clause-all g c = λ db clean sound fit.
+returns-clause-all g c = λ clean sound rows.
     let kept = g.D.DeskStore.kept in
     let desk = c.args.machines.now.desk in
     let all : c.in_ok-txns_of.field-0.items ≡ map (λ row. row.txn) c.in_ok-kept.kept.commits = c.in_ok-txns_of.ensures ∙ ap (map (λ row. row.txn)) c.as_slice.ensures in
     subst (AreDecided (volatile_of desk.volatile)) (sym all)
-    (decided_are db (kept desk.store) (kept c.kept.new.self.store) (volatile_of desk.volatile) c.in_ok-kept.kept fit.desk (c.kept.ensures.same clean.0 sound.0) (c.in_ok-kept.ensures.all clean.0))
+    (decided_are (kept desk.store) (kept c.kept.new.self.store) (volatile_of desk.volatile) c.in_ok-kept.kept rows (c.kept.ensures.same clean.0 sound.0) (c.in_ok-kept.ensures.all clean.0))
 
 pub returns-in_err-kept-clause-leaves : goal.returns-in_err-kept-clause-leaves
 returns-in_err-kept-clause-leaves g c = record {

@@ -13,4 +13,4 @@ pub returns-then-is_empty-clause-none : goal.returns-then-is_empty-clause-none
 returns-then-is_empty-clause-none g c = λ db clean sound fit txn.
     let left = c.in_ok-decided.field-0 in
     let none = nothing_left left.items (sym left.ok.0 ∙ eqb-true (vec_len left) 0 (sym c.is_empty.ensures ∙ c.if-is_empty.true)) in
-    subst (λ (txns : List Txn). is_among txns txn ≡ is_some (kept_voters ((held g.D.DeskStore.kept g.S.SiteStore.kept c.args.machines.now).table.standing txn))) none (c.in_ok-decided.ensures.all db clean sound fit txn)
+    subst (λ (txns : List Txn). is_among txns txn ≡ is_some (kept_voters ((held g.D.DeskStore.kept g.S.SiteStore.kept c.args.machines.now).table.standing txn))) none (c.in_ok-decided.ensures.all clean sound fit.desk.rows txn)

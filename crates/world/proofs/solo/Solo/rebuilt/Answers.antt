@@ -1,34 +1,57 @@
 -- Why `Solo::rebuilt` meets its contract.
-use Rattle.std.proofs.Common.{subst}
+use Rattle.std.proofs.Common.{refl, subst}
 use Rattle.catalog.specs.Relation.{catalogue_of}
 use Rattle.protocol.specs.Client.{ReachedLaw}
 use Rattle.desk.specs.Database.{language}
-use Rattle.desk.specs.CatalogueDatabase.{database}
+use Rattle.desk.specs.CatalogueDatabase.{IsBase, database}
 use Rattle.world.specs.Counted.{counts}
 use Rattle.world.specs.Contents.{counted, held}
 use Rattle.world.specs.Settled.{after_committed}
 use Rattle.world.proofs.Anew.{served_fits, served_rebuilds}
 use Rattle.world.proofs.Counting.{fit_uncounted}
+use Rattle.world.proofs.Fragments.{settles_to, sites_of_fit}
 use Rattle.world.proofs.solo.Solo.rebuilt.Goals as goal
 
 pub returns-clause-served : goal.returns-clause-served
 returns-clause-served g c = λ whole past clean sound served.
-    let db = database (catalogue_of c.args.self.now.machines.desk.catalog) in
+    let catalogue = catalogue_of c.args.self.now.machines.desk.catalog in
+    let db = database catalogue in
+    let before = held g.D.DeskStore.kept g.S.SiteStore.kept c.args.self.now.machines in
+    let count = counts g.D.DeskStore.refused g.S.SiteStore.refused c.args.self.now.machines in
+    let base = subst (λ x. IsBase (database (catalogue_of x))) c.catalog.ensures c.database_is_of_catalogue.ensures in
     let machines = counted g.D.DeskStore.kept g.S.SiteStore.kept g.D.DeskStore.refused g.S.SiteStore.refused c.args.self.now.machines in
-    let law = subst (λ x. ReachedLaw (language (database (catalogue_of x)))) c.catalog.ensures c.one_client_is_a_run.ensures in
-    c.rebuilt.ensures.rows (after_committed db past whole) clean sound (fit_uncounted db (held g.D.DeskStore.kept g.S.SiteStore.kept c.args.self.now.machines) (counts g.D.DeskStore.refused g.S.SiteStore.refused c.args.self.now.machines) served.fit) (served_rebuilds db law whole machines past served) (served_fits db law whole machines past served)
+    let law = subst (λ x. ReachedLaw (language (database (catalogue_of x)))) c.catalog-2.ensures c.one_client_is_a_run.ensures in
+    let after = after_committed db past whole in
+    let fits = served_fits db law whole machines past served in
+    c.rebuilt.ensures.rows after clean sound (sites_of_fit catalogue before (fit_uncounted db before count served.fit)) (settles_to db catalogue before after base.of_catalogue base.of_catalogue refl fits (served_rebuilds db law whole machines past served)) fits
 
 pub returns-clause-fails_after : goal.returns-clause-fails_after
 returns-clause-fails_after g c = λ whole past clean sound served.
-    let db = database (catalogue_of c.args.self.now.machines.desk.catalog) in
+    let catalogue = catalogue_of c.args.self.now.machines.desk.catalog in
+    let db = database catalogue in
+    let before = held g.D.DeskStore.kept g.S.SiteStore.kept c.args.self.now.machines in
+    let count = counts g.D.DeskStore.refused g.S.SiteStore.refused c.args.self.now.machines in
+    let base = subst (λ x. IsBase (database (catalogue_of x))) c.catalog.ensures c.database_is_of_catalogue.ensures in
     let machines = counted g.D.DeskStore.kept g.S.SiteStore.kept g.D.DeskStore.refused g.S.SiteStore.refused c.args.self.now.machines in
-    let law = subst (λ x. ReachedLaw (language (database (catalogue_of x)))) c.catalog.ensures c.one_client_is_a_run.ensures in
-    c.rebuilt.ensures.fails (after_committed db past whole) clean sound (fit_uncounted db (held g.D.DeskStore.kept g.S.SiteStore.kept c.args.self.now.machines) (counts g.D.DeskStore.refused g.S.SiteStore.refused c.args.self.now.machines) served.fit) (served_rebuilds db law whole machines past served) (served_fits db law whole machines past served)
+    let law = subst (λ x. ReachedLaw (language (database (catalogue_of x)))) c.catalog-2.ensures c.one_client_is_a_run.ensures in
+    let after = after_committed db past whole in
+    let fits = served_fits db law whole machines past served in
+    c.rebuilt.ensures.fails after clean sound (sites_of_fit catalogue before (fit_uncounted db before count served.fit)) (settles_to db catalogue before after base.of_catalogue base.of_catalogue refl fits (served_rebuilds db law whole machines past served)) fits
 
 pub returns-clause-rows : goal.returns-clause-rows
 returns-clause-rows g c = λ whole clean sound fit those fits.
-    c.rebuilt.ensures.rows whole clean sound (fit_uncounted (database (catalogue_of c.args.self.now.machines.desk.catalog)) (held g.D.DeskStore.kept g.S.SiteStore.kept c.args.self.now.machines) (counts g.D.DeskStore.refused g.S.SiteStore.refused c.args.self.now.machines) fit) those fits
+    let catalogue = catalogue_of c.args.self.now.machines.desk.catalog in
+    let db = database catalogue in
+    let before = held g.D.DeskStore.kept g.S.SiteStore.kept c.args.self.now.machines in
+    let count = counts g.D.DeskStore.refused g.S.SiteStore.refused c.args.self.now.machines in
+    let base = subst (λ x. IsBase (database (catalogue_of x))) c.catalog.ensures c.database_is_of_catalogue.ensures in
+    c.rebuilt.ensures.rows whole clean sound (sites_of_fit catalogue before (fit_uncounted db before count fit)) (settles_to db catalogue before whole base.of_catalogue base.of_catalogue refl fits those) fits
 
 pub returns-clause-fails : goal.returns-clause-fails
 returns-clause-fails g c = λ whole clean sound fit those fits.
-    c.rebuilt.ensures.fails whole clean sound (fit_uncounted (database (catalogue_of c.args.self.now.machines.desk.catalog)) (held g.D.DeskStore.kept g.S.SiteStore.kept c.args.self.now.machines) (counts g.D.DeskStore.refused g.S.SiteStore.refused c.args.self.now.machines) fit) those fits
+    let catalogue = catalogue_of c.args.self.now.machines.desk.catalog in
+    let db = database catalogue in
+    let before = held g.D.DeskStore.kept g.S.SiteStore.kept c.args.self.now.machines in
+    let count = counts g.D.DeskStore.refused g.S.SiteStore.refused c.args.self.now.machines in
+    let base = subst (λ x. IsBase (database (catalogue_of x))) c.catalog.ensures c.database_is_of_catalogue.ensures in
+    c.rebuilt.ensures.fails whole clean sound (sites_of_fit catalogue before (fit_uncounted db before count fit)) (settles_to db catalogue before whole base.of_catalogue base.of_catalogue refl fits those) fits
