@@ -174,6 +174,14 @@ impl Client {
         }
     }
 
+    /// A call was accepted, with these replies, or it was refused.
+    fn hears(&mut self, heard: Option<&[Notice]>) {
+        match heard {
+            Some(replies) => self.goes_on(replies),
+            None => self.is_done = true,
+        }
+    }
+
     fn is_slow(&self, letter: &Letter) -> bool {
         self.txn == Some(letter.txn) && letter.site.as_str() == self.slow_at
     }
@@ -340,11 +348,6 @@ impl Schedule {
         self.events.push(event.copy()?)?;
         let is_locked = self.is_locked(&event);
         let begins = matches!(event, Event::Call(Call::Refragment(_)));
-        let client = if place == MOVER {
-            self.mover.as_mut()
-        } else {
-            self.clients.get_mut(place)
-        };
         match self.world.step(event) {
             Ok(entry) => {
                 for _ in entry.out.letters.as_slice() {
@@ -353,20 +356,33 @@ impl Schedule {
                 self.ends.hear(entry.out.replies.as_slice(), is_locked);
                 if begins {
                     self.mover = Some(Client::mover(entry.out.replies.as_slice()));
-                } else if let Some(client) = client {
-                    client.goes_on(entry.out.replies.as_slice());
+                } else {
+                    let replies = Some(entry.out.replies.as_slice());
+                    follow(&mut self.mover, self.clients.as_mut_slice(), place, replies);
                 }
             }
             Err(Fault::Desk(Refusal::Memory)) => return Err(Memory),
             Err(Fault::Site(SiteFault::Memory)) => return Err(Memory),
             Err(Fault::Desk(Refusal::Busy | Refusal::NotAlone)) => {}
-            Err(_) => {
-                if let Some(client) = client {
-                    client.is_done = true;
-                }
-            }
+            Err(_) => follow(&mut self.mover, self.clients.as_mut_slice(), place, None),
         }
         Ok(())
+    }
+}
+
+/// The client at this place, if there is one, hears of its call.
+fn follow(
+    mover: &mut Option<Client>,
+    clients: &mut [Client],
+    place: usize,
+    heard: Option<&[Notice]>,
+) {
+    if place == MOVER {
+        if let Some(mover) = mover {
+            mover.hears(heard);
+        }
+    } else if let Some(client) = clients.get_mut(place) {
+        client.hears(heard);
     }
 }
 

@@ -9,10 +9,8 @@ use Rattle.meaning.specs.Whole.{FitsSchema, Relations, rows_of}
 use Rattle.catalog.specs.declared.fragment_leaf.FragmentLeaf.{FragmentLeaf}
 use Rattle.catalog.specs.Catalogue.{Catalogue}
 use Rattle.catalog.specs.Fragment.{content}
-use Rattle.catalog.specs.FragmentLeaf.{catalogue_leaves, is_name_of, leaf_named, schemas_of, unnamed}
+use Rattle.catalog.specs.FragmentLeaf.{catalogue_leaves, is_name_of, leaf_named, unnamed}
 use Rattle.plan.proofs.Fetched.{one_name}
-use Rattle.store.specs.declared.name.Txn.{Txn}
-use Rattle.store.specs.Content.{Content}
 use Rattle.desk.specs.CatalogueDatabase.{database, found}
 use Rattle.desk.specs.Database.{Database}
 use Rattle.desk.specs.OfCatalogue.{HasContent, IsOfCatalogue}
@@ -20,7 +18,7 @@ use Rattle.desk.specs.Place.{home_in, placed_in}
 use Rattle.desk.proofs.AtHomes.{found_so, site_is}
 use Rattle.world.specs.Machines.{AreFit, Machines}
 use Rattle.world.specs.Listed.{FitsList}
-use Rattle.world.specs.Settled.{AreDecided, AreThoseOf, HasSitesOf, SettlesTo, rows_shown, settled_at}
+use Rattle.world.specs.Settled.{AreThoseOf, HasSitesOf, SettlesTo, rows_shown}
 use Rattle.world.proofs.SettledSites.{settled_there}
 
 -- at its site a leaf has the parts that the fragment has of its relation

@@ -8,10 +8,9 @@ use Rattle.meaning.specs.Whole.{FitsSchema, Relations}
 use Rattle.reader.specs.declared.command.Command.TheVariants as command
 use Rattle.reader.proofs.FitsCommand.{text_fits}
 use Rattle.store.specs.declared.name.Txn.{Txn}
-use Rattle.protocol.specs.Desk.{Deed}
 use Rattle.protocol.specs.Catalogues.{IsLawfulList, whole_then}
 use Rattle.protocol.specs.Local.{local}
-use Rattle.desk.specs.Database.{Database, language, statements}
+use Rattle.desk.specs.Database.{Database, statements}
 use Rattle.world.specs.declared.event.Entry.{Entry}
 use Rattle.world.specs.Machines.{Machines}
 use Rattle.world.specs.Runs.{AreTexts, IsSerialRun, relations_after}

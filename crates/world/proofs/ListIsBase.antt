@@ -1,5 +1,5 @@
 -- The database of a chain has what its catalogues say.
-use Rattle.std.proofs.Common.{◌≡◌, refl, sym, ap, ◌∙◌, subst, None, ℕ, zero, suc, ◌==◌, Bool, List, [], ◌∷◌, map, if◌then◌else◌}
+use Rattle.std.proofs.Common.{◌≡◌, refl, sym, ap, ◌∙◌, subst, None, ℕ, zero, suc, Bool, List, [], ◌∷◌, map, if◌then◌else◌}
 use Rattle.std.specs.List.{AllByRecursion}
 use Rattle.meaning.specs.declared.schema.RelationSchema.{RelationSchema}
 use Rattle.meaning.specs.Statement.{IsStatementOf}
@@ -22,7 +22,7 @@ use Rattle.desk.specs.CatalogueDatabase.{IsBase, all_moves, database, databases,
 use Rattle.desk.specs.Database.{Database, language, sent, statements}
 use Rattle.desk.specs.Place.{move_in, write_in}
 use Rattle.world.specs.declared.event.Entry.{Entry}
-use Rattle.world.specs.Listed.{FitsList, IsListed, StandsIn}
+use Rattle.world.specs.Listed.{IsListed, StandsIn}
 use Rattle.world.specs.Machines.{Machines, world_of}
 use Rattle.world.specs.Posted.{letters_in}
 use Rattle.world.specs.Runs.{IsListRun}

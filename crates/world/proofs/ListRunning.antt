@@ -3,16 +3,13 @@ use Rattle.std.proofs.Common.{◌≡◌, refl, sym, ap, ◌∙◌, subst, ℕ, n
 use Rattle.std.specs.Cmp.Lexicographic.{pointwise}
 use Rattle.std.specs.List.{filter_map, list_any}
 use Rattle.meaning.specs.Whole.{Relations}
-use Rattle.meaning.specs.declared.statement.Statement.{Statement}
 use Rattle.meaning.specs.declared.statement.Statement.TheVariants as kinds
-use Rattle.reader.specs.declared.command.Command.TheVariants as command
-use Rattle.reader.specs.Command.{IsTextOf}
 use Rattle.store.specs.declared.letter.Letter as letters
 use Rattle.store.specs.declared.name.Txn as names
 use Rattle.protocol.specs.Accepted.{IsAccepted, stated_of}
-use Rattle.protocol.specs.Desk.{Choice, Commit_call, Deed, Give_up, Idle, Known, Request, Rollback, State, fresh_as, next_txn, on_request, on_state}
+use Rattle.protocol.specs.Desk.{Choice, Commit_call, Deed, Give_up, Idle, Known, Request, Rollback, State, fresh_as, next_txn, on_state}
 use Rattle.protocol.specs.Language.{Name}
-use Rattle.protocol.specs.Letter.{Letter, is_for_desk}
+use Rattle.protocol.specs.Letter.{is_for_desk}
 use Rattle.protocol.specs.Letters.{name_of, txn_name}
 use Rattle.protocol.specs.Serial.{phases_of}
 use Rattle.protocol.specs.Site.{on_give_up, site_after, site_restarted}
@@ -35,7 +32,7 @@ use Rattle.world.specs.declared.event.Event as events
 use Rattle.world.specs.declared.event.Event.TheVariants as event
 use Rattle.world.specs.Events.{IsEvent}
 use Rattle.world.specs.EventApplied.{IsAtSite}
-use Rattle.world.specs.Listed.{FitsList, ListAsked, ListBegun, ListCame, ListLeads, ListMoved, ListStated}
+use Rattle.world.specs.Listed.{ListAsked, ListBegun, ListCame, ListLeads, ListMoved, ListStated}
 use Rattle.world.specs.Machines.{Machines, happens_at, world_of}
 use Rattle.world.specs.Posted.{letters_in}
 use Rattle.world.specs.Replies.{AreStated, Shows, phased_by, text_by}

@@ -1,5 +1,5 @@
 -- Steps of one machine are steps of the world, whichever catalogue comes into force.
-use Rattle.std.proofs.Common.{arith, ◌≡◌, ◌≢◌, ◌⊎◌, refl, sym, ap, ◌∙◌, subst, ℕ, zero, suc, ◌==◌, ◌&&◌, not, Bool, true, false, List, [], ◌∷◌, ◌++◌, map, Option, Some, None, is_some, ⊎_elim, inl, inr, if◌then◌else◌, append_assoc, ◌||◌, Result, Ok, Err, OnErr}
+use Rattle.std.proofs.Common.{arith, ◌≡◌, ◌≢◌, ◌⊎◌, refl, sym, ap, ◌∙◌, subst, ℕ, suc, ◌==◌, ◌&&◌, not, Bool, true, false, List, [], ◌∷◌, ◌++◌, map, Option, Some, None, is_some, ⊎_elim, inl, inr, if◌then◌else◌, append_assoc, ◌||◌, Result, Ok, Err, OnErr}
 use Rattle.std.specs.List.{flat_map, list_all, list_any}
 use Rattle.std.proofs.lemmas.Bool.{eq-eqb}
 use Rattle.std.proofs.lemmas.Bool.Decides.{nat_tests}
@@ -39,7 +39,7 @@ use Rattle.desk.specs.Request.{txn_in}
 use Rattle.desk.specs.State.{Begins, Fits, Steps, VolatileState, anyone_moves, desk_of, txn_at, volatile_of}
 use Rattle.desk.specs.Transaction.{txn_of}
 use Rattle.desk.specs.Transition.{is_moving as desk_moving}
-use Rattle.desk.proofs.Raised.{TurnKeeps, letter_keeps, moving_is, moving_open, request_keeps}
+use Rattle.desk.proofs.Raised.{TurnKeeps, letter_keeps, moving_is, request_keeps}
 use Rattle.world.specs.Listed.{FitsList, ListAsked, ListCame, ListLeads, ListMoved, StandsIn}
 use Rattle.world.specs.declared.fault.Fault.{Fault}
 use Rattle.world.specs.declared.machines.Machines as code

@@ -1,5 +1,5 @@
 -- The catalogues of a chain have the same sites, and the first one has the number 1.
-use Rattle.std.proofs.Common.{◌≡◌, refl, sym, ap, ◌∙◌, inl, inr, ℕ, zero, suc, List, [], ◌∷◌, map}
+use Rattle.std.proofs.Common.{◌≡◌, sym, ap, ◌∙◌, inl, inr, ℕ, zero, suc, List, [], ◌∷◌, map}
 use Rattle.catalog.specs.declared.relation.SplitRelation.{SplitRelation}
 use Rattle.catalog.specs.Catalogue.{Catalogue}
 use Rattle.catalog.specs.Chain.{Follow, IsChain}

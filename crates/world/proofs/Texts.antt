@@ -5,7 +5,6 @@ use Rattle.store.specs.declared.name.Txn.{Txn}
 use Rattle.protocol.specs.Language.{same}
 use Rattle.protocol.specs.Letters.{txn_name}
 use Rattle.desk.specs.declared.reply.Notice.{Notice}
-use Rattle.world.specs.declared.event.Call as calls
 use Rattle.world.specs.declared.event.Call.TheVariants as call
 use Rattle.world.specs.declared.event.Entry.{Entry}
 use Rattle.world.specs.declared.event.Event as events

@@ -4,7 +4,6 @@ use Rattle.std.specs.List.{AllByRecursion, flat_map}
 use Rattle.meaning.specs.Whole.{FitsSchema, Relations}
 use Rattle.catalog.specs.Catalogue.{Catalogue}
 use Rattle.catalog.specs.FragmentLeaf.{schemas_of}
-use Rattle.catalog.specs.Relation.{catalogue_of}
 use Rattle.store.specs.declared.letter.Letter as letters
 use Rattle.store.specs.DeskContent as desk_content
 use Rattle.store.specs.DeskContent.{DeskContent}
@@ -32,7 +31,6 @@ use Rattle.desk.specs.Request.{IsOver}
 use Rattle.desk.specs.State.{IsMemory, desk_of, volatile_of}
 use Rattle.world.specs.declared.fault.Fault as faults
 use Rattle.world.specs.declared.fault.Fault.TheVariants.{Desk, Site as OfSite}
-use Rattle.world.specs.declared.machines.Machines as code
 use Rattle.world.specs.Client.{IsServed}
 use Rattle.world.specs.Leaves.{known_leaves}
 use Rattle.world.specs.Machines.{AreFit, Machines, world_of}

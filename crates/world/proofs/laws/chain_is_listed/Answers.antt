@@ -1,8 +1,7 @@
 -- Why `laws::chain_is_listed` meets its contract.
-use Rattle.std.proofs.Common.{subst, map}
+use Rattle.std.proofs.Common.{subst}
 use Rattle.std.specs.List.{AllByRecursion}
 use Rattle.catalog.specs.Catalogue.{IsValidCatalogue}
-use Rattle.catalog.specs.Chain.{IsChain}
 use Rattle.catalog.specs.Formed.{IsFormed}
 use Rattle.catalog.specs.Relation.{catalogue_of}
 use Rattle.world.proofs.DatabaseIsLawful.{is_base}

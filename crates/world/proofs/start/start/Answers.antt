@@ -8,10 +8,10 @@ use Rattle.world.specs.Contents.{held}
 use Rattle.world.proofs.Openings.{opens_of}
 use Rattle.std.proofs.Common.{◌≡◌, ◌∷◌, ◌∙◌, ap, map, List}
 use Rattle.std.specs.List.{AllByRecursion}
-use Rattle.catalog.specs.Catalogue.{Catalogue, IsValidCatalogue}
+use Rattle.catalog.specs.Catalogue.{Catalogue}
 use Rattle.catalog.specs.Chain.{Follow, IsChain}
 use Rattle.catalog.specs.Formed.{IsFormed}
-use Rattle.desk.specs.CatalogueDatabase.{databases, numbered}
+use Rattle.desk.specs.CatalogueDatabase.{databases}
 use Rattle.desk.specs.OfCatalogue.{from_number}
 use Rattle.world.proofs.ListIsBase.{head_is, list_started}
 use Rattle.world.proofs.ListIsLawful.{each_formed, formed_all}

@@ -1,6 +1,5 @@
 -- Why `start_desk` meets its contract.
-use Rattle.std.proofs.Common.{◌≡◌, refl, sym, ap, ◌∙◌, subst, List, map}
-use Rattle.catalog.specs.Catalogue.{Catalogue}
+use Rattle.std.proofs.Common.{◌≡◌, refl, sym, ap, ◌∙◌, subst, map}
 use Rattle.catalog.specs.Formed.{IsFormed}
 use Rattle.catalog.specs.Relation.{catalogue_of}
 use Rattle.store.specs.PlainDesk.{kept_of as desk_kept}

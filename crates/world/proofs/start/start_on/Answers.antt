@@ -1,5 +1,5 @@
 -- Why `start_on` meets its contract.
-use Rattle.std.proofs.Common.{refl, sym, ap, ◌∙◌, subst, length, List, [], ℕ}
+use Rattle.std.proofs.Common.{sym, ap, ◌∙◌, subst, length, List, [], ℕ}
 use Rattle.catalog.specs.Relation.{catalogue_of}
 use Rattle.reader.specs.Printable.{AreDistinct}
 use Rattle.world.specs.Contents.{held}

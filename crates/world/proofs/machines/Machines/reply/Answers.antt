@@ -9,7 +9,6 @@ use Rattle.world.proofs.OneCatalogue.{no_next, single_stays}
 use Rattle.world.proofs.SiteSteps.{if_ok}
 use Rattle.world.proofs.Reasoned.{desk_tells}
 use Rattle.world.proofs.Listing.{first_next, list_reply, list_stands}
-use Rattle.world.specs.Frame.{StaysInForce}
 use Rattle.world.proofs.Listing.{stays_where}
 use Rattle.world.proofs.machines.Machines.reply.Goals as goal
 

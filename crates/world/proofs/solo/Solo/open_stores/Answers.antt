@@ -4,7 +4,7 @@ use Rattle.std.proofs.lemmas.List.{length-map}
 use Rattle.catalog.specs.declared.relation.SplitRelation.{SplitRelation}
 use Rattle.catalog.specs.Relation.{catalogue_of}
 use Rattle.desk.specs.CatalogueDatabase.{database}
-use Rattle.world.specs.Chain.{IsLast, StandsLast}
+use Rattle.world.specs.Chain.{StandsLast}
 use Rattle.world.specs.Contents.{OfStores, counted, held}
 use Rattle.world.specs.Counted.{counts}
 use Rattle.world.specs.Machines.{AreFit, Machines}
