@@ -443,9 +443,12 @@ pub(crate) fn is_serial_over_sql(
 ) -> Result<bool, Memory> {
     let catalog = catalog(alloc, EMP_AND_DEPT)?;
     let whole = loaded(alloc, &catalog, LOAD)?;
-    let sites = site_stores(alloc, &catalog)?;
+    let Some(first) = chain.as_slice().first() else {
+        return Err(Memory);
+    };
+    let sites = site_stores(alloc, first)?;
     let desk = SqlDesk::memory(alloc).map_err(|_| Memory)?;
-    if sites.len() != catalog.sites().len() {
+    if sites.len() != first.sites().len() {
         return Err(Memory);
     }
     let Ok(mut world) = open_on(alloc, chain, &whole, sites, desk) else {
