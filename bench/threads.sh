@@ -1,9 +1,10 @@
 #!/usr/bin/env bash
 # Runs the tests of sites in threads, which stand in no crate, since they aren't wholly proved yet: a site that waits
-# for the other by a gate and by stores that meet, a write that is read back after a restart, locks inside BEGIN, and
-# what was told under another number, with another text, or twice. Each has its records woven.
-# Works on a copy of the repository, in which bench/threads/*.rt.in are two modules more of the crate `tests`, and
-# bench/threads/*.antt.in why functions of the first of them meet their contracts. Left to prove: that the stores which
+# for the other by a gate and by stores that meet, a write that is read back after a restart, locks inside BEGIN, a
+# relation that gets another split, and what was told under another number, with another text, or twice. Each has its
+# records woven.
+# Works on a copy of the repository, in which bench/threads/*.rt.in are modules more of the crate `tests`, and
+# bench/threads/*.antt.in why functions of `threads` meet their contracts. Left to prove: that the stores which
 # `opened_plainly` and `write_together` open have the leaves of their sites.
 #
 # usage: bench/threads.sh [ROUNDS]      runs them without proof, once without a word; ends with 1 where a test fails
@@ -14,7 +15,7 @@ room=$(mktemp -d)
 trap 'rm -rf "$room"' EXIT
 git clone -q "$top" "$room/it"
 cd "$room/it/crates/tests"
-for name in meeting threads; do
+for name in meeting threads another_split; do
     cp "$top/bench/threads/$name.rt.in" "src/$name.rt"
     printf '#[cfg(test)]\nmod %s;\n' "$name" >> src/lib.rt
 done

@@ -2,6 +2,7 @@
 use Rattle.std.proofs.Common.{◌≡◌, ◌++◌, ◌∷◌, ℕ, List, [], Option, None, ap, ap₂, length, append-nil, append_assoc, flat_map, map, refl, subst, sym, ◌∙◌}
 use Rattle.meaning.specs.declared.schema.RelationSchema.{RelationSchema}
 use Rattle.meaning.specs.Whole.{Relations}
+use Rattle.catalog.specs.declared.relation.SplitRelation.{SplitRelation}
 use Rattle.catalog.specs.Catalogue.{Catalogue}
 use Rattle.catalog.specs.Relation.{catalogue_of}
 use Rattle.store.specs.DeskContent.{DeskContent}
@@ -25,8 +26,10 @@ use Rattle.history.specs.declared.records.Past.{Past}
 use Rattle.history.specs.declared.told.Told.{Told}
 use Rattle.history.specs.declared.weave.WeaveFault as faults
 use Rattle.history.specs.DeskHistory.{desk_from}
+use Rattle.history.specs.Catalogues.{HadOne}
 use Rattle.history.specs.Records.{AreRecords, pasts_in}
 use Rattle.history.specs.Weaving.{machines_in}
+use Rattle.history.proofs.OneOpened.{none_later}
 use Rattle.terms.specs.declared.value.Value.{Value}
 use Rattle.world.specs.Frame.{StaysAsItIs}
 use Rattle.world.specs.Settled.{ShowsSerial}
@@ -98,21 +101,22 @@ module _ {D S : Type 0} (desk_is_clean desk_is_sound : D → Type 0) (desk_conte
   }
 
   -- histories without a fault are one run, and what is shown then is what its committed transactions make
-  pub one_run : (machines ended : code.Machines D S) (opening : DeskKept) (entries : List Entry) (pasts : List Past) (lists : List (List Told)) (names : List (List ℕ)) (shown : List Found) (verdict : Option faults.WeaveFault)
-      → AreRecords desk_is_clean desk_is_sound desk_content site_is_clean site_is_sound site_content machines opening entries pasts
+  pub one_run : (machines ended : code.Machines D S) (catalogs : List (List (List ℕ) × List SplitRelation)) (opening : DeskKept) (entries : List Entry) (pasts : List Past) (lists : List (List Told)) (names : List (List ℕ)) (shown : List Found) (verdict : Option faults.WeaveFault)
+      → AreRecords desk_is_clean desk_is_sound desk_content site_is_clean site_is_sound site_content machines catalogs opening entries pasts → HadOne catalogs machines.desk.catalog
       → ShowsFound desk_is_clean desk_is_sound desk_content site_is_clean site_is_sound site_content names machines ended shown
       → IsVerdict desk_is_clean desk_is_sound desk_content site_is_clean site_is_sound site_content machines opening entries pasts lists verdict
       → OfStores desk_is_clean site_is_clean ended → verdict ≡ None
       → IsOneRun desk_is_clean desk_is_sound desk_content site_is_clean site_is_sound site_content machines opening entries pasts lists shown
-  one_run machines ended opening entries pasts lists names shown verdict are found judged clean none =
+  one_run machines ended catalogs opening entries pasts lists names shown verdict are one found judged clean none =
       let db = database (catalogue_of machines.desk.catalog) in
       let last = desk_from desk_content machines.desk in
       let sites = pasts_in site_content machines.sites.items pasts in
       let clean_before = found.clean clean in
-      let sound : OfStores desk_is_sound site_is_sound machines = (are.desk_sound clean_before.0, are.sites_sound clean_before.1) in
+      let sound : OfStores desk_is_sound site_is_sound machines = (are.desk.sound clean_before.0, are.sites_sound clean_before.1) in
       let woven = subst (IsVerdict desk_is_clean desk_is_sound desk_content site_is_clean site_is_sound site_content machines opening entries pasts lists) none judged clean_before in
+      let later = none_later desk_is_clean desk_is_sound desk_content opening entries machines.desk catalogs are.desk one in
       let are_held : machines_in last sites ≡ held desk_content site_content machines =
-      λ i. record { desk = desk_content machines.desk.store; table = volatile_of machines.desk.volatile; seats = are.lasts i; later = sym are.single i; refused = [] } in
+      λ i. record { desk = desk_content machines.desk.store; table = volatile_of machines.desk.volatile; seats = are.lasts i; later = sym later i; refused = [] } in
       record {
         events = woven.0;
         weaves = woven.1;

@@ -6,6 +6,7 @@ use Rattle.std.specs.List.{AllByRecursion}
 use Rattle.terms.specs.declared.value.Value.{Value}
 use Rattle.meaning.specs.declared.schema.RelationSchema.{RelationSchema}
 use Rattle.meaning.specs.Whole.{Relations}
+use Rattle.catalog.specs.declared.relation.SplitRelation.{SplitRelation}
 use Rattle.catalog.specs.Catalogue.{Catalogue, IsValidCatalogue}
 use Rattle.catalog.specs.FragmentLeaf.{schemas_of}
 use Rattle.catalog.specs.Relation.{catalogue_of}
@@ -113,10 +114,11 @@ module _ {D S : Type 0} (desk_is_clean desk_is_sound : D → Type 0) (desk_conte
     pub conversations : List Conversation
     pub of_parts : AreOfParts parts conversations
     pub machines : code.Machines D S
+    pub catalogs : List (List (List ℕ) × List SplitRelation)
     pub opening : DeskKept
     pub entries : List Entry
     pub pasts : List Past
-    pub records : AreRecords desk_is_clean desk_is_sound desk_content site_is_clean site_is_sound site_content machines opening entries pasts
+    pub records : AreRecords desk_is_clean desk_is_sound desk_content site_is_clean site_is_sound site_content machines catalogs opening entries pasts
     pub catalog : catalogue_of machines.desk.catalog ≡ catalogue
     pub verdict : Option faults.WeaveFault
     pub judged : IsVerdict machines opening entries pasts (lists_told conversations) verdict

@@ -37,11 +37,11 @@ use std::thread::Threads;
 use std::time::Clock;
 use store::desk_store::DeskStore;
 use store::site_store::SiteStore;
-use terms::copy::TryCopy;
 use terms::memory::Memory;
 use wire::database::Database;
 use wire::fault::CallFault;
 use wire::gate::Ungated;
+use world::chain::alone;
 
 /// Why sessions at once don't come to their ends.
 #[derive(Drop)]
@@ -335,12 +335,12 @@ fn hold<
     requires one_each { length stores.sites.items ≡ length catalog.now.0 }
     requires leaves { HaveLeaves S.is_clean S.kept (catalogue_of catalog.now) stores.sites.items }
     ensures held { IfOk result (λ held. AreOfParts (map part_of parts.now) held.conversations.items) }
-    ensures records { IfOk result (λ held. AreRecords D.is_clean D.is_sound D.kept S.is_clean S.is_sound S.kept held.records.machines held.records.opening held.records.entries.items held.records.pasts.items) }
+    ensures records { IfOk result (λ held. AreRecords D.is_clean D.is_sound D.kept S.is_clean S.is_sound S.kept held.records.machines held.records.catalogs.items held.records.opening held.records.entries.items held.records.pasts.items) }
     ensures err { IfErr result StopsRun }
 {
     let OpenStores { sites, desk } = stores;
-    let own = catalog.copy()?;
-    let database = match Database::open(rt, alloc, own, sites, desk, Ungated) {
+    let chain = alone(alloc, catalog)?;
+    let database = match Database::open(rt, alloc, &chain, sites, desk, Ungated) {
         Ok(database) => database,
         Err(fault) => return Err(RunFault::Program(unopened(fault))),
     };

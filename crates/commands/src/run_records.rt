@@ -3,6 +3,7 @@
 ghost use Rattle.std.specs.Prelude.{◌≡◌, ◌++◌, ◌∷◌, [], List, IfErr, IfOk, IfSome, OnOk, flat_map, map, string_bytes};
 ghost use Rattle.catalog.specs.FragmentLeaf.{schemas_of};
 ghost use Rattle.catalog.specs.Relation.{catalogue_of};
+ghost use Rattle.history.specs.Catalogues.{HadOne};
 ghost use Rattle.history.specs.Picks.{rows_of};
 ghost use Rattle.history.specs.Records.{AreRecords};
 ghost use Rattle.commands.specs.Client.{IsOfClient};
@@ -40,19 +41,19 @@ pub struct Ran {
 }
 
 /// Judges the records of sessions that were at work at once, and shows the relations. Nothing where the records are of another
-/// catalogue.
+/// catalogue, or of several.
 pub fn conclude<'a, D: DeskStore + Drop, S: SiteStore + Drop>(
     alloc: Global,
     catalog: &Catalog,
     conversations: &[Conversation],
     records: Records<D, S>,
 ) -> Result<Option<Ran>, ProgramFault<'a>>
-    requires { AreRecords D.is_clean D.is_sound D.kept S.is_clean S.is_sound S.kept records.machines records.opening records.entries.items records.pasts.items }
+    requires { AreRecords D.is_clean D.is_sound D.kept S.is_clean S.is_sound S.kept records.machines records.catalogs.items records.opening records.entries.items records.pasts.items }
     ensures ok { (parts : List SessionPartNow) → AreOfParts parts conversations.now → IfOk result (λ ended. IfSome ended (λ ran. HasRun D.is_clean D.is_sound D.kept S.is_clean S.is_sound S.kept (catalogue_of catalog.now) parts (string_bytes ran.printed) ran.is_woven)) }
     ensures err { IfErr result IsOfClient }
 {
     let mut records = records;
-    if !is_same(records.catalog(), catalog) {
+    if !records.had_one() || !is_same(records.catalog(), catalog) {
         return Ok(None);
     }
     let verdict = verdict(alloc, &records, conversations)?;
@@ -74,7 +75,8 @@ fn verdict<D: DeskStore + Drop, S: SiteStore + Drop>(
     records: &Records<D, S>,
     conversations: &[Conversation],
 ) -> Result<Option<WeaveFault>, Memory>
-    requires { AreRecords D.is_clean D.is_sound D.kept S.is_clean S.is_sound S.kept records.now.machines records.now.opening records.now.entries.items records.now.pasts.items }
+    requires one { HadOne records.now.catalogs.items records.now.machines.desk.catalog }
+    requires records { AreRecords D.is_clean D.is_sound D.kept S.is_clean S.is_sound S.kept records.now.machines records.now.catalogs.items records.now.opening records.now.entries.items records.now.pasts.items }
     ensures { IfOk result (IsVerdict D.is_clean D.is_sound D.kept S.is_clean S.is_sound S.kept records.now.machines records.now.opening records.now.entries.items records.now.pasts.items (lists_told conversations.now)) }
 {
     let lists = lists_told(alloc, conversations)?;

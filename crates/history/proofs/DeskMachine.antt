@@ -18,8 +18,10 @@ use Rattle.desk.specs.Database.{Database, language, replied}
 use Rattle.desk.specs.Does.{States, Takes}
 use Rattle.desk.specs.Receive.{is_reply, is_strange}
 use Rattle.desk.specs.Recovery.{Restarts}
+use Rattle.desk.specs.Refragmented.{RefragmentsBy}
 use Rattle.desk.specs.Request.{txn_in}
-use Rattle.desk.specs.State.{Begins, Steps, volatile_of}
+use Rattle.desk.specs.State.{Begins, Steps, anyone_moves, volatile_of}
+use Rattle.desk.specs.Transition.{is_moving}
 use Rattle.world.specs.declared.event.Call as calls
 use Rattle.world.specs.declared.event.Call.TheVariants as call
 use Rattle.world.specs.declared.fault.Fault.{Fault}
@@ -61,7 +63,7 @@ on_all_with Q P (Ok x) all p = (all, p)
 on_all_with Q P (Err e) all p = tt
 
 -- ---- a letter that is not passed over is a site's reply
-said_is : (said : bodies.Body) (here : Bool) → not (is_reply said && here) ≡ false → ((reply : Reply) × (said ≡ body.Reply reply)) × (here ≡ true)
+pub said_is : (said : bodies.Body) (here : Bool) → not (is_reply said && here) ≡ false → ((reply : Reply) × (said ≡ body.Reply reply)) × (here ≡ true)
 said_is (body.Order order) here is = absurd cc
 said_is (body.Reply reply) true is = ((reply, refl), refl)
 said_is (body.Reply reply) false is = absurd cc
@@ -74,45 +76,54 @@ module _ (db : Database) (before after : DeskState) (result : Result Out Refusal
   abbrev AreKept : Type 0
   AreKept = IfOk result (λ out. out.kept ≡ true)
 
-  -- ---- what clients ask for
-  pub begin_accepts : (asked : calls.Call) → asked ≡ call.Begin → IfOk result (λ out. Begins db false before.table after.content after.table out.letters out.replies) → AreKept → AcceptsAll (input.Call asked)
-  begin_accepts asked is begins kept = subst (λ asked. AcceptsAll (input.Call asked)) (sym is)
-      (if_both result (λ out begun kept number. record { fit = record { fits = begun.fits; within = begun.within }; does = begun; kept = λ silent. kept }) begins kept)
+  -- ---- what clients ask for, which changes nothing in the store
+  module _ (stored : after.content ≡ before.content) where
+    pub begin_accepts : (asked : calls.Call) → asked ≡ call.Begin → OnOk result (anyone_moves before.table ≡ false) → IfOk result (λ out. Begins db false before.table after.content after.table out.letters out.replies) → AreKept → AcceptsAll (input.Call asked)
+    begin_accepts asked is still begins kept = subst (λ asked. AcceptsAll (input.Call asked)) (sym is)
+        (if_both result (λ out begun kept number. record { fit = record { fits = begun.1.fits; within = begun.1.within }; does = record { still = begun.0; begins = begun.1 }; kept = λ silent. kept; content = λ called. stored })
+        (on_with (anyone_moves before.table ≡ false) (λ (out : Out). Begins db false before.table after.content after.table out.letters out.replies) result still begins) kept)
 
-  abbrev Requests : Txn → protocol.Request (language db) → protocol.Choice (language db) → Out → Type 0
-  Requests txn request choice out = Steps db before.table after.content after.table txn (protocol.on_request (txn_name txn) choice request (txn_in db before.table txn)) out.letters out.replies
+    abbrev Requests : Txn → protocol.Request (language db) → protocol.Choice (language db) → Out → Type 0
+    Requests txn request choice out = Steps db before.table after.content after.table txn (protocol.on_request (txn_name txn) choice request (txn_in db before.table txn)) out.letters out.replies
 
-  requested : (asked : inputs.Input) (txn : Txn) (request : protocol.Request (language db)) → ((entry : Entry) → Asks db before txn request entry after → DeskDoes db asked before entry after) →
-      OnOk result (protocol.refusal request (txn_in db before.table txn) ≡ None) → ((choice : protocol.Choice (language db)) → IfOk result (Requests txn request choice)) → AreKept → AcceptsAll asked
-  requested asked txn request does unrefused steps kept =
-      if_both result (λ out so kept number. record {
-        fit = let step = so.1 (no_choice db) in record { fits = step.fits; within = step.within };
-        does = does (accepted number asked out) (record { accepted = so.0; steps = so.1 });
-        kept = λ silent. kept;
-      }) (on_with (protocol.refusal request (txn_in db before.table txn) ≡ None) (λ out. (choice : protocol.Choice (language db)) → Requests txn request choice out) result unrefused (if_all (Requests txn request) result steps)) kept
+    requested : (asked : inputs.Input) (txn : Txn) (request : protocol.Request (language db)) → ((entry : Entry) → Asks db before txn request entry after → DeskDoes db asked before entry after) →
+        OnOk result (protocol.refusal request (txn_in db before.table txn) ≡ None) → ((choice : protocol.Choice (language db)) → IfOk result (Requests txn request choice)) → AreKept → AcceptsAll asked
+    requested asked txn request does unrefused steps kept =
+        if_both result (λ out so kept number. record {
+          fit = let step = so.1 (no_choice db) in record { fits = step.fits; within = step.within };
+          does = does (accepted number asked out) (record { accepted = so.0; steps = so.1 });
+          kept = λ silent. kept;
+          content = λ called. stored;
+        }) (on_with (protocol.refusal request (txn_in db before.table txn) ≡ None) (λ out. (choice : protocol.Choice (language db)) → Requests txn request choice out) result unrefused (if_all (Requests txn request) result steps)) kept
 
-  pub commit_accepts : (asked : calls.Call) (txn : Txn) → asked ≡ call.Commit txn → OnOk result (protocol.refusal protocol.Commit_call (txn_in db before.table txn) ≡ None) → ((choice : protocol.Choice (language db)) → IfOk result (Requests txn protocol.Commit_call choice)) → AreKept → AcceptsAll (input.Call asked)
-  commit_accepts asked txn is unrefused steps kept = subst (λ asked. AcceptsAll (input.Call asked)) (sym is) (requested (input.Call (call.Commit txn)) txn protocol.Commit_call (λ entry asks. asks) unrefused steps kept)
+    pub commit_accepts : (asked : calls.Call) (txn : Txn) → asked ≡ call.Commit txn → OnOk result (protocol.refusal protocol.Commit_call (txn_in db before.table txn) ≡ None) → ((choice : protocol.Choice (language db)) → IfOk result (Requests txn protocol.Commit_call choice)) → AreKept → AcceptsAll (input.Call asked)
+    commit_accepts asked txn is unrefused steps kept = subst (λ asked. AcceptsAll (input.Call asked)) (sym is) (requested (input.Call (call.Commit txn)) txn protocol.Commit_call (λ entry asks. asks) unrefused steps kept)
 
-  pub rollback_accepts : (asked : calls.Call) (txn : Txn) → asked ≡ call.Rollback txn → OnOk result (protocol.refusal protocol.Rollback (txn_in db before.table txn) ≡ None) → ((choice : protocol.Choice (language db)) → IfOk result (Requests txn protocol.Rollback choice)) → AreKept → AcceptsAll (input.Call asked)
-  rollback_accepts asked txn is unrefused steps kept = subst (λ asked. AcceptsAll (input.Call asked)) (sym is) (requested (input.Call (call.Rollback txn)) txn protocol.Rollback (λ entry asks. asks) unrefused steps kept)
+    pub rollback_accepts : (asked : calls.Call) (txn : Txn) → asked ≡ call.Rollback txn → OnOk result (protocol.refusal protocol.Rollback (txn_in db before.table txn) ≡ None) → ((choice : protocol.Choice (language db)) → IfOk result (Requests txn protocol.Rollback choice)) → AreKept → AcceptsAll (input.Call asked)
+    rollback_accepts asked txn is unrefused steps kept = subst (λ asked. AcceptsAll (input.Call asked)) (sym is) (requested (input.Call (call.Rollback txn)) txn protocol.Rollback (λ entry asks. asks) unrefused steps kept)
 
-  pub give_up_accepts : (asked : calls.Call) (txn : Txn) → asked ≡ call.GiveUp txn → ((choice : protocol.Choice (language db)) → IfOk result (Requests txn protocol.Give_up choice)) → AreKept → AcceptsAll (input.Call asked)
-  give_up_accepts asked txn is steps kept = subst (λ asked. AcceptsAll (input.Call asked)) (sym is) (requested (input.Call (call.GiveUp txn)) txn protocol.Give_up (λ entry asks. asks) (on_any_ok result (give_up_accepted (txn_in db before.table txn))) steps kept)
+    pub give_up_accepts : (asked : calls.Call) (txn : Txn) → asked ≡ call.GiveUp txn → ((choice : protocol.Choice (language db)) → IfOk result (Requests txn protocol.Give_up choice)) → AreKept → AcceptsAll (input.Call asked)
+    give_up_accepts asked txn is steps kept = subst (λ asked. AcceptsAll (input.Call asked)) (sym is) (requested (input.Call (call.GiveUp txn)) txn protocol.Give_up (λ entry asks. asks) (on_any_ok result (give_up_accepted (txn_in db before.table txn))) steps kept)
 
-  pub statement_accepts : (asked : calls.Call) (txn : Txn) (text : List ℕ) → asked ≡ call.State txn text → ((statement : Statement) → OnOk result (protocol.refusal (protocol.State (before.table.version, statement)) (txn_in db before.table txn) ≡ None)) →
-      IfOk result (λ out. States db before.table after.content after.table txn text out.letters out.replies) → AreKept → AcceptsAll (input.Call asked)
-  statement_accepts asked txn text is unrefused states kept = subst (λ asked. AcceptsAll (input.Call asked)) (sym is)
-      (if_both result (λ out so kept number. record {
-        fit = record { fits = so.1.runs.steps.fits; within = so.1.runs.steps.within };
-        does = record { accepted = so.0; states = so.1 };
-        kept = λ silent. kept;
-      }) (on_all_with (λ (statement : Statement). protocol.refusal (protocol.State (before.table.version, statement)) (txn_in db before.table txn) ≡ None) (λ (out : Out). States db before.table after.content after.table txn text out.letters out.replies) result unrefused states) kept)
+    pub statement_accepts : (asked : calls.Call) (txn : Txn) (text : List ℕ) → asked ≡ call.State txn text → OnOk result (is_moving (before.table.standing txn) ≡ false) → ((statement : Statement) → OnOk result (protocol.refusal (protocol.State (before.table.version, statement)) (txn_in db before.table txn) ≡ None)) →
+        IfOk result (λ out. States db before.table after.content after.table txn text out.letters out.replies) → AreKept → AcceptsAll (input.Call asked)
+    statement_accepts asked txn text is still unrefused states kept = subst (λ asked. AcceptsAll (input.Call asked)) (sym is)
+        (if_both result (λ out so kept number. record {
+          fit = record { fits = so.1.1.runs.steps.fits; within = so.1.1.runs.steps.within };
+          does = record { still = so.0; accepted = so.1.0; states = so.1.1 };
+          kept = λ silent. kept;
+          content = λ called. stored;
+        }) (on_with (is_moving (before.table.standing txn) ≡ false) (λ (out : Out). ((statement : Statement) → protocol.refusal (protocol.State (before.table.version, statement)) (txn_in db before.table txn) ≡ None) × States db before.table after.content after.table txn text out.letters out.replies) result still
+        (on_all_with (λ (statement : Statement). protocol.refusal (protocol.State (before.table.version, statement)) (txn_in db before.table txn) ≡ None) (λ (out : Out). States db before.table after.content after.table txn text out.letters out.replies) result unrefused states)) kept)
+
+    pub refragment_accepts : (asked : calls.Call) (text : List ℕ) → asked ≡ call.Refragment text → IfOk result (λ out. RefragmentsBy db before.table after.content after.table text out.letters out.replies) → AreKept → AcceptsAll (input.Call asked)
+    refragment_accepts asked text is refragments kept = subst (λ asked. AcceptsAll (input.Call asked)) (sym is)
+        (if_both result (λ out moved kept number. record { fit = record { fits = moved.does.fits; within = moved.does.within }; does = moved; kept = λ silent. kept; content = λ called. stored }) refragments kept)
 
   -- ---- a restart
   pub restart_accepts : (asked : inputs.Input) → asked ≡ input.Restart → IfOk result (λ out. Restarts db before.table after.content after.table out.letters out.replies) → AreKept → AcceptsAll asked
   restart_accepts asked is restarts kept = subst AcceptsAll (sym is)
-      (if_both result (λ out restarted kept number. record { fit = record { fits = restarted.fits; within = restarted.within }; does = restarted; kept = λ silent. kept }) restarts kept)
+      (if_both result (λ out restarted kept number. record { fit = record { fits = restarted.fits; within = restarted.within }; does = restarted; kept = λ silent. kept; content = λ called. absurd cc }) restarts kept)
 
   -- ---- a letter
   module _ (letter : Letter) where
@@ -139,6 +150,7 @@ module _ (db : Database) (before after : DeskState) (result : Result Out Refusal
           fit = fit_after out fit still takes (is_strange db.sites letter) refl;
           does = record { strange = λ is. (still is, ((silent is).0, (silent is).1)); takes = takes };
           kept = λ silent. absurd cc;
+          content = λ called. absurd cc;
         }
         go (Err told) silent takes = tt
 

@@ -43,6 +43,7 @@ use Rattle.history.specs.Brought.{IsBroughtAt, event_of, happened_as, happened_b
 use Rattle.history.specs.DeskHistory.{Asks, DeskAnswers, DeskDoes, DeskState}
 use Rattle.history.specs.SiteHistory.{SiteAnswers, action_of}
 use Rattle.history.proofs.Opens.{machines_of}
+use Rattle.history.proofs.Unsplit.{NoneNext}
 
 -- a run goes on by what happened in an act, and the letters that were sent are those from before and the entry's
 pub record Goes (db : Database) (whole : Relations) (after : Machines) (entries : List world.Entry) (past : List (Deed (language db))) (entry : Entry) (happened : List world.Entry) : Type 0 where
@@ -62,7 +63,7 @@ module _ (db : Database) (whole : Relations) (before : Machines) (entries : List
   }
 
 -- ---- the coordinator
-module _ (db : Database) (whole : Relations) (before after : DeskState) (seats : List Seat) (entries : List world.Entry) (past : List (Deed (language db))) (n : ℕ) (entry : Entry) (so : IsRun db whole (machines_of before seats) entries past) where
+module _ (db : Database) (none : NoneNext db) (whole : Relations) (before after : DeskState) (seats : List Seat) (entries : List world.Entry) (past : List (Deed (language db))) (n : ℕ) (entry : Entry) (so : IsRun db whole (machines_of before seats) entries past) where
   abbrev desk_old : Machines
   desk_old = machines_of before seats
 
@@ -82,8 +83,8 @@ module _ (db : Database) (whole : Relations) (before after : DeskState) (seats :
   desk_goes (input.Call call.Begin) did brought =
       let w = world_of db desk_old (map (sent db) (letters_in entries)) past in
       let may = begins_in_force db desk_old so.fit.still (map (sent db) (letters_in entries)) past in
-      let leads = begin_leads db desk_old after.content after.table [] refl entry.letters entry.replies so.fit did in
-      steps db whole desk_old entries past entry so desk_new (event.Call call.Begin) (runs_on db whole desk_old desk_new entries past (event.Call call.Begin) out begins Begin so leads (if_true (may_begin w) (begins w) w may) refl (may, ap is_desk_within (sym did.state) ∙ did.within)
+      let leads = begin_leads db desk_old after.content after.table [] refl entry.letters entry.replies so.fit did.begins in
+      steps db whole desk_old entries past entry so desk_new (event.Call call.Begin) (runs_on db whole desk_old desk_new entries past (event.Call call.Begin) out begins Begin so leads (if_true (may_begin w) (begins w) w may) refl (may, ap is_desk_within (sym did.begins.state) ∙ did.begins.within)
       (silent_step db desk_old desk_new entry.letters entry.replies (event.Call call.Begin) begins leads refl refl (begins_silent (world_of db desk_old [] []) refl)))
   desk_goes (input.Call (call.State txn text)) did brought =
       let what = event.Call (call.State txn text) in
@@ -108,7 +109,7 @@ module _ (db : Database) (whole : Relations) (before after : DeskState) (seats :
       let said = reply_of letter.body brought.0.0 in
       steps db whole desk_old entries past entry so desk_new (event.Deliver n entry.kept) (comes_on db whole desk_old desk_new entries past out n letter entry.kept so brought.1
       (reply_leads db desk_old after.content after.table [] refl letter said.0 said.1 entry.kept entry.letters entry.replies so.fit (did.takes said.0 said.1 brought.0.1)))
-  desk_goes (input.Call (call.Refragment text)) did brought = absurd did
+  desk_goes (input.Call (call.Refragment text)) did brought = absurd (none before.table.version did.refragment.relation.name did.does.next)
   desk_goes (input.GiveUp ticket) did brought = absurd did
   desk_goes input.Inquire did brought = absurd did
   desk_goes input.Restart did brought =

@@ -10,7 +10,6 @@ use Rattle.desk.proofs.Acknowledged.{txn_is}
 use Rattle.desk.proofs.Txns.{same_txn, txn_same}
 use Rattle.desk.specs.declared.reply.Notice.{Notice}
 use Rattle.world.specs.declared.event.Call as calls
-use Rattle.world.specs.declared.event.Call.TheVariants as call
 use Rattle.world.specs.Replies.{is_txn}
 use Rattle.history.specs.declared.entry.Entry.{Entry}
 use Rattle.history.specs.Standing.{known_call}
@@ -33,23 +32,24 @@ noted last new txn asked updates other = elim (changed txn_cmp txn_cmp_total txn
 ]
 
 -- what was begun counts where nothing else does
-begun_last : (notices : List Notice) (txn : Txn) → later (begun_by notices txn) (Some call.Begin) ≡ Some call.Begin
-begun_last [] txn = refl
-begun_last (notice ∷ notices) txn = elim (is_txn notice.txn txn) as (λ b. later (if b then Some call.Begin else begun_by notices txn) (Some call.Begin) ≡ Some call.Begin) [ true ↦ refl | false ↦ begun_last notices txn ]
+begun_last : (call : calls.Call) (notices : List Notice) (txn : Txn) → later (begun_by call notices txn) (Some call) ≡ Some call
+begun_last call [] txn = refl
+begun_last call (notice ∷ notices) txn = elim (is_txn notice.txn txn) as (λ b. later (if b then Some call else begun_by call notices txn) (Some call) ≡ Some call) [ true ↦ refl | false ↦ begun_last call notices txn ]
 
 -- the notice counts before those behind it, or after them
-begun_first : (b : Bool) (notices : List Notice) (txn : Txn) (old : Option calls.Call) → later (begun_by notices txn) (later (if b then Some call.Begin else None) old) ≡ later (if b then Some call.Begin else begun_by notices txn) old
-begun_first true notices txn old = begun_last notices txn
-begun_first false notices txn old = refl
+begun_first : (call : calls.Call) (b : Bool) (notices : List Notice) (txn : Txn) (old : Option calls.Call) → later (begun_by call notices txn) (later (if b then Some call else None) old) ≡ later (if b then Some call else begun_by call notices txn) old
+begun_first call true notices txn old = begun_last call notices txn
+begun_first call false notices txn old = refl
 
 -- one notice more of transactions that have begun
-pub begun_more : (notices : List Notice) (i : ℕ) (notice : Notice) (last new : BTreeMap Txn (Bor calls.Call)) (asked : Bor calls.Call) (all : Option calls.Call) → i < length notices → notice ≡ get_or notices i notice → asked.now ≡ call.Begin → Updates txn_cmp last new notice.txn (Some asked)
-    → (txn : Txn) → later (begun_by (drop i notices) txn) (known_call last txn) ≡ all → later (begun_by (drop (i + 1) notices) txn) (known_call new txn) ≡ all
-begun_more notices i notice last new asked all h at is updates txn so =
+pub begun_more : (notices : List Notice) (i : ℕ) (notice : Notice) (last new : BTreeMap Txn (Bor calls.Call)) (asked : Bor calls.Call) (all : Option calls.Call) → i < length notices → notice ≡ get_or notices i notice → Updates txn_cmp last new notice.txn (Some asked)
+    → (txn : Txn) → later (begun_by asked.now (drop i notices) txn) (known_call last txn) ≡ all → later (begun_by asked.now (drop (i + 1) notices) txn) (known_call new txn) ≡ all
+begun_more notices i notice last new asked all h at updates txn so =
+    let call = asked.now in
     let rest = drop (i + 1) notices in
     let here : drop i notices ≡ notice ∷ rest = drop_more notices i notice h ∙ ap (λ first. first ∷ rest) (sym at) in
-    let now : known_call new txn ≡ later (if is_txn notice.txn txn then Some call.Begin else None) (known_call last txn) = noted last new notice.txn asked updates txn ∙ ap (λ what. later (if is_txn notice.txn txn then Some what else None) (known_call last txn)) is in
-    ap (later (begun_by rest txn)) now ∙ (begun_first (is_txn notice.txn txn) rest txn (known_call last txn) ∙ (ap (λ left. later (begun_by left txn) (known_call last txn)) (sym here) ∙ so))
+    let now : known_call new txn ≡ later (if is_txn notice.txn txn then Some call else None) (known_call last txn) = noted last new notice.txn asked updates txn in
+    ap (later (begun_by call rest txn)) now ∙ (begun_first call (is_txn notice.txn txn) rest txn (known_call last txn) ∙ (ap (λ left. later (begun_by call left txn) (known_call last txn)) (sym here) ∙ so))
 
 -- one entry more
 last_more : (txn : Txn) (so_far : Option calls.Call) (entries : List Entry) (entry : Entry) → last_call txn so_far (entries ++ entry ∷ []) ≡ later (accepted_in entry.fault entry txn) (last_call txn so_far entries)

@@ -21,9 +21,10 @@ use Rattle.history.specs.Replays.{Replays}
 use Rattle.history.specs.Weaving.{WovenAreRuns, WovenAreSerial, machines_in}
 use Rattle.history.proofs.Events.{Goes, desk_answers, site_answers}
 use Rattle.history.proofs.Opens.{first_run, firsts, machines_of}
+use Rattle.history.proofs.Unsplit.{NoneNext}
 use Rattle.history.proofs.Turns.{SitesReplay, act_of, all_replay, cell_here, cell_other, none_left, turn}
 
-module _ (db : Database) (whole : Relations) (distinct : AreDistinct db.sites) where
+module _ (db : Database) (none : NoneNext db) (whole : Relations) (distinct : AreDistinct db.sites) where
   -- machines after an act, from which the acts behind it lead on
   record Moved (entry : Entry) (acts : List (Act Entry)) (last : DeskState) (lasts : List Seat) (entries happened : List world.Entry) (past : List (Deed (language db))) : Type 0 where
     desk : DeskState
@@ -41,7 +42,7 @@ module _ (db : Database) (whole : Relations) (distinct : AreDistinct db.sites) w
       record {
         desk = played.0;
         seats = seats;
-        goes = desk_answers db whole desk played.0 seats entries past n entry so entry.fault played.1.0 brought;
+        goes = desk_answers db none whole desk played.0 seats entries past n entry so entry.fault played.1.0 brought;
         desk_left = played.1.1;
         sites_left = subst (λ rows. SitesReplay rows seats lasts) (fun_ext (λ c. cell_other zero (suc c) entry acts (λ e. omega (arith, e)))) sites_replay;
       }
@@ -72,10 +73,10 @@ module _ (db : Database) (whole : Relations) (distinct : AreDistinct db.sites) w
       (runs_further db whole (machines_of here.desk here.seats) (machines_of last lasts) (entries ++ one) ((entries ++ one) ++ rest) past here.goes.runs later)
 
 -- ---- the law
-pub woven_runs : (db : Database) → IsOfCatalogue db → WovenAreRuns db
-woven_runs db of whole opening entries last pasts acts happened recorded rebuilds merged did =
+pub woven_runs : (db : Database) → IsOfCatalogue db → NoneNext db → WovenAreRuns db
+woven_runs db of none whole opening entries last pasts acts happened recorded rebuilds merged did =
     let distinct : AreDistinct db.sites = subst AreDistinct (sym (of.sites zero)) (of.formed zero).distinct in
-    let run = goes_on db whole distinct acts recorded.desk.first last (firsts pasts recorded.sites) (map (λ past. past.last) pasts) [] happened [] (first_run db whole opening entries last pasts recorded rebuilds)
+    let run = goes_on db none whole distinct acts recorded.desk.first last (firsts pasts recorded.sites) (map (λ past. past.last) pasts) [] happened [] (first_run db whole opening entries last pasts recorded rebuilds)
     (subst (λ row. Replays (DeskMoves db) recorded.desk.first row last) (sym (merged.whole zero)) recorded.desk.replays) (all_replay (λ c. of_cell (suc c) acts) pasts recorded.sites (λ c. merged.whole (suc c))) did in
     (run.deeds, run.run_on)
 

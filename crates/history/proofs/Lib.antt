@@ -2,7 +2,10 @@
 pub mod Growing
 pub mod SiteCells
 pub mod DeskMachine
+pub mod Following
 pub mod DeskCells
+pub mod OneOpened
+pub mod Unsplit
 pub mod Opens
 pub mod Events
 pub mod Turns

@@ -2,6 +2,7 @@
 use Rattle.std.proofs.Common.{◌≡◌, refl, sym, ap, ◌∙◌, subst, ℕ, List, [], ◌∷◌, map}
 use Rattle.std.specs.List.{AllByRecursion}
 use Rattle.meaning.specs.Whole.{FitsSchema, Relations}
+use Rattle.catalog.specs.declared.relation.SplitRelation.{SplitRelation}
 use Rattle.catalog.specs.Catalogue.{Catalogue}
 use Rattle.catalog.specs.Formed.{IsFormed}
 use Rattle.catalog.specs.FragmentLeaf.{schemas_of}
@@ -27,6 +28,7 @@ use Rattle.history.specs.declared.merge.Unmerged.TheVariants as merged
 use Rattle.history.specs.declared.records.Past.{Past}
 use Rattle.history.specs.declared.told.Told.{Told}
 use Rattle.history.specs.declared.weave.WeaveFault.TheVariants as fault
+use Rattle.history.specs.Catalogues.{HadOne, HasFrom}
 use Rattle.history.specs.DeskHistory.{desk_from}
 use Rattle.history.specs.Records.{AreRecords, AreSitesOf, pasts_in}
 use Rattle.history.specs.Told.{AllStand}
@@ -68,8 +70,8 @@ module _ (c : Catalogue) (formed : IsFormed c) where
   sites_have n whole places (name ∷ names) (seat ∷ seats) are = (has_its (database c) n c whole seat formed places are.0.1, sites_have n whole places names seats are.1)
 
 module _ {D S : Type 0} (desk_is_clean desk_is_sound : D → Type 0) (desk_content : D → DeskContent) (site_is_clean site_is_sound : S → Type 0) (site_content : S → SiteContent)
-    (machines : Machines D S) (opening : DeskKept) (entries : List Entry) (pasts : List Past)
-    (records : AreRecords desk_is_clean desk_is_sound desk_content site_is_clean site_is_sound site_content machines opening entries pasts)
+    (machines : Machines D S) (catalogs : List (List (List ℕ) × List SplitRelation)) (opening : DeskKept) (entries : List Entry) (pasts : List Past) (one : HadOne catalogs machines.desk.catalog)
+    (records : AreRecords desk_is_clean desk_is_sound desk_content site_is_clean site_is_sound site_content machines catalogs opening entries pasts)
     (clean : OfStores desk_is_clean site_is_clean machines) (settled : IsSettled opening (map (λ (past : Past). past.opening) pasts)) where
   -- records of clean stores, at whose opening nothing was decided or in doubt, are those of a run
   recorded_in : (whole : Relations) → FitsSchema (schemas_of (catalogue_of machines.desk.catalog)) whole → AreRecorded (database (catalogue_of machines.desk.catalog)) opening entries (desk_from desk_content machines.desk) (pasts_in site_content machines.sites.items pasts)
@@ -81,7 +83,7 @@ module _ {D S : Type 0} (desk_is_clean desk_is_sound : D → Type 0) (desk_conte
       let last : SitePast → Seat = λ past. past.last in
       let have = sites_have c formed opening.version whole (placed c opening.version whole formed fits) c.sites (map (seat_from site_content) machines.sites.items) are in
       record {
-        desk = records.desk clean.0;
+        desk = (records.desk.replays clean.0 (database c) (record { base = records.base; has = subst (HasFrom (database c) opening.version) (sym one) (refl, tt) })).recorded;
         sites = records.recorded clean.1;
         names = sym (map_of_map last (λ (seat : Seat). seat.name) all) ∙ ap (map (λ (seat : Seat). seat.name)) records.lasts ∙ sites_named c formed c.sites (map (seat_from site_content) machines.sites.items) are;
         leaves = all_of_map last (HasLeaves (database c)) all (subst (AllByRecursion (HasLeaves (database c))) (sym records.lasts) have);

@@ -1,10 +1,13 @@
 -- The history of the coordinator: each entry is the protocol's step of what the coordinator was called for, or a refusal that changes nothing.
-use Rattle.std.specs.Prelude.{◌≡◌, ℕ, nat_eq, List, [], ◌∷◌, ◌++◌, Bool, true, false, Option, Some, None}
+use Rattle.std.specs.Prelude.{◌≡◌, ℕ, nat_eq, List, [], ◌∷◌, ◌++◌, map, Bool, true, false, Option, Some, None}
 use Rattle.std.specs.Cmp.Lexicographic.{pointwise}
 use Rattle.std.specs.List.{list_any}
 use Rattle.meaning.specs.declared.statement.Statement.{Statement}
+use Rattle.catalog.specs.declared.relation.SplitRelation.{SplitRelation}
+use Rattle.catalog.specs.Catalogue.{Catalogue}
 use Rattle.catalog.specs.Relation.{catalogue_of}
 use Rattle.protocol.specs.Desk as protocol
+use Rattle.protocol.specs.Language.{Name}
 use Rattle.protocol.specs.Letters.{txn_name}
 use Rattle.store.specs.declared.commit.DeskKept.{DeskKept}
 use Rattle.store.specs.declared.letter.Body.TheVariants as body
@@ -13,18 +16,20 @@ use Rattle.store.specs.declared.name.Txn.{Txn}
 use Rattle.store.specs.declared.reply.Reply.{Reply}
 use Rattle.store.specs.DeskContent.{DeskContent, Lists}
 use Rattle.desk.specs.declared.desk.Desk.{Desk}
-use Rattle.desk.specs.CatalogueDatabase.{IsBase, database}
 use Rattle.desk.specs.Database.{Database, language, replied}
 use Rattle.desk.specs.Does.{States, Takes}
 use Rattle.desk.specs.Receive.{is_strange}
 use Rattle.desk.specs.Recovery.{Restarts, Rises}
+use Rattle.desk.specs.Refragmented.{RefragmentsBy}
 use Rattle.desk.specs.Request.{txn_in}
-use Rattle.desk.specs.State.{Begins, Fits, Steps, VolatileState, desk_of, volatile_of}
+use Rattle.desk.specs.State.{Begins, Fits, Steps, VolatileState, anyone_moves, desk_of, volatile_of}
+use Rattle.desk.specs.Transition.{is_moving}
 use Rattle.world.specs.declared.event.Call.TheVariants as call
 use Rattle.world.specs.declared.fault.Fault as faults
 use Rattle.history.specs.declared.entry.Entry.{Entry}
 use Rattle.history.specs.declared.entry.Input as inputs
 use Rattle.history.specs.declared.entry.Input.TheVariants as input
+use Rattle.history.specs.Catalogues.{IsOfCatalogues, HasFrom, catalogs_after, catalogues_of}
 use Rattle.history.specs.Replays.{Replays}
 use Rattle.history.specs.SiteHistory.{is_kept}
 
@@ -42,13 +47,19 @@ module _ (db : Database) where
     pub fits : Fits db desk.content desk.table
     pub within : protocol.is_desk_within (desk_of db desk.table) ≡ true
 
+  -- a transaction begins, where none gives a relation another split
+  pub record AsksToBegin (before : DeskState) (entry : Entry) (after : DeskState) : Type 0 where
+    pub still : anyone_moves before.table ≡ false
+    pub begins : Begins db false before.table after.content after.table entry.letters entry.replies
+
   -- a request of a client is one that the protocol accepts, and is done
   pub record Asks (before : DeskState) (txn : Txn) (request : protocol.Request (language db)) (entry : Entry) (after : DeskState) : Type 0 where
     pub accepted : protocol.refusal request (txn_in db before.table txn) ≡ None
     pub steps : (choice : protocol.Choice (language db)) → Steps db before.table after.content after.table txn (protocol.on_request (txn_name txn) choice request (txn_in db before.table txn)) entry.letters entry.replies
 
-  -- a statement is one that the protocol accepts, and is done
+  -- a statement is one that the protocol accepts, and is done; its transaction gives no relation another split
   pub record AsksStatement (before : DeskState) (txn : Txn) (text : List ℕ) (entry : Entry) (after : DeskState) : Type 0 where
+    pub still : is_moving (before.table.standing txn) ≡ false
     pub accepted : (statement : Statement) → protocol.refusal (protocol.State (before.table.version, statement)) (txn_in db before.table txn) ≡ None
     pub states : States db before.table after.content after.table txn text entry.letters entry.replies
 
@@ -59,14 +70,14 @@ module _ (db : Database) where
         Takes db before.table after.content after.table letter.txn
         (λ choice. protocol.on_desk_letter (txn_name letter.txn) letter.site entry.kept choice (replied db letter.site reply) (txn_in db before.table letter.txn)) entry.letters entry.replies
 
-  -- what the coordinator makes of what it is called for; visits and inquiries are the sites', and where no catalogue comes next no relation gets another split
+  -- what the coordinator makes of what it is called for; visits and inquiries are the sites'
   abbrev pub DeskDoes : inputs.Input → DeskState → Entry → DeskState → Type 0
-  DeskDoes (input.Call call.Begin) before entry after = Begins db false before.table after.content after.table entry.letters entry.replies
+  DeskDoes (input.Call call.Begin) before entry after = AsksToBegin before entry after
   DeskDoes (input.Call (call.State txn text)) before entry after = AsksStatement before txn text entry after
   DeskDoes (input.Call (call.Commit txn)) before entry after = Asks before txn protocol.Commit_call entry after
   DeskDoes (input.Call (call.Rollback txn)) before entry after = Asks before txn protocol.Rollback entry after
   DeskDoes (input.Call (call.GiveUp txn)) before entry after = Asks before txn protocol.Give_up entry after
-  DeskDoes (input.Call (call.Refragment text)) before entry after = ⊥
+  DeskDoes (input.Call (call.Refragment text)) before entry after = RefragmentsBy db before.table after.content after.table text entry.letters entry.replies
   DeskDoes (input.Take letter) before entry after = TakesReply before letter entry after
   DeskDoes (input.GiveUp ticket) before entry after = ⊥
   DeskDoes input.Inquire before entry after = ⊥
@@ -77,11 +88,17 @@ module _ (db : Database) where
   is_silent (input.Take letter) = false
   is_silent other = true
 
-  -- a call is accepted: the coordinator makes the protocol's step
+  -- whether a client asks for something
+  abbrev pub is_call : inputs.Input → Bool
+  is_call (input.Call call) = true
+  is_call other = false
+
+  -- a call is accepted: the coordinator makes the protocol's step; what clients ask for changes nothing that the store keeps
   pub record DeskAccepts (before : DeskState) (entry : Entry) (after : DeskState) : Type 0 where
     pub fit : IsFit after
     pub does : DeskDoes entry.input before entry after
     pub kept : is_silent entry.input ≡ true → entry.kept ≡ true
+    pub content : is_call entry.input ≡ true → after.content ≡ before.content
 
   -- a call is refused: nothing has changed, and nothing is put out
   pub record DeskRefuses (before : DeskState) (entry : Entry) (told : faults.Fault) (after : DeskState) : Type 0 where
@@ -106,30 +123,40 @@ module _ (db : Database) where
     pub replays : Replays DeskMoves first entries last
     pub fit : IsFit last
 
--- what a cell has of the coordinator: contracts see the opening, the entries, and the coordinator
+-- what a cell has of the coordinator: contracts see the catalogues that it had at the opening, what its store kept then, the entries, and the coordinator
 pub record DeskHistory (D : Type 0) : Type 0 where
+  pub catalogs : List (List (List ℕ) × List SplitRelation)
   pub opening : DeskKept
   pub entries : List Entry
   pub desk : Desk D
 
--- it is so where the store is clean, which then is sound; no catalogue comes after the one in force
-pub record DeskHolds {D : Type 0} (is_clean is_sound : D → Type 0) (content : D → DeskContent) (opening : DeskKept) (entries : List Entry) (desk : Desk D) : Type 0 where
-  pub single : desk.later.items ≡ []
-  pub base : IsBase (database (catalogue_of desk.catalog))
-  pub sound : is_clean desk.store → is_sound desk.store
-  pub recorded : is_clean desk.store → DeskRecorded (database (catalogue_of desk.catalog)) opening entries (desk_from content desk)
+-- in a database the history replays; the catalogue in force has the number now, and those that come after it the numbers after that; where none does, nobody gives a relation another split
+pub record DeskReplays {D : Type 0} (db : Database) (content : D → DeskContent) (opening : DeskKept) (entries : List Entry) (desk : Desk D) : Type 0 where
+  pub recorded : DeskRecorded db opening entries (desk_from content desk)
+  pub has : HasFrom db desk.volatile.version (catalogues_of desk)
+  pub still : desk.later.items ≡ [] → (t : Name) → protocol.is_moving ((desk_of db (volatile_of desk.volatile)).txn t) ≡ false
 
--- a call has added its entry, and no other
+-- The catalogues are what is left of those at the opening. Where the store is clean, it is sound, and the history replays in each database that has these catalogues from the opening's number on.
+pub record DeskHolds {D : Type 0} (is_clean is_sound : D → Type 0) (content : D → DeskContent) (catalogs : List (List (List ℕ) × List SplitRelation)) (opening : DeskKept) (entries : List Entry) (desk : Desk D) : Type 0 where
+  pub passed : List Catalogue
+  pub left : map catalogue_of catalogs ≡ passed ++ catalogues_of desk
+  pub sound : is_clean desk.store → is_sound desk.store
+  pub replays : is_clean desk.store → (db : Database) → IsOfCatalogues db opening.version (map catalogue_of catalogs) → DeskReplays db content opening entries desk
+
+-- a call has added its entry, and no other; the next catalogue came into force by it only with another number
 pub record AddsDesk {D : Type 0} (is_clean : D → Type 0) (content : D → DeskContent) (old : DeskHistory D) (asked : inputs.Input) (entry : Entry) (new : DeskHistory D) : Type 0 where
   pub input : entry.input ≡ asked
   pub entries : new.entries ≡ old.entries ++ entry ∷ []
   pub opening : new.opening ≡ old.opening
-  pub catalog : new.desk.catalog ≡ old.desk.catalog
-  pub moves : is_clean new.desk.store → DeskMoves (database (catalogue_of new.desk.catalog)) (desk_from content old.desk) entry (desk_from content new.desk)
+  pub catalogs : new.catalogs ≡ old.catalogs
+  pub in_force : (new.desk.catalog, new.desk.later.items) ≡ catalogs_after asked old.desk new.desk.volatile.version
+  pub moves : is_clean new.desk.store → (db : Database) → IsOfCatalogues db new.opening.version (map catalogue_of new.catalogs) → DeskMoves db (desk_from content old.desk) entry (desk_from content new.desk)
 
 -- a call has added none: the store may have been asked, but keeps what it kept, and the coordinator is as it was
 pub record StaysDesk {D : Type 0} (is_clean : D → Type 0) (content : D → DeskContent) (old new : DeskHistory D) : Type 0 where
   pub entries : new.entries ≡ old.entries
   pub opening : new.opening ≡ old.opening
+  pub catalogs : new.catalogs ≡ old.catalogs
   pub catalog : new.desk.catalog ≡ old.desk.catalog
+  pub later : new.desk.later.items ≡ old.desk.later.items
   pub same : is_clean new.desk.store → desk_from content new.desk ≡ desk_from content old.desk

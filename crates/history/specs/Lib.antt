@@ -2,6 +2,7 @@
 pub mod Replays
 pub mod Entries
 pub mod SiteHistory
+pub mod Catalogues
 pub mod DeskHistory
 pub mod Codes
 pub mod Called

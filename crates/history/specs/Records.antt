@@ -1,6 +1,7 @@
 -- The records of a database that has come to rest: its machines, and what each has done.
 use Rattle.std.specs.Prelude.{◌≡◌, ⊤, ℕ, List, [], ◌∷◌, map}
 use Rattle.std.specs.List.{AllByRecursion}
+use Rattle.catalog.specs.declared.relation.SplitRelation.{SplitRelation}
 use Rattle.catalog.specs.Catalogue.{Catalogue}
 use Rattle.catalog.specs.FragmentLeaf.{schemas_of}
 use Rattle.catalog.specs.Relation.{catalogue_of}
@@ -14,7 +15,7 @@ use Rattle.world.specs.declared.machines.Machines.{Machines}
 use Rattle.world.specs.Leaves.{known_leaves}
 use Rattle.history.specs.declared.entry.Entry.{Entry}
 use Rattle.history.specs.declared.records.Past.{Past}
-use Rattle.history.specs.DeskHistory.{DeskRecorded, desk_from}
+use Rattle.history.specs.DeskHistory.{DeskHolds}
 use Rattle.history.specs.SiteHistory.{SiteHistory, SiteHolds, SiteRecorded}
 use Rattle.history.specs.Weaving.{SitePast}
 
@@ -42,15 +43,14 @@ pub record AreTaken {S : Type 0} (is_clean is_sound : S → Type 0) (content : S
   pub histories : map (λ (past : Past). past.entries.items) pasts ≡ map (λ (cell : SiteHistory S). cell.entries) cells
   pub hold : AllByRecursion (λ (cell : SiteHistory S). SiteHolds is_clean is_sound content cell.opening cell.entries cell.site) cells
 
--- The machines are those of the catalogue, and their histories replay, from the opening to what they are now, where their stores are clean, which then are sound.
-pub record AreRecords {D S : Type 0} (desk_is_clean desk_is_sound : D → Type 0) (desk_content : D → DeskContent) (site_is_clean site_is_sound : S → Type 0) (site_content : S → SiteContent) (machines : Machines D S) (opening : DeskKept) (entries : List Entry) (pasts : List Past) : Type 0 where
-  pub single : machines.desk.later.items ≡ []
+-- The machines are those of the catalogue in force, which is left with those that come after it of the ones at the opening. Where their stores are clean, these are sound, and the histories replay from
+-- the opening to what the machines are now: the coordinator's in each database that has the catalogues from the opening's number on.
+pub record AreRecords {D S : Type 0} (desk_is_clean desk_is_sound : D → Type 0) (desk_content : D → DeskContent) (site_is_clean site_is_sound : S → Type 0) (site_content : S → SiteContent) (machines : Machines D S) (catalogs : List (List (List ℕ) × List SplitRelation)) (opening : DeskKept) (entries : List Entry) (pasts : List Past) : Type 0 where
   pub base : IsBase (database (catalogue_of machines.desk.catalog))
   pub sites : AllByRecursion (λ (site : Site S). site_is_clean site.store) machines.sites.items → AreSitesOf (catalogue_of machines.desk.catalog) machines.desk.catalog.0 (map (seat_from site_content) machines.sites.items)
   pub lasts : map (λ (past : SitePast). past.last) (pasts_in site_content machines.sites.items pasts) ≡ map (seat_from site_content) machines.sites.items
   pub openings : map (λ (past : SitePast). past.opening) (pasts_in site_content machines.sites.items pasts) ≡ map (λ (past : Past). past.opening) pasts
   pub histories : map (λ (past : SitePast). past.entries) (pasts_in site_content machines.sites.items pasts) ≡ map (λ (past : Past). past.entries.items) pasts
-  pub desk_sound : desk_is_clean machines.desk.store → desk_is_sound machines.desk.store
+  pub desk : DeskHolds desk_is_clean desk_is_sound desk_content catalogs opening entries machines.desk
   pub sites_sound : AllByRecursion (λ (site : Site S). site_is_clean site.store) machines.sites.items → AllByRecursion (λ (site : Site S). site_is_sound site.store) machines.sites.items
-  pub desk : desk_is_clean machines.desk.store → DeskRecorded (database (catalogue_of machines.desk.catalog)) opening entries (desk_from desk_content machines.desk)
   pub recorded : AllByRecursion (λ (site : Site S). site_is_clean site.store) machines.sites.items → AllByRecursion (λ (past : SitePast). SiteRecorded past.opening past.entries past.last) (pasts_in site_content machines.sites.items pasts)

@@ -17,18 +17,18 @@ use Rattle.history.specs.declared.entry.Input.TheVariants as input
 use Rattle.history.specs.declared.told.Told.{Told}
 use Rattle.history.specs.Merge.{Act, Breaks, IsMerged}
 
--- a reply that a transaction has begun names it
-abbrev pub begun_by : List Notice → Txn → Option calls.Call
-begun_by [] txn = None
-begun_by (notice ∷ notices) txn = if is_txn notice.txn txn then Some call.Begin else begun_by notices txn
+-- a reply names the transaction that a call began
+abbrev pub begun_by : calls.Call → List Notice → Txn → Option calls.Call
+begun_by asked [] txn = None
+begun_by asked (notice ∷ notices) txn = if is_txn notice.txn txn then Some asked else begun_by asked notices txn
 
 -- the call, where it is this transaction's
 abbrev pub call_of : calls.Call → List Notice → Txn → Option calls.Call
-call_of call.Begin notices txn = begun_by notices txn
+call_of call.Begin notices txn = begun_by call.Begin notices txn
 call_of (call.State other text) notices txn = if is_txn other txn then Some (call.State other text) else None
 call_of (call.Commit other) notices txn = if is_txn other txn then Some (call.Commit other) else None
 call_of (call.Rollback other) notices txn = if is_txn other txn then Some (call.Rollback other) else None
-call_of (call.Refragment text) notices txn = None
+call_of (call.Refragment text) notices txn = begun_by (call.Refragment text) notices txn
 call_of (call.GiveUp other) notices txn = if is_txn other txn then Some (call.GiveUp other) else None
 
 abbrev pub call_in : inputs.Input → List Notice → Txn → Option calls.Call

@@ -2,7 +2,6 @@
 
 ghost use Rattle.std.specs.Prelude.{◌≡◌, OnOk};
 ghost use Rattle.store.specs.declared.name.Txn.{Txn as TxnNow};
-ghost use Rattle.world.specs.declared.event.Call.TheVariants as calls;
 ghost use Rattle.history.specs.Standing.{known_call};
 ghost use Rattle.history.specs.Told.{accepted_in, begun_by, later};
 
@@ -24,9 +23,7 @@ pub(crate) fn note<'a>(last: &mut BTreeMap<Txn, &'a Call>, entry: &'a Entry) -> 
         return Ok(());
     };
     match call {
-        Call::Begin => note_begun(last, call, entry.replies.as_slice()),
-        // No relation gets another split where no catalogue comes next, so no entry of an accepted call is one.
-        Call::Refragment(_) => Ok(()),
+        Call::Begin | Call::Refragment(_) => note_begun(last, call, entry.replies.as_slice()),
         Call::State(txn, _) | Call::Commit(txn) | Call::Rollback(txn) | Call::GiveUp(txn) => {
             last.insert(*txn, call)?;
             Ok(())
@@ -40,8 +37,7 @@ fn note_begun<'a>(
     call: &'a Call,
     notices: &[Notice],
 ) -> Result<(), Memory>
-    requires { call.now ≡ calls.Begin }
-    ensures { OnOk result ((txn : TxnNow) → known_call last.new txn ≡ later (begun_by notices.now txn) (known_call last.old txn)) }
+    ensures { OnOk result ((txn : TxnNow) → known_call last.new txn ≡ later (begun_by call.entry.now notices.now txn) (known_call last.old txn)) }
 {
     for notice in notices {
         last.insert(notice.txn, call)?;

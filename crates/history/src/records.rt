@@ -15,6 +15,7 @@ ghost use Rattle.world.specs.Contents.{OfStores, held};
 ghost use Rattle.world.specs.Frame.{LeavesMachines, StaysAsItIs};
 ghost use Rattle.world.specs.Runs.{IsRun};
 ghost use Rattle.world.specs.Settled.{ShowsSerial};
+ghost use Rattle.history.specs.Catalogues.{HadOne};
 ghost use Rattle.history.specs.Records.{AreRecords, AreSitesOf, AreTaken};
 
 use crate::desk_cell::{DeskCell, DeskParts};
@@ -32,7 +33,7 @@ use terms::row::Row;
 use terms::same::{Same, same_all};
 use terms::text::Text;
 use world::fault::Fault;
-use world::laws::{language_is_lawful, runs_are_serial};
+use world::laws::{database_is_of_catalogue, language_is_lawful, runs_are_serial};
 use world::machines::Machines;
 use world::rebuild::rebuilt;
 use world::site_leaves::known_leaves;
@@ -45,10 +46,11 @@ pub struct Past {
     pub entries: Vec<Entry>,
 }
 
-/// The machines of a database as they are now, what their stores kept at the opening, and their histories.
+/// The machines of a database as they are now, their catalogues and what their stores kept at the opening, and their histories.
 #[derive(Drop)]
 pub struct Records<D: DeskStore, S: SiteStore> {
     machines: Machines<D, S>,
+    catalogs: Vec<Catalog>,
     opening: DeskKept,
     entries: Vec<Entry>,
     pasts: Vec<Past>,
@@ -134,14 +136,16 @@ impl<D: DeskStore + Drop, S: SiteStore + Drop> Records<D, S> {
         desk: DeskCell<D>,
         sites: Vec<SiteCell<S>>,
     ) -> Result<Records<D, S>, RecordsFault>
-        ensures records { IfOk result (λ records. AreRecords D.is_clean D.is_sound D.kept S.is_clean S.is_sound S.kept records.machines records.opening records.entries.items records.pasts.items) }
+        ensures records { IfOk result (λ records. AreRecords D.is_clean D.is_sound D.kept S.is_clean S.is_sound S.kept records.machines records.catalogs.items records.opening records.entries.items records.pasts.items) }
         ensures strangers { result ≡ Err RecordsFault.Strangers → AllByRecursion (λ site. S.is_clean site.store) (map (λ cell. cell.site) sites.items) → AreSitesOf (catalogue_of desk.desk.catalog) desk.desk.catalog.0 (map (seat_from S.kept) (map (λ cell. cell.site) sites.items)) → ⊥ }
     {
         let catalog = desk.catalog();
         if !are_sites_of(alloc, catalog, catalog.sites(), sites.as_slice())? {
             return Err(RecordsFault::Strangers);
         }
+        database_is_of_catalogue(catalog);
         let DeskParts {
+            catalogs,
             opening,
             entries,
             desk,
@@ -155,17 +159,32 @@ impl<D: DeskStore + Drop, S: SiteStore + Drop> Records<D, S> {
         };
         Ok(Records {
             machines,
+            catalogs,
             opening,
             entries,
             pasts,
         })
     }
 
-    /// The catalogue.
+    /// The catalogue in force.
     pub fn catalog(&self) -> &Catalog
         ensures { result.now ≡ self.now.machines.desk.catalog }
     {
         self.machines.desk.catalog()
+    }
+
+    /// The catalogues at the opening: the one in force then, and those that come after it.
+    pub fn catalogs(&self) -> &[Catalog]
+        ensures { result.now ≡ self.now.catalogs.items }
+    {
+        self.catalogs.as_slice()
+    }
+
+    /// Whether the opening had one catalogue, which is in force still.
+    pub fn had_one(&self) -> bool
+        ensures { AreRecords D.is_clean D.is_sound D.kept S.is_clean S.is_sound S.kept self.now.machines self.now.catalogs.items self.now.opening self.now.entries.items self.now.pasts.items → Decides result (HadOne self.now.catalogs.items self.now.machines.desk.catalog) }
+    {
+        self.catalogs.len() == 1
     }
 
     /// What the coordinator's store kept at the opening.

@@ -7,6 +7,7 @@ ghost use Rattle.catalog.specs.FragmentLeaf.{schemas_of};
 ghost use Rattle.catalog.specs.Relation.{catalogue_of};
 ghost use Rattle.desk.specs.CatalogueDatabase.{database};
 ghost use Rattle.world.specs.Contents.{OfStores};
+ghost use Rattle.history.specs.Catalogues.{HadOne};
 ghost use Rattle.history.specs.DeskHistory.{desk_from};
 ghost use Rattle.history.specs.Picks.{rows_of};
 ghost use Rattle.history.specs.Records.{AreRecords, pasts_in};
@@ -184,14 +185,15 @@ fn put_together(
 }
 
 /// Weaves the histories of records into the events of one run, if they are one, and what sessions were told stands in the
-/// coordinator's: the calls of all machines that were accepted, by their numbers.
+/// coordinator's: the calls of all machines that were accepted, by their numbers. That they are a run of the protocol is said where
+/// the opening had one catalogue.
 pub fn weave<D: DeskStore + Drop, S: SiteStore + Drop>(
     alloc: Global,
     records: &Records<D, S>,
     told: &[&[Told]],
 ) -> Result<Vec<Event>, WeaveFault>
     ensures woven { IfOk result (λ events. IsWoven (database (catalogue_of records.now.machines.desk.catalog)) records.now.entries.items (map (λ past. past.entries.items) records.now.pasts.items) (rows_of told.now) events.items) }
-    ensures run { OfStores D.is_clean S.is_clean records.now.machines → AreRecords D.is_clean D.is_sound D.kept S.is_clean S.is_sound S.kept records.now.machines records.now.opening records.now.entries.items records.now.pasts.items
+    ensures run { HadOne records.now.catalogs.items records.now.machines.desk.catalog → OfStores D.is_clean S.is_clean records.now.machines → AreRecords D.is_clean D.is_sound D.kept S.is_clean S.is_sound S.kept records.now.machines records.now.catalogs.items records.now.opening records.now.entries.items records.now.pasts.items
         → IfOk result (λ events. WeavesRun (database (catalogue_of records.now.machines.desk.catalog)) records.now.opening records.now.entries.items (desk_from D.kept records.now.machines.desk) (pasts_in S.kept records.now.machines.sites.items records.now.pasts.items) (rows_of told.now) events.items) }
     ensures not_a_run { (k : ℕ) → result ≡ Err (WeaveFault.NotARun k) → IsNotARun records.now.machines.desk.catalog.0 (records.now.entries.items ∷ map (λ past. past.entries.items) records.now.pasts.items) k }
     ensures not_settled { result ≡ Err WeaveFault.NotSettled → IsSettled records.now.opening (map (λ past. past.opening) records.now.pasts.items) → ⊥ }

@@ -64,10 +64,13 @@ desk_cell_send D store s =
     let fields : IsSend (inside.the_row D store) = declared_send (inside.the_type D store) (
       search sendable,
       (
-        as_row_send kept_row.the_field kept.the_field_send,
+        search (Crossing.crosses, knot.crosses, leaf.the_send, schema.the_field_send, text.the_send, conds.the_send, column.the_send, seq.the_send, sendable) depth 60 fits 20000,
         (
-          search (Crossing.crosses, entry.the_send, sendable) depth 60 fits 20000,
-          (as_row_send (desk.the_field D) (desk_send D s), tt),
+          as_row_send kept_row.the_field kept.the_field_send,
+          (
+            search (Crossing.crosses, entry.the_send, sendable) depth 60 fits 20000,
+            (as_row_send (desk.the_field D) (desk_send D s), tt),
+          ),
         ),
       ),
     ) in

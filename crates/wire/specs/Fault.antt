@@ -65,6 +65,10 @@ abbrev pub is_abort : faults.CallFault → Bool
 is_abort (Aborted why) = true
 is_abort other = false
 
+-- what a command is told that has no place in a transaction: that this is busy, unless it has aborted or memory ran out
+abbrev pub IsBusy : faults.CallFault → Type 0
+IsBusy told = (told ≡ Busy) ⊎ (told ≡ Memory) ⊎ (is_abort told ≡ true)
+
 -- what the reader says of a text, as a session's fault
 abbrev pub ReadsAs : Fault → faults.CallFault → Type 0
 ReadsAs fault told = ((fault.rule ≡ rules.Memory) × (told ≡ Memory)) ⊎ ((fault.rule ≢ rules.Memory) × (told ≡ Read fault))

@@ -18,6 +18,7 @@ use Rattle.wire.specs.declared.seat.Given.{Given}
 -- what the coordinator is called for, as an entry has it
 abbrev pub input_of : errands.Errand → inputs.Input
 input_of errand.Begin = input.Call call.Begin
+input_of (errand.Refragment text) = input.Call (call.Refragment text.now)
 input_of (errand.State txn text) = input.Call (call.State txn text.now)
 input_of (errand.Commit txn) = input.Call (call.Commit txn)
 input_of (errand.Rollback txn) = input.Call (call.Rollback txn)

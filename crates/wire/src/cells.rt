@@ -1,13 +1,18 @@
 //! The cells that a database begins with: its machines start over their stores.
 
-ghost use Rattle.std.specs.Prelude.{◌≡◌, [], IfOk, length};
+ghost use Rattle.std.specs.Prelude.{◌≡◌, ◌∷◌, [], ℕ, IfOk, List, length, map};
+ghost use Rattle.catalog.specs.declared.relation.SplitRelation.{SplitRelation};
+ghost use Rattle.catalog.specs.Catalogue.{Catalogue};
 ghost use Rattle.catalog.specs.FragmentLeaf.{schemas_of};
 ghost use Rattle.catalog.specs.Relation.{catalogue_of};
 ghost use Rattle.site.specs.State.{AreHad};
+ghost use Rattle.desk.specs.OfCatalogue.{from_number};
 ghost use Rattle.world.specs.Leaves.{known_leaves};
+ghost use Rattle.history.specs.Catalogues.{catalogues_of};
 ghost use Rattle.wire.specs.Opening.{AreFresh, HaveLeaves, IsFresh};
 
 use catalog::catalogue::Catalog;
+use catalog::chain::Chain;
 use desk::desk::Desk;
 use history::desk_cell::DeskCell;
 use history::site_cell::SiteCell;
@@ -18,9 +23,18 @@ use store::desk_store::DeskStore;
 use store::site_store::SiteStore;
 use terms::copy::TryCopy;
 use terms::text::Text;
-use world::chain::alone;
 use world::fault::Fault;
 use world::site_leaves::known_leaves;
+
+/// The first catalogue of a chain.
+pub(crate) fn first_of(chain: &Chain) -> &Catalog
+    ensures { (rest : List (List (List ℕ) × List SplitRelation)) × (chain.now ≡ result.now ∷ rest) }
+{
+    match chain.as_slice().split_first() {
+        Some((first, _)) => first,
+        None => unreachable!(),
+    }
+}
 
 /// The cells of sites that start over these stores, in the catalogue's order.
 #[tactic(auto, using(crate::proofs::SiteCells::next_fresh, crate::proofs::SiteCells::next_has))]
@@ -65,17 +79,18 @@ fn site_cell<S: SiteStore + Drop>(
     }
 }
 
-/// The cell of the coordinator, which starts over its store.
+/// The cell of the coordinator of a chain, which starts over its store: in force is the catalogue whose number that keeps.
 pub(crate) fn desk_cell<D: DeskStore + Drop>(
     alloc: Global,
-    catalog: &Catalog,
+    chain: &Chain,
     store: D,
 ) -> Result<DeskCell<D>, Fault>
     ensures entries { IfOk result (λ cell. cell.entries ≡ []) }
-    ensures catalog { IfOk result (λ cell. catalogue_of cell.desk.catalog ≡ catalogue_of catalog.now) }
+    ensures catalogs { IfOk result (λ cell. map catalogue_of cell.catalogs ≡ catalogues_of cell.desk) }
+    ensures in_force { IfOk result (λ cell. catalogues_of cell.desk ≡ from_number cell.desk.volatile.version (map catalogue_of chain.now)) }
+    ensures single { (catalogue : Catalogue) → map catalogue_of chain.now ≡ catalogue ∷ [] → IfOk result (λ cell. catalogue_of cell.desk.catalog ≡ catalogue) }
 {
-    let chain = alone(alloc, catalog)?;
-    let desk = match Desk::start(alloc, &chain, store) {
+    let desk = match Desk::start(alloc, chain, store) {
         Ok(desk) => desk,
         Err(unstarted) => return Err(Fault::Desk(unstarted.refusal)),
     };

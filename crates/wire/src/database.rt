@@ -1,11 +1,13 @@
 //! A database whose sites work in threads.
 
-ghost use Rattle.std.specs.Prelude.{◌≡◌, [], false, IfOk, length};
+ghost use Rattle.std.specs.Prelude.{◌≡◌, ◌∷◌, [], false, IfOk, List, length, map};
+ghost use Rattle.catalog.specs.Catalogue.{Catalogue};
 ghost use Rattle.catalog.specs.Relation.{catalogue_of};
+ghost use Rattle.world.specs.Chain.{sites_of};
 ghost use Rattle.history.specs.Records.{AreRecords};
 ghost use Rattle.wire.specs.Opening.{HaveLeaves};
 
-use crate::cells::{desk_cell, site_cells};
+use crate::cells::{desk_cell, first_of, site_cells};
 use crate::fault::CallFault;
 use crate::front::{Front, Way, Word};
 use crate::gate::Gate;
@@ -14,7 +16,7 @@ use crate::seat::Seats;
 use crate::session::Session;
 use crate::shared::Shared;
 use crate::worker::serve;
-use catalog::catalogue::Catalog;
+use catalog::chain::Chain;
 use crossbeam_channel::{Receiver, unbounded};
 use history::records::{Records as Histories, RecordsFault};
 use history::site_cell::SiteCell;
@@ -58,23 +60,25 @@ where
     D: DeskStore + Send + Drop + 'static,
     G: Gate + Send + Sync + Drop + 'static,
 {
-    /// Opens a database over these stores: those of its sites, in the catalogue's order, and the coordinator's. On a fault they
-    /// are let go; it is a machine's that doesn't start, or want of memory, also where no thread can be made. No clause says
-    /// what is opened: the cells lie under a lock and in threads from then on, and `close` says what comes back.
+    /// Opens a database of this chain of catalogues over these stores: those of its sites, in their order, and the coordinator's,
+    /// whose number says which catalogue is in force. On a fault they are let go; it is a machine's that doesn't start, or want
+    /// of memory, also where no thread can be made. No clause says what is opened: the cells lie under a lock and in threads from
+    /// then on, and `close` says what comes back.
     pub fn open<R: Threads + Wait + Copy + Send + 'static>(
         rt: &R,
         alloc: Global,
-        catalog: Catalog,
+        chain: &Chain,
         sites: Vec<S>,
         desk: D,
         gate: G,
     ) -> Result<Database<S, D, G>, Fault>
-        requires one_each { length sites.items ≡ length catalog.0 }
-        requires leaves { HaveLeaves S.is_clean S.kept (catalogue_of catalog) sites.items }
+        requires one_each { length sites.items ≡ length (sites_of chain.now) }
+        requires leaves { (first : Catalogue) (rest : List Catalogue) → map catalogue_of chain.now ≡ first ∷ rest → HaveLeaves S.is_clean S.kept first sites.items }
     {
-        let schema = catalog.schema().copy()?;
-        let cells = site_cells(alloc, &catalog, sites)?;
-        let cell = desk_cell(alloc, &catalog, desk)?;
+        let first = first_of(chain);
+        let schema = first.schema().copy()?;
+        let cells = site_cells(alloc, first, sites)?;
+        let cell = desk_cell(alloc, chain, desk)?;
         let Posts { ways, posts } = posts_of(alloc, cells)?;
         let threads = room_for(alloc, posts.len())?;
         let cells = room_for(alloc, posts.len())?;
@@ -159,7 +163,7 @@ where
 
     /// Closes the database: each site takes what is on its way to it, and its thread ends. `Closed` where a cell can't be had back.
     pub fn close<R: Threads + Wait>(self, rt: &R) -> Result<Records<D, S>, CallFault>
-        ensures { IfOk result (λ closed. AreRecords D.is_clean D.is_sound D.kept S.is_clean S.is_sound S.kept closed.records.machines closed.records.opening closed.records.entries.items closed.records.pasts.items) }
+        ensures { IfOk result (λ closed. AreRecords D.is_clean D.is_sound D.kept S.is_clean S.is_sound S.kept closed.records.machines closed.records.catalogs.items closed.records.opening closed.records.entries.items closed.records.pasts.items) }
     {
         let Database {
             shared,

@@ -49,6 +49,7 @@ pub(crate) struct Way {
 #[derive(Clone, Copy)]
 pub(crate) enum Errand<'a> {
     Begin,
+    Refragment(&'a str),
     State(Txn, &'a str),
     Commit(Txn),
     Rollback(Txn),
@@ -175,6 +176,7 @@ fn call_cell<'c, D: DeskStore>(
 {
     match errand {
         Errand::Begin => cell.begin(counter),
+        Errand::Refragment(text) => cell.refragment(text, counter),
         Errand::State(txn, text) => cell.statement(txn, text, counter),
         Errand::Commit(txn) => cell.commit(txn, counter),
         Errand::Rollback(txn) => cell.rollback(txn, counter),

@@ -7,7 +7,7 @@
 //! `fault` of a session's call, and the `gate` that letters pass.
 //!
 //! ```text
-//! let database = Database::open(rt, alloc, catalog, sites, desk, Ungated)?;
+//! let database = Database::open(rt, alloc, &chain, sites, desk, Ungated)?;
 //! let mut session = database.session(rt)?;
 //! let answer = session.execute(rt, "SELECT label FROM item WHERE id = 1");
 //! let told = session.end();
@@ -16,6 +16,7 @@
 //! ```
 #![tactic(auto)]
 
+mod begun;
 mod cells;
 pub mod database;
 pub mod fault;

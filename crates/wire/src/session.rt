@@ -6,7 +6,7 @@ ghost use Rattle.meaning.specs.declared.statement.Statement.TheVariants as state
 ghost use Rattle.reader.specs.declared.command.Command.{Command as CommandNow};
 ghost use Rattle.reader.specs.declared.command.Command.TheVariants as commands;
 ghost use Rattle.reader.specs.Command.{IsTextOf};
-ghost use Rattle.wire.specs.Fault.{IsUnread, is_abort};
+ghost use Rattle.wire.specs.Fault.{IsBusy, IsUnread, is_abort};
 ghost use Rattle.desk.specs.declared.reply.Why.{Why as WhyNow};
 ghost use Rattle.wire.specs.declared.fault.CallFault.TheVariants as faults;
 ghost use Rattle.wire.specs.Session.{AddsTold, Ascends, IsAbove};
@@ -80,7 +80,7 @@ impl<'a, D: DeskStore, G> Session<'a, D, G> {
         ensures schema { self.new.schema ≡ self.old.schema }
         ensures inside { self.old.is_open ≡ true → IsTextOf self.old.schema text.now commands.Begin → OnOk result ⊥ }
         ensures outside { self.old.is_open ≡ false → IsTextOf self.old.schema text.now commands.Commit ⊎ IsTextOf self.old.schema text.now commands.Rollback → OnOk result ⊥ × IfErr result (λ told. (told ≡ faults.NoTransaction) ⊎ (told ≡ faults.Memory)) }
-        ensures no_next { (refragment : RefragmentNow) → self.old.is_open ≡ false → IsTextOf self.old.schema text.now (commands.Run (statements.Refragment refragment)) → OnOk result ⊥ × IfErr result (λ told. (told ≡ faults.NoNext) ⊎ (told ≡ faults.Memory)) }
+        ensures moves_inside { (refragment : RefragmentNow) → self.old.is_open ≡ true → IsTextOf self.old.schema text.now (commands.Run (statements.Refragment refragment)) → OnOk result ⊥ × IfErr result IsBusy }
         ensures unread { ((command : CommandNow) → IsTextOf self.old.schema text.now command → ⊥) → OnOk result ⊥ × IfErr result (IsUnread self.old.schema text.now) }
     {
         self.told.try_reserve(1)?;

@@ -1,8 +1,10 @@
 //! What the threads of a database share.
 
+use crate::begun::{Begun, begun_in};
 use crate::fault::CallFault;
 use crate::front::{Done, Errand, Front};
 use crate::seat::{Given, Seats};
+use crossbeam_channel::Sender;
 use meaning::schema::Schema;
 use std::alloc::Global;
 use std::sync::atomic::AtomicU64;
@@ -55,6 +57,38 @@ impl<D: DeskStore, G> Shared<D, G> {
             Some(fault) => Err(CallFault::from(fault)),
             None => Ok(()),
         }
+    }
+
+    /// Begins a transaction, whose replies go this way from then on. It is seated before the lock is free: until then no site's
+    /// letter is taken, so none of its replies is lost. No clause says so, since none follows what lies under a lock.
+    pub fn begin<R: Wait>(
+        &self,
+        rt: &R,
+        errand: Errand<'_>,
+        to: Sender<Given>,
+    ) -> Result<Begun, CallFault> {
+        let mut front = self.front.lock(rt);
+        let Done {
+            given,
+            given_up,
+            stuck,
+            fault,
+        } = front.call(rt, self.alloc, errand, &self.counter)?;
+        if let Some(fault) = fault {
+            return Err(CallFault::from(fault));
+        }
+        let begun = begun_in(given.as_slice())?;
+        let seated = self.seats.lock(rt).enter(begun.txn, to);
+        drop(front);
+        if seated.is_err() {
+            self.give_up(rt, begun.txn);
+            return Err(CallFault::Memory);
+        }
+        self.hand_out(rt, given_up);
+        if let Some(txn) = stuck {
+            self.lose(rt, txn);
+        }
+        Ok(begun)
     }
 
     /// Hands replies out to the sessions that wait for them. No clause says so, since none follows a channel.

@@ -9,11 +9,12 @@ ghost use Rattle.reader.specs.Command.{IsTextOf};
 ghost use Rattle.desk.specs.declared.reply.Reply.TheVariants as replies;
 ghost use Rattle.desk.specs.declared.reply.Why.{Why as WhyNow};
 ghost use Rattle.wire.specs.declared.fault.CallFault.TheVariants as faults;
-ghost use Rattle.wire.specs.Fault.{IsUnread, is_abort};
+ghost use Rattle.wire.specs.Fault.{IsBusy, IsUnread, is_abort};
 ghost use Rattle.wire.specs.Talk.{IsAnswered, open_after, tells_end};
 
+use crate::begun::Begun;
 use crate::fault::CallFault;
-use crate::front::{Done, Errand};
+use crate::front::Errand;
 use crate::seat::Given;
 use crate::shared::Shared;
 use crossbeam_channel::{Receiver, Sender};
@@ -32,13 +33,6 @@ use store::name::Txn;
 pub(crate) struct Heard {
     pub number: u64,
     pub reply: Reply,
-}
-
-/// A transaction that has begun, with the number of the coordinator's entry that says so.
-#[derive(Clone, Copy)]
-struct Begun {
-    txn: Txn,
-    number: u64,
 }
 
 /// A session's side of the talk: the way of its replies, and the transaction that it has begun by BEGIN.
@@ -60,7 +54,7 @@ impl<'a, D: DeskStore, G> Talk<'a, D, G> {
         ensures still { IfErr result (λ fault. (self.new.current ≡ self.old.current) ⊎ (is_abort fault ≡ true)) }
         ensures inside { is_some self.old.current ≡ true → IsTextOf self.old.shared.now.schema.relations text.now commands.Begin → OnOk result ⊥ }
         ensures outside { is_some self.old.current ≡ false → IsTextOf self.old.shared.now.schema.relations text.now commands.Commit ⊎ IsTextOf self.old.shared.now.schema.relations text.now commands.Rollback → OnOk result ⊥ × IfErr result (λ told. (told ≡ faults.NoTransaction) ⊎ (told ≡ faults.Memory)) }
-        ensures no_next { (refragment : RefragmentNow) → is_some self.old.current ≡ false → IsTextOf self.old.shared.now.schema.relations text.now (commands.Run (statements.Refragment refragment)) → OnOk result ⊥ × IfErr result (λ told. (told ≡ faults.NoNext) ⊎ (told ≡ faults.Memory)) }
+        ensures moves_inside { (refragment : RefragmentNow) → is_some self.old.current ≡ true → IsTextOf self.old.shared.now.schema.relations text.now (commands.Run (statements.Refragment refragment)) → OnOk result ⊥ × IfErr result IsBusy }
         ensures unread { ((command : CommandNow) → IsTextOf self.old.shared.now.schema.relations text.now command → ⊥) → OnOk result ⊥ × IfErr result (IsUnread self.old.shared.now.schema.relations text.now) }
     {
         one_command();
@@ -84,14 +78,13 @@ impl<'a, D: DeskStore, G> Talk<'a, D, G> {
         requires { self.old.current ≡ None }
         ensures shared { self.new.shared ≡ self.old.shared }
         ensures outside { (command.now ≡ commands.Commit) ⊎ (command.now ≡ commands.Rollback) → result ≡ Err faults.NoTransaction }
-        ensures no_next { (refragment : RefragmentNow) → command.now ≡ commands.Run (statements.Refragment refragment) → result ≡ Err faults.NoNext }
         ensures open { IfOk result (λ heard. is_some self.new.current ≡ open_after false heard.reply) }
         ensures still { OnErr result (self.new.current ≡ None) }
     {
         match command {
             Command::Begin => self.open_by(rt),
             Command::Commit | Command::Rollback => Err(CallFault::NoTransaction),
-            Command::Run(Statement::Refragment(_)) => Err(CallFault::NoNext),
+            Command::Run(Statement::Refragment(_)) => self.refragment(rt, text),
             Command::Run(_) => self.run(rt, text),
         }
     }
@@ -102,7 +95,7 @@ impl<'a, D: DeskStore, G> Talk<'a, D, G> {
         ensures begun { IfOk result (λ heard. (heard.reply ≡ replies.Begun) × (is_some self.new.current ≡ true)) }
         ensures still { OnErr result (self.new.current ≡ self.old.current) }
     {
-        let Begun { txn, number } = self.begin(rt)?;
+        let Begun { txn, number } = self.begin(rt, Errand::Begin)?;
         self.current = Some(txn);
         Ok(Heard {
             number,
@@ -120,6 +113,7 @@ impl<'a, D: DeskStore, G> Talk<'a, D, G> {
     ) -> Result<Heard, CallFault>
         ensures shared { self.new.shared ≡ self.old.shared }
         ensures inside { command.now ≡ commands.Begin → OnOk result ⊥ }
+        ensures moves_inside { (refragment : RefragmentNow) → command.now ≡ commands.Run (statements.Refragment refragment) → OnOk result ⊥ × IfErr result IsBusy }
         ensures open { is_some self.old.current ≡ true → IfOk result (λ heard. is_some self.new.current ≡ open_after true heard.reply) }
         ensures aborted { (why : WhyNow) → result ≡ Err (faults.Aborted why) → self.new.current ≡ None }
         ensures still { IfErr result (λ fault. (self.new.current ≡ self.old.current) ⊎ (is_abort fault ≡ true)) }
@@ -143,6 +137,7 @@ impl<'a, D: DeskStore, G> Talk<'a, D, G> {
     ) -> Result<Heard, CallFault>
         ensures answered { IsAnswered result }
         ensures inside { command.now ≡ commands.Begin → OnOk result ⊥ }
+        ensures moves_inside { (refragment : RefragmentNow) → command.now ≡ commands.Run (statements.Refragment refragment) → OnOk result ⊥ × IfErr result IsBusy }
     {
         if let Some(why) = self.aborted(rt, txn) {
             return Err(CallFault::Aborted(why));
@@ -151,20 +146,43 @@ impl<'a, D: DeskStore, G> Talk<'a, D, G> {
             return Err(CallFault::Memory);
         }
         match command {
-            Command::Begin => Err(CallFault::Busy),
+            Command::Begin | Command::Run(Statement::Refragment(_)) => Err(CallFault::Busy),
             Command::Commit => self.ask(rt, txn, Errand::Commit(txn)),
             Command::Rollback => self.ask(rt, txn, Errand::Rollback(txn)),
             Command::Run(_) => self.ask(rt, txn, Errand::State(txn, text)),
         }
     }
 
-    /// Runs a statement as a transaction of its own. Its answer is heard only where that was committed; unless it has aborted, it
-    /// is given up otherwise.
+    /// Runs a statement as a transaction of its own.
     fn run<R: Wait>(&self, rt: &R, text: &str) -> Result<Heard, CallFault>
         ensures { IsAnswered result }
     {
-        let Begun { txn, .. } = self.begin(rt)?;
-        let heard = self.run_begun(rt, txn, text);
+        let Begun { txn, .. } = self.begin(rt, Errand::Begin)?;
+        let answer = self.ask(rt, txn, Errand::State(txn, text));
+        self.conclude(rt, txn, answer)
+    }
+
+    /// Gives a relation the split that the next catalogue has for it, in a transaction of its own, which states that as it begins.
+    fn refragment<R: Wait>(&self, rt: &R, text: &str) -> Result<Heard, CallFault>
+        ensures { IsAnswered result }
+    {
+        let Begun { txn, .. } = self.begin(rt, Errand::Refragment(text))?;
+        let answer = self.hear(rt, txn);
+        self.conclude(rt, txn, answer)
+    }
+
+    /// Asks for the commit of a transaction of its own, whose statement has this answer: that is heard only where it was
+    /// committed. Unless it has aborted, it is given up otherwise.
+    fn conclude<R: Wait>(
+        &self,
+        rt: &R,
+        txn: Txn,
+        answer: Result<Heard, CallFault>,
+    ) -> Result<Heard, CallFault>
+        requires { IsAnswered answer }
+        ensures { IsAnswered result }
+    {
+        let heard = self.committed(rt, txn, answer);
         self.leave(rt, txn);
         match &heard {
             Ok(_) | Err(CallFault::Aborted(_)) => {}
@@ -173,30 +191,26 @@ impl<'a, D: DeskStore, G> Talk<'a, D, G> {
         heard
     }
 
-    /// States the text of a transaction that has begun, and asks for its commit.
-    fn run_begun<R: Wait>(&self, rt: &R, txn: Txn, text: &str) -> Result<Heard, CallFault>
+    /// The answer of a transaction's statement, once it is committed.
+    fn committed<R: Wait>(
+        &self,
+        rt: &R,
+        txn: Txn,
+        answer: Result<Heard, CallFault>,
+    ) -> Result<Heard, CallFault>
+        requires { IsAnswered answer }
         ensures { IsAnswered result }
     {
-        let heard = self.ask(rt, txn, Errand::State(txn, text))?;
+        let heard = answer?;
         let _committed = self.ask(rt, txn, Errand::Commit(txn))?;
         Ok(heard)
     }
 
     /// Begins a transaction, whose replies come to this session.
-    fn begin<R: Wait>(&self, rt: &R) -> Result<Begun, CallFault> {
+    fn begin<R: Wait>(&self, rt: &R, errand: Errand<'_>) -> Result<Begun, CallFault> {
         let to = self.to.clone()?;
         self.pass_over(rt);
-        let Done { given, fault, .. } = self.shared.call(rt, Errand::Begin)?;
-        if let Some(fault) = fault {
-            return Err(CallFault::from(fault));
-        }
-        let begun = begun_in(given.as_slice())?;
-        let entered = self.shared.seats.lock(rt).enter(begun.txn, to);
-        if entered.is_err() {
-            self.shared.give_up(rt, begun.txn);
-            return Err(CallFault::Memory);
-        }
-        Ok(begun)
+        self.shared.begin(rt, errand, to)
     }
 
     /// Passes over what is left of replies to transactions that have ended.
@@ -266,22 +280,6 @@ fn command_of(alloc: Global, schema: &Schema, text: &str) -> Result<Command, Cal
     match read(alloc, text, schema) {
         Ok(command) => Ok(command),
         Err(fault) => Err(CallFault::from(fault)),
-    }
-}
-
-/// The transaction that has begun by the first of these replies. Where there is none, the coordinator is at a limit.
-fn begun_in(given: &[Given]) -> Result<Begun, CallFault>
-    ensures { IfErr result (λ fault. (fault ≡ faults.Full) ⊎ (fault ≡ faults.Closed)) }
-{
-    let Some(first) = given.first() else {
-        return Err(CallFault::Full);
-    };
-    match &first.reply {
-        Some(Reply::Begun) => Ok(Begun {
-            txn: first.txn,
-            number: first.number,
-        }),
-        _ => Err(CallFault::Closed),
     }
 }
 

@@ -31,11 +31,11 @@ pub returns-clause-woven : goal.returns-clause-woven
 returns-clause-woven g c = record { happened = c.in_ok-happened.happened.items; put = put_in g c; told = c.in_ok-events_of.ensures; stand = stand_in g c }
 
 pub returns-clause-run : goal.returns-clause-run
-returns-clause-run g c = λ clean records.
+returns-clause-run g c = λ one clean records.
     let now = c.args.records.now in
     let yes : c.is_settled.result ≡ true = let no = c.if-not-is_settled.false in cc in
     let settled = subst (λ pasts. IsSettled now.opening (map (λ (past : Past). past.opening) pasts)) c.pasts-pasts.ensures
     (subst (λ opening. IsSettled opening (map (λ (past : Past). past.opening) c.pasts-pasts.result.now)) c.opening-opening.ensures (c.is_settled.ensures.0 yes)) in
-    weaves_run g.D.DeskStore.is_clean g.D.DeskStore.is_sound g.D.DeskStore.kept g.S.SiteStore.is_clean g.S.SiteStore.is_sound g.S.SiteStore.kept now.machines now.opening now.entries.items now.pasts.items records clean settled
+    weaves_run g.D.DeskStore.is_clean g.D.DeskStore.is_sound g.D.DeskStore.kept g.S.SiteStore.is_clean g.S.SiteStore.is_sound g.S.SiteStore.kept now.machines now.catalogs.items now.opening now.entries.items now.pasts.items one records clean settled
     (subst (λ x. WovenAreRuns (database (catalogue_of x))) c.catalog-catalog.ensures c.woven_are_runs.ensures) (subst (λ x. WovenAreSerial (database (catalogue_of x))) c.catalog-catalog.ensures c.woven_are_serial.ensures)
     (rows_of c.args.told.now) c.in_ok-happened.happened.items c.in_ok-events_of.field-0.items (put_in g c) c.in_ok-events_of.ensures (stand_in g c)

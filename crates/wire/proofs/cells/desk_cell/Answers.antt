@@ -1,12 +1,9 @@
 -- Why `desk_cell` meets its contract.
+use Rattle.std.proofs.Common.{◌∙◌, ap, sym}
 use Rattle.catalog.specs.Relation.{catalogue_of}
-use Rattle.world.proofs.OneCatalogue.{none_later}
+use Rattle.world.proofs.OneCatalogue.{in_force_is}
+use Rattle.history.proofs.Following.{all_of}
 use Rattle.wire.proofs.cells.desk_cell.Goals as goal
 
 pub new-requires : goal.new-requires
-new-requires g c =
-    let desk = c.in-Ok.desk in
-    record {
-      single = none_later desk.volatile.version (catalogue_of c.args.catalog.now) _ desk.catalog desk.later.items c.in_ok-chain.ensures c.in-Ok.ensures.catalogs;
-      rises = λ db over. c.in-Ok.ensures.ok db over;
-    }
+new-requires g c = λ db over. c.in-Ok.ensures.ok db over

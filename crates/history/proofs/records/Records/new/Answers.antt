@@ -5,6 +5,7 @@ use Rattle.catalog.specs.declared.relation.SplitRelation.{SplitRelation}
 use Rattle.catalog.specs.Relation.{catalogue_of}
 use Rattle.site.specs.declared.site.Site.{Site}
 use Rattle.site.specs.Seat.{seat_from}
+use Rattle.desk.specs.CatalogueDatabase.{IsBase, database}
 use Rattle.history.specs.Records.{AreSitesOf}
 use Rattle.history.specs.SiteHistory.{SiteHistory}
 use Rattle.history.proofs.Taken.{taken_histories, taken_lasts, taken_openings, taken_recorded, taken_sound}
@@ -25,12 +26,11 @@ returns-clause-records g c =
     let pasts = c.in_ok-sites.field-0.pasts.items in
     let taken = c.in_ok-sites.ensures in
     let cells = c.args.sites.items in
-    let opened = c.into_parts-opening.ensures in
+    let opened = c.into_parts-catalogs.ensures in
     let yes : c.in_ok-are_sites_of.field-0 ≡ true = let no = c.if-not-branch.false in cc in
     let Are : List (List ℕ) × List SplitRelation → List (List ℕ) → List (SiteHistory g.row.S.Denot) → Type 0 = λ catalog names all. AreSitesOf (catalogue_of catalog) names (map (seat_from kept) (map (λ (cell : SiteHistory g.row.S.Denot). cell.site) all)) in
     record {
-      single = opened.replays.single;
-      base = opened.replays.base;
+      base = subst (λ desk. IsBase (database (catalogue_of desk.catalog))) (sym opened.desk) (subst (λ (catalog : List (List ℕ) × List SplitRelation). IsBase (database (catalogue_of catalog))) c.catalog-catalog.ensures c.database_is_of_catalogue.ensures);
       sites = λ clean.
           let of_cells = subst (AllByRecursion (λ (site : Site g.row.S.Denot). is_clean site.store)) taken.machines clean in
           let are = (c.in_ok-are_sites_of.ensures (rw c.as_slice.ensures.value of_cells)).0 yes in
@@ -42,8 +42,7 @@ returns-clause-records g c =
       lasts = taken_lasts is_clean is_sound kept cells sites pasts taken;
       openings = taken_openings is_clean is_sound kept cells sites pasts taken;
       histories = taken_histories is_clean is_sound kept cells sites pasts taken;
-      desk_sound = opened.replays.sound;
+      desk = opened.replays;
       sites_sound = taken_sound is_clean is_sound kept cells sites pasts taken;
-      desk = opened.replays.recorded;
       recorded = taken_recorded is_clean is_sound kept cells sites pasts taken;
     }

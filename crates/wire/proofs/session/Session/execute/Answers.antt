@@ -14,8 +14,8 @@ returns-in-Err-clause-outside g c = rw (sym c.self.view_is) (λ closed spelled. 
 pub returns-in-Err-clause-unread : goal.returns-in-Err-clause-unread
 returns-in-Err-clause-unread g c = rw (sym c.self.view_is) (λ none. c.in-Err.ensures.unread none)
 
-pub returns-in-Ok-clause-no_next : goal.returns-in-Ok-clause-no_next
-returns-in-Ok-clause-no_next g c = rw (sym c.self.view_is) (λ refragment closed spelled. absurd (c.in-Ok.ensures.no_next refragment closed spelled).0)
+pub returns-in-Ok-clause-moves_inside : goal.returns-in-Ok-clause-moves_inside
+returns-in-Ok-clause-moves_inside g c = rw (sym c.self.view_is) (λ refragment inside spelled. absurd (c.in-Ok.ensures.moves_inside refragment inside spelled).0)
 
-pub returns-in-Err-clause-no_next : goal.returns-in-Err-clause-no_next
-returns-in-Err-clause-no_next g c = rw (sym c.self.view_is) (λ refragment closed spelled. c.in-Err.ensures.no_next refragment closed spelled)
+pub returns-in-Err-clause-moves_inside : goal.returns-in-Err-clause-moves_inside
+returns-in-Err-clause-moves_inside g c = rw (sym c.self.view_is) (λ refragment inside spelled. c.in-Err.ensures.moves_inside refragment inside spelled)

@@ -22,11 +22,8 @@ returns-clause-outside g c = λ none spelled.
     let is = c.obey_outside.ensures.outside misplaced in
     subst (λ (result : Result Heard CallFault). OnOk result ⊥ × IfErr result (λ told. (told ≡ faults.NoTransaction) ⊎ (told ≡ faults.Memory))) (sym is) (tt, inl refl)
 
-pub returns-in-Err-clause-no_next : goal.returns-in-Err-clause-no_next
-returns-in-Err-clause-no_next g c = λ refragment none spelled. (tt, inr (no_memory c.args.self.now.shared.now.schema.relations c.args.text.now c.in-Err.fault c.in-Err.ensures.unread (Run (Refragment refragment)) spelled))
+pub returns-in-Err-clause-moves_inside : goal.returns-in-Err-clause-moves_inside
+returns-in-Err-clause-moves_inside g c = λ refragment is spelled. (tt, inr (inl (no_memory c.args.self.now.shared.now.schema.relations c.args.text.now c.in-Err.fault c.in-Err.ensures.unread (Run (Refragment refragment)) spelled)))
 
-pub returns-clause-no_next : goal.returns-clause-no_next
-returns-clause-no_next g c = λ refragment none spelled.
-    let one = c.one_command.ensures c.args.self.now.shared.now.schema.relations c.args.text.now c.in-Ok.command in
-    let is = c.obey_outside.ensures.no_next refragment (one (Run (Refragment refragment)) c.in-Ok.ensures.read spelled) in
-    subst (λ (result : Result Heard CallFault). OnOk result ⊥ × IfErr result (λ told. (told ≡ faults.NoNext) ⊎ (told ≡ faults.Memory))) (sym is) (tt, inl refl)
+pub returns-in-Some-clause-moves_inside : goal.returns-in-Some-clause-moves_inside
+returns-in-Some-clause-moves_inside g c = λ refragment is spelled. c.obey_inside.ensures.moves_inside refragment (c.one_command.ensures c.args.self.now.shared.now.schema.relations c.args.text.now c.in-Ok.command (Run (Refragment refragment)) c.in-Ok.ensures.read spelled)
