@@ -26,6 +26,7 @@ use store::plain_desk::PlainDesk;
 use store::plain_site::PlainSite;
 use terms::memory::Memory;
 use world::fault::Fault;
+use world::chain::alone;
 use world::solo::{Solo, open, open_on};
 
 /// Opens databases over stores of some kind.
@@ -61,7 +62,8 @@ impl Opens<Solo<PlainDesk, PlainSite>> for Lists {
         catalog: &Catalog,
     ) -> Result<Solo<PlainDesk, PlainSite>, ProgramFault<'a>> {
         let whole = empty_relations(alloc, catalog.schema())?;
-        match open(alloc, catalog, &whole) {
+        let chain = alone(alloc, catalog)?;
+        match open(alloc, &chain, &whole) {
             Ok(database) => Ok(database),
             // Lists refuse for want of memory alone.
             Err(_) => Err(ProgramFault::Memory),
@@ -87,7 +89,8 @@ impl Opens<Solo<SqlDesk<MemStore>, SqlSite<MemStore>>> for InMemory {
         let whole = empty_relations(alloc, catalog.schema())?;
         let sites = memory_sites(alloc, catalog)?;
         let desk = memory_desk(alloc)?;
-        match open_on(alloc, catalog, &whole, sites, desk) {
+        let chain = alone(alloc, catalog)?;
+        match open_on(alloc, &chain, &whole, sites, desk) {
             Ok(database) => Ok(database),
             Err(fault) => Err(unopened(fault)),
         }
@@ -152,7 +155,8 @@ impl<M: Alter + Drop, F: OpensFiles<M>> Opens<Solo<SqlDesk<M>, SqlSite<M>>> for 
         let OpenStores { sites, desk } = open_files(alloc, self, catalog, standing)?;
         // No transaction begins in a folder before its catalogue stands there.
         keep_catalogue(self.rt, self.dir, self.source, catalog, standing)?;
-        match Solo::open_stores(alloc, catalog, sites, desk) {
+        let chain = alone(alloc, catalog)?;
+        match Solo::open_stores(alloc, &chain, sites, desk) {
             Ok(database) => Ok(database),
             Err(fault) => Err(unopened(fault)),
         }

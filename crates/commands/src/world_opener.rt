@@ -21,6 +21,7 @@ use store::desk_store::DeskStore;
 use store::plain_desk::PlainDesk;
 use store::plain_site::PlainSite;
 use store::site_store::SiteStore;
+use world::chain::alone;
 use world::world::{World, open, open_on};
 
 /// Opens worlds over stores of some kind.
@@ -50,7 +51,8 @@ impl OpensWorld<PlainDesk, PlainSite> for Lists {
         whole: &Whole,
     ) -> Result<World<PlainDesk, PlainSite>, ProgramFault<'a>> {
         // Lists refuse for want of memory alone.
-        match open(alloc, catalog, whole) {
+        let chain = alone(alloc, catalog)?;
+        match open(alloc, &chain, whole) {
             Ok(world) => Ok(world),
             Err(_) => Err(ProgramFault::Memory),
         }
@@ -68,7 +70,8 @@ impl OpensWorld<SqlDesk<MemStore>, SqlSite<MemStore>> for InMemory {
     ) -> Result<World<SqlDesk<MemStore>, SqlSite<MemStore>>, ProgramFault<'a>> {
         let sites = memory_sites(alloc, catalog)?;
         let desk = memory_desk(alloc)?;
-        match open_on(alloc, catalog, whole, sites, desk) {
+        let chain = alone(alloc, catalog)?;
+        match open_on(alloc, &chain, whole, sites, desk) {
             Ok(world) => Ok(world),
             Err(fault) => Err(unopened(fault)),
         }

@@ -2,8 +2,11 @@
 use Rattle.std.proofs.Common.{◌≡◌, refl, sym, ap, ◌∙◌, subst, ℕ, List, [], ◌∷◌, map}
 use Rattle.std.specs.List.{AllByRecursion}
 use Rattle.meaning.specs.Whole.{Relations}
+use Rattle.catalog.specs.declared.relation.SplitRelation.{SplitRelation}
 use Rattle.catalog.specs.Catalogue.{Catalogue}
 use Rattle.catalog.specs.Formed.{IsFormed}
+use Rattle.catalog.specs.FragmentLeaf.{schemas_of}
+use Rattle.catalog.specs.Relation.{catalogue_of}
 use Rattle.store.specs.DeskContent as desk_content
 use Rattle.store.specs.SiteContent.{BeginsLife, SiteContent}
 use Rattle.site.specs.declared.site.Site.{Site}
@@ -14,7 +17,10 @@ use Rattle.desk.specs.Recovery.{Rises}
 use Rattle.desk.specs.State.{IsMemory, txn_at}
 use Rattle.world.specs.Machines.{AreFit, Machines}
 use Rattle.world.specs.Placed.{IsPlaced}
-use Rattle.world.specs.Recovery.{AllWake, AreKept, AreUp, AreUpAgain, ComeUp, HaveLeaves}
+use Rattle.site.specs.State.{AreHad}
+use Rattle.world.specs.Chain.{sites_of}
+use Rattle.world.specs.Leaves.{known_leaves}
+use Rattle.world.specs.Recovery.{AllWake, AreKept, AreUp, AreUpAgain, ComeUp, HaveLeaves, IsUp}
 use Rattle.world.specs.Seated.{seats_in}
 use Rattle.world.specs.Sites.{Seat}
 use Rattle.world.proofs.InForce.{nobody_rises}
@@ -118,3 +124,32 @@ module _ {S : Type 0} (is_clean is_sound : S → Type 0) (kept : S → SiteConte
         life = subst (λ was. desk_content.BeginsLife was machines.desk) (sym same.desk) life;
         memory = memory;
       }
+
+-- sites that have come up for one catalogue have for another one of the same relations
+module _ {S : Type 0} (is_clean is_sound : S → Type 0) (kept : S → SiteContent) (refused : S → ℕ) (one other : Catalogue) (same : schemas_of one ≡ schemas_of other) where
+  one_up : (name : List ℕ) (store : S) (site : Site S) → IsUp is_clean is_sound kept refused one name store site → IsUp is_clean is_sound kept refused other name store site
+  one_up name store site up = record {
+    leaves_store = up.leaves_store;
+    learnt = up.learnt;
+    called = up.called;
+    leaves = up.leaves ∙ ap known_leaves same;
+    begins = λ clean had. up.begins clean (subst (λ schemas. AreHad (known_leaves schemas) (kept store)) (sym same) had);
+    life = up.life;
+  }
+
+  pub all_up : (names : List (List ℕ)) (stores : List S) (sites : List (Site S)) → AreUp is_clean is_sound kept refused one names stores sites → AreUp is_clean is_sound kept refused other names stores sites
+  all_up [] [] [] up = tt
+  all_up [] [] (x ∷ sites) up = absurd up
+  all_up [] (s ∷ stores) sites up = absurd up
+  all_up (n ∷ names) [] sites up = absurd up
+  all_up (n ∷ names) (s ∷ stores) [] up = absurd up
+  all_up (n ∷ names) (s ∷ stores) (x ∷ sites) up = (one_up n s x up.0, all_up names stores sites up.1)
+
+-- so those for the first catalogue of a chain have for the one in force
+pub up_in_force : {S : Type 0} (is_clean is_sound : S → Type 0) (kept : S → SiteContent) (refused : S → ℕ) (chain rest : List (List (List ℕ) × List SplitRelation)) (first there catalog : List (List ℕ) × List SplitRelation) (stores : List S) (sites : List (Site S)) →
+    chain ≡ first ∷ rest → catalog ≡ there → there.0 ≡ sites_of chain → ((one : Catalogue) (others : List Catalogue) → map catalogue_of chain ≡ one ∷ others → schemas_of (catalogue_of there) ≡ schemas_of one) →
+    AreUp is_clean is_sound kept refused (catalogue_of first) first.0 stores sites → AreUp is_clean is_sound kept refused (catalogue_of catalog) catalog.0 stores sites
+up_in_force is_clean is_sound kept refused chain rest first there catalog stores sites is same named schemas up =
+    let names : first.0 ≡ catalog.0 = sym (ap sites_of is) ∙ sym named ∙ sym (ap (λ (x : List (List ℕ) × List SplitRelation). x.0) same) in
+    let relations : schemas_of (catalogue_of first) ≡ schemas_of (catalogue_of catalog) = sym (schemas (catalogue_of first) (map catalogue_of rest) (ap (map catalogue_of) is)) ∙ sym (ap (λ (x : List (List ℕ) × List SplitRelation). schemas_of (catalogue_of x)) same) in
+    subst (λ (ns : List (List ℕ)). AreUp is_clean is_sound kept refused (catalogue_of catalog) ns stores sites) names (all_up is_clean is_sound kept refused (catalogue_of first) (catalogue_of catalog) relations first.0 stores sites up)

@@ -1,12 +1,14 @@
--- The catalogues of a chain have the same sites, and the first one has the number 1.
+-- The catalogues of a chain have the same sites and relations, and the first one has the number 1.
 use Rattle.std.proofs.Common.{◌≡◌, sym, ap, ◌∙◌, inl, inr, ℕ, zero, suc, List, [], ◌∷◌, map}
 use Rattle.catalog.specs.declared.relation.SplitRelation.{SplitRelation}
 use Rattle.catalog.specs.Catalogue.{Catalogue}
 use Rattle.catalog.specs.Chain.{Follow, IsChain}
+use Rattle.catalog.specs.FragmentLeaf.{schemas_of}
 use Rattle.catalog.specs.Relation.{catalogue_of}
 use Rattle.desk.specs.declared.desk.Desk.{Desk}
 use Rattle.desk.specs.OfCatalogue.{from_number}
 use Rattle.world.specs.Chain.{IsLast, StandsAt, StandsLast, sites_of}
+use Rattle.world.proofs.ListIsLawful.{schemas_same}
 use Rattle.world.proofs.OneCatalogue.{first_is, in_force_is, none_later, none_of, rest_is}
 
 -- where the chain has one catalogue, that is in force, and none comes later
@@ -25,6 +27,16 @@ same_sites c (next ∷ rest) follows (suc (suc n)) x xs e = same_sites next rest
 pub sites_are : (chain : List (List (List ℕ) × List SplitRelation)) → IsChain (map catalogue_of chain) → (n : ℕ) (catalog : List (List ℕ) × List SplitRelation) (later : List Catalogue) → catalogue_of catalog ∷ later ≡ from_number n (map catalogue_of chain) → catalog.0 ≡ sites_of chain
 sites_are [] chain n catalog later e = absurd chain
 sites_are (first ∷ rest) chain n catalog later e = same_sites (catalogue_of first) (map catalogue_of rest) chain n (catalogue_of catalog) later e
+
+same_schemas : (c : Catalogue) (cs : List Catalogue) → Follow c cs → (n : ℕ) (x : Catalogue) (xs : List Catalogue) → x ∷ xs ≡ from_number n (c ∷ cs) → schemas_of x ≡ schemas_of c
+same_schemas c cs follows zero x xs e = absurd (cc)
+same_schemas c cs follows (suc zero) x xs e = ap schemas_of (let is : x ≡ c = cc in is)
+same_schemas c [] follows (suc (suc n)) x xs e = absurd (cc)
+same_schemas c (next ∷ rest) follows (suc (suc n)) x xs e = same_schemas next rest follows.1 (suc n) x xs e ∙ sym (schemas_same c next follows.0.0 follows.0.1)
+
+pub schemas_are : (first : Catalogue) (rest chain : List Catalogue) → IsChain chain → chain ≡ first ∷ rest → (n : ℕ) (catalogue : Catalogue) (later : List Catalogue) → catalogue ∷ later ≡ from_number n chain → schemas_of catalogue ≡ schemas_of first
+schemas_are first rest [] is same n catalogue later e = absurd is
+schemas_are first rest (one ∷ others) is same n catalogue later e = same_schemas one others is n catalogue later e ∙ ap schemas_of (let head : one ≡ first = cc in head)
 
 -- there is a first one
 pub first_there : (chain : List (List (List ℕ) × List SplitRelation)) → IsChain (map catalogue_of chain) → (n : ℕ) → n ≡ 1 → (first : Catalogue) × (rest : List Catalogue) × (from_number n (map catalogue_of chain) ≡ first ∷ rest)

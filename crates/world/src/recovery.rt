@@ -1,7 +1,9 @@
 //! A database comes up over stores that are given: over new ones it is empty, and over those of an earlier run it
 //! goes on from what they kept.
 
-ghost use Rattle.std.specs.Prelude.{◌≡◌, [], length, map, IfOk, IfErr, OnOk};
+ghost use Rattle.std.specs.Prelude.{◌≡◌, [], ◌∷◌, List, length, map, IfOk, IfErr, OnOk};
+ghost use Rattle.catalog.specs.Catalogue.{Catalogue};
+ghost use Rattle.catalog.specs.FragmentLeaf.{schemas_of};
 ghost use Rattle.std.specs.List.{AllByRecursion};
 ghost use Rattle.catalog.specs.Relation.{catalogue_of};
 ghost use Rattle.site.specs.Fault.{StopsStart};
@@ -84,6 +86,7 @@ pub(crate) fn desk_up<D: DeskStore + Drop>(
     ensures up { IfOk result (IsDeskUp D.is_clean D.is_sound D.kept D.refused store) }
     ensures catalogs { IfOk result (λ desk. StandsAt desk.volatile.version (map catalogue_of chain.now) desk) }
     ensures sites { IfOk result (λ desk. desk.catalog.0 ≡ sites_of chain.now) }
+    ensures schemas { (first : Catalogue) (rest : List Catalogue) → map catalogue_of chain.now ≡ first ∷ rest → IfOk result (λ desk. schemas_of (catalogue_of desk.catalog) ≡ schemas_of first) }
     ensures own { IfErr result StopsOpening }
 {
     let _catalogs = chain.as_slice();

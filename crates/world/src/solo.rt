@@ -39,6 +39,7 @@ ghost use Rattle.world.specs.declared.transaction.Unfinished.TheVariants.{Stoppe
 
 use crate::autocommit::{is_stop, run_autocommit, tells_end};
 use crate::batch::run_all;
+use crate::chain::first_of;
 use crate::client::{begin, commit, roll_back, state};
 use crate::fault::Fault;
 use crate::laws::{
@@ -209,6 +210,8 @@ impl<D: DeskStore + Drop, S: SiteStore + Drop> Solo<D, S> {
         ensures idle { IfOk result (λ solo. (solo.current ≡ None) × (solo.stopped ≡ None)) }
         ensures own { IfErr result StopsOpening }
     {
+        // A site's damage is found before the coordinator's store is changed.
+        let sites = sites_up(alloc, first_of(chain), sites)?;
         let desk = desk_up(alloc, chain, desk)?;
         let catalog = desk.catalog();
         database_is_of_catalogue(catalog);
@@ -217,7 +220,6 @@ impl<D: DeskStore + Drop, S: SiteStore + Drop> Solo<D, S> {
         restarts_recover(catalog);
         begins_anew(catalog);
         new_stores_were_served(catalog);
-        let sites = sites_up(alloc, catalog, sites)?;
         let mut machines = Machines {
             alloc,
             desk,

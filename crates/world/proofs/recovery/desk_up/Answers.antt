@@ -4,7 +4,7 @@ use Rattle.catalog.specs.Relation.{catalogue_of}
 use Rattle.desk.specs.declared.refusal.Refusal.{Refusal}
 use Rattle.world.specs.declared.fault.Fault.TheVariants.{Desk}
 use Rattle.world.specs.Recovery.{StopsOpening}
-use Rattle.world.proofs.OfChain.{sites_are}
+use Rattle.world.proofs.OfChain.{schemas_are, sites_are}
 use Rattle.world.proofs.recovery.desk_up.Goals as goal
 
 pub returns-in-Ok-clause-up : goal.returns-in-Ok-clause-up
@@ -18,6 +18,9 @@ returns-in-Ok-clause-up g c = record {
 
 pub returns-in-Ok-clause-sites : goal.returns-in-Ok-clause-sites
 returns-in-Ok-clause-sites g c = sites_are c.args.chain.now c.as_slice-catalogs.ensures.chain c.in-Ok.desk.volatile.version c.in-Ok.desk.catalog (map catalogue_of c.in-Ok.desk.later.items) c.in-Ok.ensures.catalogs
+
+pub returns-in-Ok-clause-schemas : goal.returns-in-Ok-clause-schemas
+returns-in-Ok-clause-schemas g c = λ first rest same. schemas_are first rest (map catalogue_of c.args.chain.now) c.as_slice-catalogs.ensures.chain same c.in-Ok.desk.volatile.version (catalogue_of c.in-Ok.desk.catalog) (map catalogue_of c.in-Ok.desk.later.items) c.in-Ok.ensures.catalogs
 
 pub returns-in-Err-clause-own : goal.returns-in-Err-clause-own
 returns-in-Err-clause-own g c =

@@ -17,17 +17,18 @@ pub returns-in-Ok-clause-ok : goal.returns-in-Ok-clause-ok
 returns-in-Ok-clause-ok c =
     let catalogue = catalogue_of c.args.catalog.now in
     let empty = c.in_ok-whole.ensures ∙ ap (λ schemas. emptied schemas finite.empty) c.schema.ensures.schemas in
-    let fits_schema = subst (FitsSchema (schemas_of catalogue)) (sym empty) (emptied-fits (schemas_of catalogue)) in (
+    let fits_schema = subst (FitsSchema (schemas_of catalogue)) (sym empty) (emptied-fits (schemas_of catalogue)) in
+    let last = c.in-Ok.ensures.single catalogue c.in_ok-chain.ensures.one in (
       New,
       refl,
       record {
         idle = c.in-Ok.ensures.idle.0;
         goes_on = λ whole begins clean. record {
           going = c.in-Ok.ensures.idle.1;
-          catalog = c.in-Ok.ensures.catalog;
+          catalog = last.is;
           sound = c.in-Ok.ensures.sound;
-          served = subst (λ (whole : Relations). IsServed (database catalogue) whole (unrefused desk_kept kept_of c.in-Ok.database.machines) []) (empty ∙ sym begins) (c.in-Ok.ensures.served fits_schema);
-          stands = c.in-Ok.ensures.stands fits_schema;
+          served = subst (λ (whole : Relations). IsServed (database catalogue) whole (unrefused desk_kept kept_of c.in-Ok.database.machines) []) (empty ∙ sym begins) (c.in-Ok.ensures.served catalogue fits_schema last);
+          stands = c.in-Ok.ensures.stands catalogue fits_schema last;
         };
       },
     )

@@ -1,4 +1,4 @@
-use Rattle.std.proofs.Common.{◌≡◌, Err, IfErr, Result, rules}
+use Rattle.std.proofs.Common.{◌≡◌, Err, IfErr, Result, ap, length, rules, sym, ◌∙◌}
 use Rattle.std.specs.Bool.{⊤}
 use Rattle.catalog.specs.Relation.{catalogue_of}
 use Rattle.lines.specs.declared.fault.ProgramFault.{ProgramFault}
@@ -12,16 +12,20 @@ use Rattle.commands.proofs.world_opener.InMemoryOpensWorldSqlDeskMemStoreSqlSite
 passed_on : {T : Type 0} (result : Result T ProgramFault) (fault : ProgramFault) → result ≡ Err fault → IsOfClient fault → IfErr result (StopsOpening (λ why. ⊤))
 passed_on result fault is why = rw is (stops_as_client fault why)
 
+pub open_on-requires : goal.open_on-requires
+open_on-requires c = c.in_ok-sites.ensures.all ∙ ap length (sym c.in_ok-chain.ensures.sites)
+
 pub returns-in-Ok-clause-ok : goal.returns-in-Ok-clause-ok
 returns-in-Ok-clause-ok c =
     let catalogue = catalogue_of c.args.catalog.now in
     let new = are_new catalogue c.in_ok-desk.desk c.in_ok-sites.sites.items c.in_ok-desk.ensures.new c.in_ok-sites.ensures.new in
+    let last = c.in-Ok.ensures.single catalogue c.in_ok-chain.ensures.one in
     record {
       none = c.in-Ok.ensures.none;
-      catalog = c.in-Ok.ensures.catalog;
-      single = c.in-Ok.ensures.single;
+      catalog = last.is;
+      single = last.none;
       sound = c.in-Ok.ensures.sound;
-      run = λ clean. c.in-Ok.ensures.ok clean new c.requires;
+      run = λ clean. c.in-Ok.ensures.ok catalogue last clean new c.requires;
     }
 
 pub returns-in_err-sites-clause-err : goal.returns-in_err-sites-clause-err

@@ -4,7 +4,7 @@ use Rattle.std.proofs.lemmas.List.{length-map}
 use Rattle.catalog.specs.declared.relation.SplitRelation.{SplitRelation}
 use Rattle.catalog.specs.Relation.{catalogue_of}
 use Rattle.desk.specs.CatalogueDatabase.{database}
-use Rattle.world.specs.Chain.{StandsLast}
+use Rattle.world.specs.Chain.{StandsLast, sites_of}
 use Rattle.world.specs.Contents.{OfStores, counted, held}
 use Rattle.world.specs.Counted.{counts}
 use Rattle.world.specs.Machines.{AreFit, Machines}
@@ -12,7 +12,7 @@ use Rattle.world.specs.Recovery.{BeginsAnewOver, GoesOnOver, lost_by}
 use Rattle.world.specs.Settled.{AreDecided}
 use Rattle.world.specs.Start.{BeginsWithoutRows}
 use Rattle.world.proofs.Anew.{begins_on, going_on}
-use Rattle.world.proofs.ComingUp.{all_sound, came_up, stores_were_clean, up_again, up_fit}
+use Rattle.world.proofs.ComingUp.{all_sound, came_up, stores_were_clean, up_again, up_fit, up_in_force}
 use Rattle.world.proofs.Counting.{fit_uncounted}
 use Rattle.world.proofs.DatabaseIsOpened.{placed}
 use Rattle.world.proofs.OfChain.{last_by, last_of}
@@ -20,7 +20,7 @@ use Rattle.world.proofs.Recovers.{goes_further}
 use Rattle.world.proofs.solo.Solo.open_stores.Goals as goal
 
 pub sites_up-requires : goal.sites_up-requires
-sites_up-requires g c = c.requires ∙ sym (ap (λ (sites : List (List ℕ)). length sites) c.in_ok-desk.ensures.sites) ∙ sym (ap (λ (x : List (List ℕ) × List SplitRelation). length x.0) c.catalog-catalog.ensures)
+sites_up-requires g c = c.requires ∙ ap (λ (chain : List (List (List ℕ) × List SplitRelation)). length (sites_of chain)) c.first_of.ensures.1
 
 pub returns-clause-last : goal.returns-clause-last
 returns-clause-last g c = λ catalogue at clean.
@@ -49,7 +49,7 @@ returns-clause-goes_on g c = λ catalogue at clean.
     let db = database here in
     let up = c.in_ok-desk.ensures.up in
     let sites = c.in_ok-sites.sites.items in
-    let seats = c.in_ok-sites.ensures.up in
+    let seats = up_in_force g.S.SiteStore.is_clean g.S.SiteStore.is_sound g.S.SiteStore.kept g.S.SiteStore.refused c.args.chain.now c.first_of.ensures.0 c.first_of.result.now c.in_ok-desk.desk.catalog c.catalog-catalog.result.now c.args.sites.items c.in_ok-sites.sites.items c.first_of.ensures.1 c.catalog-catalog.ensures c.in_ok-desk.ensures.sites c.in_ok-desk.ensures.schemas c.in_ok-sites.ensures.up in
     let first = counted D.kept S.kept D.refused S.refused (record { alloc = c.args.alloc; desk = desk; sites = c.in_ok-sites.sites; traffic = c.none.result }) in
     let middle = counted D.kept S.kept D.refused S.refused c.recover.new.machines in
     let last = counted D.kept S.kept D.refused S.refused c.ensure_no_commit_row.new.machines in
@@ -84,7 +84,7 @@ returns-clause-anew g c = λ catalogue at clean.
     let rises = up.rises db (record { sites = ap (λ (x : List (List ℕ) × List SplitRelation). x.0) c.catalog-catalog.ensures; distinct = (c.database_is_of_catalogue.ensures.of_catalogue.formed 0).distinct }) now.0 in
     let stands = last_by desk.volatile.version (D.kept c.args.desk).version catalogue _ desk (rises.fits.version ∙ (up.life now.0).version) at c.in_ok-desk.ensures.catalogs in
     let is : here ≡ catalogue = ap catalogue_of c.catalog-catalog.ensures ∙ stands.is in
-    let sound : OfStores D.is_sound S.is_sound (record { alloc = c.args.alloc; desk = desk; sites = c.in_ok-sites.sites; traffic = c.none.result }) = (up.leaves_store.sound now.0 (up.learnt now.0), all_sound S.is_clean S.is_sound S.kept S.refused here here.sites c.args.sites.items c.in_ok-sites.sites.items c.in_ok-sites.ensures.up now.1) in
+    let sound : OfStores D.is_sound S.is_sound (record { alloc = c.args.alloc; desk = desk; sites = c.in_ok-sites.sites; traffic = c.none.result }) = (up.leaves_store.sound now.0 (up.learnt now.0), all_sound S.is_clean S.is_sound S.kept S.refused here here.sites c.args.sites.items c.in_ok-sites.sites.items (up_in_force g.S.SiteStore.is_clean g.S.SiteStore.is_sound g.S.SiteStore.kept g.S.SiteStore.refused c.args.chain.now c.first_of.ensures.0 c.first_of.result.now c.in_ok-desk.desk.catalog c.catalog-catalog.result.now c.args.sites.items c.in_ok-sites.sites.items c.first_of.ensures.1 c.catalog-catalog.ensures c.in_ok-desk.ensures.sites c.in_ok-desk.ensures.schemas c.in_ok-sites.ensures.up) now.1) in
     let sound_mid = c.recover.ensures.leaves.sound clean_mid sound in
     let still = c.ensure_no_commit_row.ensures.same clean sound_mid in
     subst (λ x. BeginsAnewOver x (D.kept c.args.desk) (map S.kept c.args.sites.items) (counted D.kept S.kept D.refused S.refused last)) is
@@ -117,7 +117,7 @@ returns-clause-clean g c = λ clean.
     let S = g.S.SiteStore in
     let here = catalogue_of c.catalog-catalog.result.now in
     let now = c.recover.ensures.leaves.clean (c.ensure_no_commit_row.ensures.leaves.clean clean) in
-    (c.in_ok-desk.ensures.up.leaves_store.clean now.0, stores_were_clean S.is_clean S.is_sound S.kept S.refused here here.sites c.args.sites.items c.in_ok-sites.sites.items c.in_ok-sites.ensures.up now.1)
+    (c.in_ok-desk.ensures.up.leaves_store.clean now.0, stores_were_clean S.is_clean S.is_sound S.kept S.refused here here.sites c.args.sites.items c.in_ok-sites.sites.items (up_in_force g.S.SiteStore.is_clean g.S.SiteStore.is_sound g.S.SiteStore.kept g.S.SiteStore.refused c.args.chain.now c.first_of.ensures.0 c.first_of.result.now c.in_ok-desk.desk.catalog c.catalog-catalog.result.now c.args.sites.items c.in_ok-sites.sites.items c.first_of.ensures.1 c.catalog-catalog.ensures c.in_ok-desk.ensures.sites c.in_ok-desk.ensures.schemas c.in_ok-sites.ensures.up) now.1)
 
 pub returns-clause-sound : goal.returns-clause-sound
 returns-clause-sound g c = λ clean.
@@ -126,4 +126,4 @@ returns-clause-sound g c = λ clean.
     let up = c.in_ok-desk.ensures.up in
     let clean_mid = c.ensure_no_commit_row.ensures.leaves.clean clean in
     let now = c.recover.ensures.leaves.clean clean_mid in
-    c.ensure_no_commit_row.ensures.leaves.sound clean (c.recover.ensures.leaves.sound clean_mid (up.leaves_store.sound now.0 (up.learnt now.0), all_sound S.is_clean S.is_sound S.kept S.refused here here.sites c.args.sites.items c.in_ok-sites.sites.items c.in_ok-sites.ensures.up now.1))
+    c.ensure_no_commit_row.ensures.leaves.sound clean (c.recover.ensures.leaves.sound clean_mid (up.leaves_store.sound now.0 (up.learnt now.0), all_sound S.is_clean S.is_sound S.kept S.refused here here.sites c.args.sites.items c.in_ok-sites.sites.items (up_in_force g.S.SiteStore.is_clean g.S.SiteStore.is_sound g.S.SiteStore.kept g.S.SiteStore.refused c.args.chain.now c.first_of.ensures.0 c.first_of.result.now c.in_ok-desk.desk.catalog c.catalog-catalog.result.now c.args.sites.items c.in_ok-sites.sites.items c.first_of.ensures.1 c.catalog-catalog.ensures c.in_ok-desk.ensures.sites c.in_ok-desk.ensures.schemas c.in_ok-sites.ensures.up) now.1))
