@@ -1,7 +1,6 @@
 //! The cells that a database begins with: its machines start over their stores.
 
-ghost use Rattle.std.specs.Prelude.{◌≡◌, ◌∷◌, [], ℕ, IfOk, List, length, map};
-ghost use Rattle.catalog.specs.declared.relation.SplitRelation.{SplitRelation};
+ghost use Rattle.std.specs.Prelude.{◌≡◌, ◌∷◌, [], IfOk, length, map};
 ghost use Rattle.catalog.specs.Catalogue.{Catalogue};
 ghost use Rattle.catalog.specs.FragmentLeaf.{schemas_of};
 ghost use Rattle.catalog.specs.Relation.{catalogue_of};
@@ -25,16 +24,6 @@ use terms::copy::TryCopy;
 use terms::text::Text;
 use world::fault::Fault;
 use world::site_leaves::known_leaves;
-
-/// The first catalogue of a chain.
-pub(crate) fn first_of(chain: &Chain) -> &Catalog
-    ensures { (rest : List (List (List ℕ) × List SplitRelation)) × (chain.now ≡ result.now ∷ rest) }
-{
-    match chain.as_slice().split_first() {
-        Some((first, _)) => first,
-        None => unreachable!(),
-    }
-}
 
 /// The cells of sites that start over these stores, in the catalogue's order.
 #[tactic(auto, using(crate::proofs::SiteCells::next_fresh, crate::proofs::SiteCells::next_has))]

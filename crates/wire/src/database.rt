@@ -7,7 +7,7 @@ ghost use Rattle.world.specs.Chain.{sites_of};
 ghost use Rattle.history.specs.Records.{AreRecords};
 ghost use Rattle.wire.specs.Opening.{HaveLeaves};
 
-use crate::cells::{desk_cell, first_of, site_cells};
+use crate::cells::{desk_cell, site_cells};
 use crate::fault::CallFault;
 use crate::front::{Front, Way, Word};
 use crate::gate::Gate;
@@ -30,6 +30,7 @@ use store::site_store::SiteStore;
 use terms::copy::TryCopy;
 use terms::memory::Memory;
 use terms::text::Text;
+use world::chain::first_of;
 use world::fault::Fault;
 
 /// A coordinator, and sites that work in a thread each. It can't be let go, only closed.
