@@ -220,6 +220,7 @@ impl<D: DeskStore + Drop, S: SiteStore + Drop> Records<D, S> {
     {
         runs_are_serial(self.machines.desk.catalog());
         language_is_lawful(self.machines.desk.catalog());
+        database_is_of_catalogue(self.machines.desk.catalog());
         rebuilt(&mut self.machines, relation)
     }
 }
