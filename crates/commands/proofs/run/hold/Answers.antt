@@ -8,7 +8,7 @@ first_is : (one first : Catalogue) (rest : List Catalogue) → one ∷ [] ≡ fi
 first_is one first rest e = cc
 
 pub open-requires : goal.open-requires
-open-requires g c = record {
-  one_each = c.requires.one_each ∙ ap length (sym c.in_ok-chain.ensures.sites);
-  leaves = λ first rest are. subst (λ (catalogue : Catalogue). HaveLeaves g.S.SiteStore.is_clean g.S.SiteStore.kept catalogue c.args.stores.sites.items) (first_is _ first rest (sym c.in_ok-chain.ensures.one ∙ are)) c.requires.leaves;
-}
+open-requires g c = (
+  c.requires.one_each ∙ ap length (sym c.in_ok-chain.ensures.sites),
+  λ first rest are. subst (λ (catalogue : Catalogue). HaveLeaves g.S.SiteStore.is_clean g.S.SiteStore.kept catalogue c.args.stores.sites.items) (first_is _ first rest (sym c.in_ok-chain.ensures.one ∙ are)) c.requires.leaves,
+)
