@@ -25,8 +25,8 @@ use store::fault::StoreFault;
 use store::plain_desk::PlainDesk;
 use store::plain_site::PlainSite;
 use terms::memory::Memory;
-use world::fault::Fault;
 use world::chain::alone;
+use world::fault::Fault;
 use world::solo::{Solo, open, open_on};
 
 /// Opens databases over stores of some kind.

@@ -33,6 +33,3 @@ returns-in_err-sites-clause-err c = passed_on c.from_residual.result c.in_err-si
 
 pub returns-in_err-desk-clause-err : goal.returns-in_err-desk-clause-err
 returns-in_err-desk-clause-err c = passed_on c.from_residual-in_err-desk.result c.in_err-desk.field-0.0 (search rules) c.in_err-desk.ensures.err
-
-pub returns-in-Err-clause-err : goal.returns-in-Err-clause-err
-returns-in-Err-clause-err c = stops_as_client c.unopened.result c.unopened.ensures

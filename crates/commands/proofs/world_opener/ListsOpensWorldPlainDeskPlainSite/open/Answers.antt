@@ -6,9 +6,9 @@ returns-in-Ok-clause-ok c =
     let catalogue = catalogue_of c.args.catalog.now in
     let last = c.in-Ok.ensures.single catalogue c.in_ok-chain.ensures.one in
     record {
-  none = c.in-Ok.ensures.none;
-  catalog = last.is;
-  single = last.none;
-  sound = λ clean. c.in-Ok.ensures.sound;
-  run = λ clean. c.in-Ok.ensures.ok catalogue c.requires last;
-}
+      none = c.in-Ok.ensures.none;
+      catalog = last.is;
+      single = last.none;
+      sound = λ clean. c.in-Ok.ensures.sound;
+      run = λ clean. c.in-Ok.ensures.ok catalogue c.requires last;
+    }
