@@ -1,10 +1,12 @@
 //! The command `run`: a script of many sessions, which are at work at once.
 
-ghost use Rattle.std.specs.Prelude.{◌≡◌, ◌≤◌, Err, IfErr, IfOk, IfSome, length, map, string_bytes};
+ghost use Rattle.std.specs.Prelude.{◌≡◌, ◌≤◌, ◌∷◌, Err, IfErr, IfOk, IfSome, List, length, map, string_bytes};
+ghost use Rattle.catalog.specs.Catalogue.{Catalogue};
 ghost use Rattle.std.specs.Io.KnownBytes.{Keeps};
 ghost use Rattle.catalog.specs.Relation.{catalogue_of};
 ghost use Rattle.history.specs.Records.{AreRecords};
 ghost use Rattle.wire.specs.Opening.{HaveLeaves};
+ghost use Rattle.world.specs.Chain.{sites_of};
 ghost use Rattle.commands.specs.Client.{IsOfClient};
 ghost use Rattle.commands.specs.Conversations.{AreOfParts};
 ghost use Rattle.commands.specs.Perform.{ComesTo, IsUnread};
@@ -22,6 +24,7 @@ use crate::solo::read_script;
 use crate::sql_stores::OpenStores;
 use crate::store_opener::OpensStores;
 use catalog::catalogue::Catalog;
+use catalog::chain::Chain;
 use catalog::fault::CatFault;
 use history::records::Records;
 use lines::catalog_file::{CatalogFault, read_catalog};
@@ -317,6 +320,21 @@ struct Held<D: DeskStore, S: SiteStore> {
     records: Records<D, S>,
 }
 
+/// The chain of a catalogue, over whose stores a database is opened.
+fn chain_over<D: DeskStore, S: SiteStore>(
+    alloc: Global,
+    catalog: &Catalog,
+    stores: &OpenStores<D, S>,
+) -> Result<Chain, Memory>
+    requires one_each { length stores.now.sites.items ≡ length catalog.now.0 }
+    requires leaves { HaveLeaves S.is_clean S.kept (catalogue_of catalog.now) stores.now.sites.items }
+    ensures one_each { IfOk result (λ chain. length stores.now.sites.items ≡ length (sites_of chain)) }
+    ensures leaves { (first : Catalogue) (rest : List Catalogue) → IfOk result (λ chain. map catalogue_of chain ≡ first ∷ rest → HaveLeaves S.is_clean S.kept first stores.now.sites.items) }
+{
+    let chain = alone(alloc, catalog)?;
+    Ok(chain)
+}
+
 /// Opens a database over these stores, holds the conversations of all parts at once, and closes it.
 fn hold<
     'a,
@@ -338,8 +356,8 @@ fn hold<
     ensures records { IfOk result (λ held. AreRecords D.is_clean D.is_sound D.kept S.is_clean S.is_sound S.kept held.records.machines held.records.catalogs.items held.records.opening held.records.entries.items held.records.pasts.items) }
     ensures err { IfErr result StopsRun }
 {
+    let chain = chain_over(alloc, catalog, &stores)?;
     let OpenStores { sites, desk } = stores;
-    let chain = alone(alloc, catalog)?;
     let database = match Database::open(rt, alloc, &chain, sites, desk, Ungated) {
         Ok(database) => database,
         Err(fault) => return Err(RunFault::Program(unopened(fault))),
