@@ -14,6 +14,8 @@ mod chance;
 #[cfg(test)]
 mod desks;
 #[cfg(test)]
+mod ends;
+#[cfg(test)]
 mod letters;
 #[cfg(test)]
 mod outcomes;

@@ -3,12 +3,13 @@
 
 use crate::catalogues::EMP_AND_DEPT;
 use crate::chance::Chance;
+use crate::ends::{Ends, WAYS};
 use crate::sqldatabases::site_stores;
 use crate::statements::{catalog, line};
 use crate::worlds::{loaded, opened_over};
 use catalog::chain::Chain;
 use desk::refusal::Refusal;
-use desk::reply::{Notice, Reply, Why};
+use desk::reply::{Notice, Reply};
 use meaning::schema::Schema;
 use meaning::whole::Whole;
 use reader::print_answer::print_answer;
@@ -47,73 +48,6 @@ INSERT INTO dept VALUES (12, 'paint')
 INSERT INTO emp VALUES (1, 'Ada', 1, 10)
 INSERT INTO emp VALUES (2, 'Bo', 7, 20)
 INSERT INTO emp VALUES (3, 'Cy', 12, 30)";
-
-/// The ways in which transactions end.
-const WAYS: [&str; 8] = [
-    "committed",
-    "rolled back",
-    "refused a lock",
-    "refused as gone",
-    "voted down",
-    "given up",
-    "lost in a restart",
-    "not kept",
-];
-
-/// The place of the way in which a transaction ended, if a client hears that it did.
-fn way(reply: &Reply, is_locked: bool) -> Option<usize> {
-    match reply {
-        Reply::Begun | Reply::Answer(_) => None,
-        Reply::Committed => Some(0),
-        Reply::RolledBack => Some(1),
-        Reply::Aborted(Why::Refused) if is_locked => Some(2),
-        Reply::Aborted(Why::Refused) => Some(3),
-        Reply::Aborted(Why::Vote) => Some(4),
-        Reply::Aborted(Why::GivenUp) => Some(5),
-        Reply::Aborted(Why::Restart) => Some(6),
-        Reply::Aborted(Why::Store) => Some(7),
-    }
-}
-
-/// How many transactions ended in each way.
-#[derive(Drop)]
-struct Ends {
-    counts: [u64; 8],
-}
-
-impl Ends {
-    fn new() -> Ends {
-        Ends { counts: [0; 8] }
-    }
-
-    /// So many more ended in the way at this place.
-    fn add(&mut self, place: usize, more: u64) {
-        if let Some(count) = self.counts.get_mut(place) {
-            *count = count.saturating_add(more);
-        }
-    }
-
-    /// Clients hear this. The letter that led to it may be one that refuses a lock.
-    fn hear(&mut self, notices: &[Notice], is_locked: bool) {
-        for notice in notices {
-            if let Some(place) = way(&notice.reply, is_locked) {
-                self.add(place, 1);
-            }
-        }
-    }
-
-    /// Those of another schedule are added.
-    fn add_all(&mut self, others: &Ends) {
-        for (place, count) in others.counts.iter().enumerate() {
-            self.add(place, *count);
-        }
-    }
-
-    /// Whether some ended in the way at this place.
-    fn is_met(&self, place: usize) -> bool {
-        self.counts.get(place).is_some_and(|count| *count > 0)
-    }
-}
 
 /// Whether a site refuses a lock by this letter.
 fn refuses_lock(letter: &Letter) -> bool {

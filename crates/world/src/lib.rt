@@ -12,6 +12,7 @@ mod autocommit;
 mod batch;
 pub mod chain;
 mod client;
+mod command;
 pub mod committed;
 pub mod event;
 pub mod fault;

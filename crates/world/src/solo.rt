@@ -9,7 +9,7 @@ ghost use Rattle.catalog.specs.Relation.{catalogue_of};
 ghost use Rattle.reader.specs.declared.command.Command.TheVariants.{Begin, Commit, Rollback, Run};
 ghost use Rattle.reader.specs.declared.command.Command.{Command as CommandNow};
 ghost use Rattle.store.specs.declared.name.Txn.{Txn as TxnNow};
-ghost use Rattle.world.specs.Commands.{Executes, IsCommand, IsNoCommand, IsUnreadable, UnlessStopped, heard_in};
+ghost use Rattle.world.specs.Commands.{Executes, IsCommand, IsNoCommand, UnlessStopped, heard_in};
 ghost use Rattle.reader.specs.Command.{IsTextOf};
 ghost use Rattle.protocol.specs.Desk.{Deed};
 ghost use Rattle.store.specs.PlainDesk.{kept_of as desk_kept};
@@ -41,6 +41,7 @@ use crate::autocommit::{is_stop, run_autocommit, tells_end};
 use crate::batch::run_all;
 use crate::chain::first_of;
 use crate::client::{begin, commit, roll_back, state};
+use crate::command::command_of;
 use crate::fault::Fault;
 use crate::laws::{
     begins_anew, commands_follow, database_is_of_catalogue, grows_quiet, machines_come_up,
@@ -61,8 +62,7 @@ use desk::reply::Notice;
 use meaning::statement::Statement;
 use meaning::whole::Whole;
 use reader::command::Command;
-use reader::fault::{ReadFault, Rule};
-use reader::read::{one_command, read};
+use reader::read::one_command;
 use std::alloc::Global;
 use store::desk_store::DeskStore;
 use store::name::Txn;
@@ -142,28 +142,6 @@ pub fn open_on<D: DeskStore + Drop, S: SiteStore + Drop>(
     })
 }
 
-/// What the reader says of a text.
-fn reader_refusal(fault: ReadFault) -> Refusal
-    ensures { ((fault.rule ≡ Rule.Memory) × (result ≡ refusals.Memory)) ⊎ ((fault.rule ≢ Rule.Memory) × (result ≡ refusals.Read fault)) }
-{
-    if fault.rule() == Rule::Memory {
-        Refusal::Memory
-    } else {
-        Refusal::Read(fault)
-    }
-}
-
-/// The command of a text, under the catalogue's schema.
-fn command_of(alloc: Global, catalog: &Catalog, text: &str) -> Result<Command, Refusal>
-    ensures read { IfOk result (λ command. IsTextOf (schemas_of (catalogue_of catalog.now)) text.now command) }
-    ensures reader_refusal { IfErr result (IsUnreadable (schemas_of (catalogue_of catalog.now)) text.now) }
-{
-    match read(alloc, text, catalog.schema()) {
-        Ok(command) => Ok(command),
-        Err(fault) => Err(reader_refusal(fault)),
-    }
-}
-
 /// What has stopped a client's database after a command.
 fn stopped_by<T>(done: &Result<T, Refusal>) -> Option<Refusal>
     ensures { result ≡ stopped_by done.now }
@@ -189,10 +167,10 @@ fn still_open(txn: Txn, heard: &[Notice]) -> Option<Txn>
 
 impl<D: DeskStore + Drop, S: SiteStore + Drop> Solo<D, S> {
     /// Opens a database over these stores: those of its sites, in the order of the chain, and the coordinator's, whose
-    /// number says which catalogue is in force. Over
-    /// the stores of an earlier run, wherever that was stopped, it goes on: what was committed is there, what was
-    /// prepared has come to its end, and nothing else has been done. So it begins anew over the whole relations that
-    /// the committed transactions have made, and over new stores without rows. On a fault the stores are let go.
+    /// number says which catalogue is in force. Over the stores of an earlier run, wherever that was stopped, it goes on:
+    /// what was committed is there, what was prepared has come to its end, and nothing else has been done. So it begins
+    /// anew over the whole relations that the committed transactions have made, and over new stores without rows. On a
+    /// fault the stores are let go.
     pub fn open_stores(
         alloc: Global,
         chain: &Chain,
@@ -468,10 +446,10 @@ impl<D: DeskStore, S: SiteStore> Solo<D, S> {
 
     /// What its commands have done and cost since it was opened: how many transactions were committed, and aborted for
     /// each cause, the letters that came to a machine, the rounds in which they came, and how often a store has kept
-    /// something durably. The stores' calls aren't counted themselves, but the
-    /// letters that tell of them: a vote YES of a prepared row, an Ack of what a committed transaction wrote at a
-    /// site, orders to commit of the commit row, once however many there are. A vote READ or NO, an abort, and what a
-    /// store refuses count for nothing. That these are the counts is tested only.
+    /// something durably. The stores' calls aren't counted themselves, but the letters that tell of them: a vote YES of
+    /// a prepared row, an Ack of what a committed transaction wrote at a site, orders to commit of the commit row, once
+    /// however many there are. A vote READ or NO, an abort, and what a store refuses count for nothing. That these are
+    /// the counts is tested only.
     pub fn traffic(&self) -> Traffic
         ensures { result ≡ self.now.machines.traffic }
     {

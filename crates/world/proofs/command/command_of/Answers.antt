@@ -4,7 +4,7 @@ use Rattle.meaning.specs.declared.schema.RelationSchema.{RelationSchema}
 use Rattle.reader.specs.Command.{IsTextOf}
 use Rattle.world.specs.Commands.{IsUnreadable}
 use Rattle.world.proofs.Denials.{unreadable}
-use Rattle.world.proofs.solo.command_of.Goals as goal
+use Rattle.world.proofs.command.command_of.Goals as goal
 
 pub returns-in-Ok-clause-read : goal.returns-in-Ok-clause-read
 returns-in-Ok-clause-read c = subst (λ (schemas : List RelationSchema). IsTextOf schemas c.args.text.now c.in-Ok.command) c.schema.ensures.schemas c.in-Ok.ensures.found
