@@ -471,10 +471,9 @@ impl<D: DeskStore, S: SiteStore> Solo<D, S> {
         kept_parts(&mut self.machines, leaf)
     }
 
-    /// The rows of a relation, by their keys, as the fragments rebuild it with the intentions of committed
-    /// transactions; none of a relation that there isn't. They are what the committed transactions make of it,
-    /// one after another. Nothing has changed by this. A fault is want of memory, or a store whose medium has
-    /// refused meanwhile.
+    /// The rows of a relation, by their keys, as the fragments rebuild it with the intentions of committed transactions;
+    /// none of a relation that there isn't. They are what the committed transactions make of it, one after another.
+    /// Nothing has changed by this. A fault is want of memory, or a store whose medium has refused meanwhile.
     pub fn rebuilt(&mut self, relation: &Text) -> Result<Option<Vec<Row>>, Fault>
         ensures sent { result ≢ Err faults.Unsent }
         ensures leaves { LeavesMachines D.is_clean S.is_clean D.is_sound S.is_sound D.refused S.refused self.old.machines self.new.machines }
