@@ -10,7 +10,8 @@ use std::alloc::Global;
 use std::io;
 use terms::memory::Memory;
 
-/// A sentence on a fault of a relation's file: the line, the column, and why; without a line feed.
+/// A sentence on a fault of a relation's file: the line, the column, and why; without a line feed. It is for a person's eyes, so no
+/// clause says it.
 pub fn tell(alloc: Global, relation: &RelationSchema, fault: &LineFault) -> Result<String, Memory> {
     let line = fault.line;
     let refused = refused(fault);
@@ -50,7 +51,7 @@ fn refused(fault: &LineFault) -> &str {
 }
 
 /// A sentence on why no catalogue is suggested for a file, of which the columns of these names were to be the key and the
-/// one by which rows are split; without a line feed.
+/// one by which rows are split; without a line feed. It is for a person's eyes, so no clause says it.
 pub fn tell_suggestion(
     alloc: Global,
     key: &str,

@@ -5,6 +5,7 @@ use Rattle.std.specs.List.{AllByRecursion, list_any}
 use Rattle.std.specs.Option.{option_map}
 use Rattle.std.specs.Ordering.{is_eq}
 use Rattle.terms.specs.Leaf.{leaf_cmp}
+use Rattle.catalog.specs.declared.relation.SplitRelation.{SplitRelation}
 use Rattle.meaning.specs.Whole.{Relations}
 use Rattle.store.specs.declared.commit.DeskKept.{DeskKept}
 use Rattle.store.specs.Content.{made_by}
@@ -21,10 +22,11 @@ use Rattle.desk.specs.Place.{Place}
 use Rattle.world.specs.declared.fault.Fault.{Fault}
 use Rattle.world.specs.Machines.{Machines, world_of}
 use Rattle.world.specs.Placed.{Opens}
-use Rattle.world.specs.Runs.{IsRun}
+use Rattle.world.specs.Runs.{IsListRun, IsRun}
 use Rattle.world.specs.Sites.{states_of}
 use Rattle.world.specs.Start.{IsAtRest}
-use Rattle.world.proofs.Openings.{opens_at_rest}
+use Rattle.world.proofs.ListIsBase.{list_run}
+use Rattle.world.proofs.Openings.{list_at_rest, opens_at_rest}
 use Rattle.world.proofs.Seating.{HasItsLeaves, name_is}
 use Rattle.history.specs.declared.entry.Entry.{Entry}
 use Rattle.history.specs.DeskHistory.{DeskState}
@@ -45,9 +47,13 @@ site_stays first (entry ∷ entries) last so =
     let rest = site_stays so.0 entries last so.1.1 in
     (rest.0 ∙ one.0, rest.1 ∙ one.1)
 
--- the machines of a coordinator and of sites
+-- the machines of a coordinator and of sites, with the catalogues that come later
+abbrev pub machines_over : DeskState → List Seat → List (List (List ℕ) × List SplitRelation) → Machines
+machines_over desk seats later = record { desk = desk.content; table = desk.table; seats = seats; later = later; refused = [] }
+
+-- so where none comes later
 abbrev pub machines_of : DeskState → List Seat → Machines
-machines_of desk seats = record { desk = desk.content; table = desk.table; seats = seats; later = []; refused = [] }
+machines_of desk seats = machines_over desk seats []
 
 -- each of these sites is recorded
 abbrev pub AllRecorded : List SitePast → Type 0
@@ -125,3 +131,13 @@ module _ (db : Database) (whole : Relations) (opening : DeskKept) (entries : Lis
     tells = record { phased = refl; stated = tt; heard = refl };
     fit = opens.fit;
   }
+
+  -- and so where catalogues come later
+  pub first_list_run : (later : List (List (List ℕ) × List SplitRelation)) → IsListRun db whole (machines_over recorded.desk.first (firsts pasts recorded.sites) later) [] []
+  first_list_run later =
+      let desk = recorded.desk in
+      let machines = machines_over desk.first (firsts pasts recorded.sites) later in
+      let version : opening.version ≡ desk.first.table.version = desk.lists.catalogue ∙ sym desk.rises.fits.version in
+      list_run db whole machines (list_at_rest db whole machines rebuilds.fits (first_names pasts recorded.sites ∙ recorded.names) (first_leaves db pasts recorded.sites recorded.leaves) (first_rests pasts recorded.sites recorded.prepared)
+      (λ place. first_keeps db pasts recorded.sites place ∙ rebuilds.content place ∙ ap (λ (n : ℕ). db.content n place whole) version)
+      desk.rises (λ txn. sym (desk.lists.rows txn) ∙ ap (λ rows. option_map by_site (voters_in txn rows)) recorded.decided))

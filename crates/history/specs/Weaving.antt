@@ -5,17 +5,20 @@ use Rattle.std.specs.List.{AllByRecursion, list_any}
 use Rattle.std.specs.Ordering.{is_eq}
 use Rattle.terms.specs.declared.leaf.Leaf.{Leaf}
 use Rattle.terms.specs.Leaf.{leaf_cmp}
+use Rattle.catalog.specs.declared.relation.SplitRelation.{SplitRelation}
 use Rattle.meaning.specs.Whole.{FitsSchema, Relations}
 use Rattle.store.specs.declared.commit.DeskKept.{DeskKept}
 use Rattle.store.specs.declared.prepared.SiteKept.{SiteKept}
 use Rattle.store.specs.Content.{Content, made_by}
-use Rattle.protocol.specs.Desk.{Deed}
+use Rattle.protocol.specs.Desk.{Deed, is_moving}
+use Rattle.protocol.specs.Language.{Name}
 use Rattle.site.specs.Seat.{Seat, is_called}
 use Rattle.desk.specs.Database.{Database, IsPlace, language}
 use Rattle.desk.specs.Place.{Place}
+use Rattle.desk.specs.State.{desk_of}
 use Rattle.world.specs.declared.event.Entry as world
 use Rattle.world.specs.Machines.{Machines}
-use Rattle.world.specs.Runs.{IsRun, IsSerialRun}
+use Rattle.world.specs.Runs.{IsListRun, IsRun, IsSerialRun}
 use Rattle.history.specs.declared.entry.Entry.{Entry}
 use Rattle.history.specs.Brought.{HaveHappened}
 use Rattle.history.specs.DeskHistory.{DeskRecorded, DeskState}
@@ -37,9 +40,13 @@ abbrev pub fragment_at : List SitePast → Place → Content
 fragment_at [] place = fin.empty
 fragment_at (past ∷ pasts) place = if is_called place.0 past.last then made_by past.opening.parts place.1 else fragment_at pasts place
 
--- the machines as they are now
+-- the machines as they are now, with the catalogues that come later
+abbrev pub machines_with : DeskState → List SitePast → List (List (List ℕ) × List SplitRelation) → Machines
+machines_with desk pasts later = record { desk = desk.content; table = desk.table; seats = map (λ past. past.last) pasts; later = later; refused = [] }
+
+-- so where none comes later
 abbrev pub machines_in : DeskState → List SitePast → Machines
-machines_in desk pasts = record { desk = desk.content; table = desk.table; seats = map (λ past. past.last) pasts; later = []; refused = [] }
+machines_in desk pasts = machines_with desk pasts []
 
 -- the histories of a database's coordinator and of its sites, in the catalogue's order: each replays, and at the opening nothing was decided or in doubt
 pub record AreRecorded (db : Database) (opening : DeskKept) (entries : List Entry) (last : DeskState) (pasts : List SitePast) : Type 0 where
@@ -66,3 +73,19 @@ abbrev pub WovenAreSerial : Database → Type 0
 WovenAreSerial db = (whole : Relations) (opening : DeskKept) (entries : List Entry) (last : DeskState) (pasts : List SitePast) (acts : List (Act Entry)) (happened : List world.Entry) →
     AreRecorded db opening entries last pasts → Rebuilds db opening.version whole pasts → IsMerged (λ (entry : Entry). entry.number) (entries ∷ map (λ past. past.entries) pasts) acts → HaveHappened db.sites [] acts happened →
     IsSerialRun db whole (machines_in last pasts) happened
+
+-- where no catalogue comes later, nobody gives a relation another split
+abbrev pub IsStill : Database → DeskState → List (List (List ℕ) × List SplitRelation) → Type 0
+IsStill db last later = later ≡ [] → (t : Name) → is_moving ((desk_of db last.table).txn t) ≡ false
+
+-- the law of every list of catalogues: such histories are a run of the machines, whichever catalogue came into force
+abbrev pub ListsWovenAreRuns : Database → Type 0
+ListsWovenAreRuns db = (whole : Relations) (opening : DeskKept) (entries : List Entry) (last : DeskState) (pasts : List SitePast) (later : List (List (List ℕ) × List SplitRelation)) (acts : List (Act Entry)) (happened : List world.Entry) →
+    AreRecorded db opening entries last pasts → IsStill db last later → Rebuilds db opening.version whole pasts → IsMerged (λ (entry : Entry). entry.number) (entries ∷ map (λ past. past.entries) pasts) acts → HaveHappened db.sites [] acts happened →
+    (past : List (Deed (language db))) × IsListRun db whole (machines_with last pasts later) happened past
+
+-- so they are serial
+abbrev pub ListsWovenAreSerial : Database → Type 0
+ListsWovenAreSerial db = (whole : Relations) (opening : DeskKept) (entries : List Entry) (last : DeskState) (pasts : List SitePast) (later : List (List (List ℕ) × List SplitRelation)) (acts : List (Act Entry)) (happened : List world.Entry) →
+    AreRecorded db opening entries last pasts → IsStill db last later → Rebuilds db opening.version whole pasts → IsMerged (λ (entry : Entry). entry.number) (entries ∷ map (λ past. past.entries) pasts) acts → HaveHappened db.sites [] acts happened →
+    IsSerialRun db whole (machines_with last pasts later) happened

@@ -2,13 +2,14 @@
 use Rattle.std.specs.Prelude.{◌≡◌, ◌⊎◌, ⊤, ℕ, codes, List, [], ◌∷◌, map}
 use Rattle.std.specs.List.{AllByRecursion}
 use Rattle.meaning.specs.Whole.{Relations}
+use Rattle.catalog.specs.declared.relation.SplitRelation.{SplitRelation}
 use Rattle.store.specs.declared.commit.DeskKept.{DeskKept}
 use Rattle.store.specs.declared.prepared.SiteKept.{SiteKept}
 use Rattle.protocol.specs.Desk.{Deed}
 use Rattle.desk.specs.Database.{Database, language}
 use Rattle.world.specs.declared.event.Entry as world
 use Rattle.world.specs.declared.event.Event.{Event}
-use Rattle.world.specs.Runs.{IsRun, IsSerialRun}
+use Rattle.world.specs.Runs.{IsListRun, IsRun, IsSerialRun}
 use Rattle.history.specs.declared.brought.Unbrought as unbrought
 use Rattle.history.specs.declared.brought.Unbrought.TheVariants as brought
 use Rattle.history.specs.declared.entry.Entry.{Entry}
@@ -23,7 +24,7 @@ use Rattle.history.specs.Brought.{HaveHappened, IsNotBrought}
 use Rattle.history.specs.DeskHistory.{DeskState}
 use Rattle.history.specs.Merge.{Act, Breaks, IsMerged}
 use Rattle.history.specs.Told.{AllStand}
-use Rattle.history.specs.Weaving.{Rebuilds, SitePast, machines_in}
+use Rattle.history.specs.Weaving.{Rebuilds, SitePast, machines_in, machines_with}
 
 -- Histories are put together by their numbers: each is there whole and in its order, and each letter that a machine took had been put out by an
 -- entry with a smaller number and was addressed to it; these things have so happened.
@@ -49,6 +50,16 @@ pub record IsRunOf (db : Database) (whole : Relations) (last : DeskState) (pasts
 pub record WeavesRun (db : Database) (opening : DeskKept) (entries : List Entry) (last : DeskState) (pasts : List SitePast) (lists : List (List Told)) (events : List Event) : Type 0 where
   pub woven : IsWoven db entries (map (λ past. past.entries) pasts) lists events
   pub run : (whole : Relations) → Rebuilds db opening.version whole pasts → IsRunOf db whole last pasts woven.happened
+
+-- so over a list of catalogues, whichever of them came into force; later: those that come later still
+pub record IsListRunOf (db : Database) (whole : Relations) (last : DeskState) (pasts : List SitePast) (later : List (List (List ℕ) × List SplitRelation)) (happened : List world.Entry) : Type 0 where
+  pub past : List (Deed (language db))
+  pub run : IsListRun db whole (machines_with last pasts later) happened past
+  pub serial : IsSerialRun db whole (machines_with last pasts later) happened
+
+pub record WeavesListRun (db : Database) (opening : DeskKept) (entries : List Entry) (last : DeskState) (pasts : List SitePast) (later : List (List (List ℕ) × List SplitRelation)) (lists : List (List Told)) (events : List Event) : Type 0 where
+  pub woven : IsWoven db entries (map (λ past. past.entries) pasts) lists events
+  pub run : (whole : Relations) → Rebuilds db opening.version whole pasts → IsListRunOf db whole last pasts later woven.happened
 
 -- at the opening nothing was decided or in doubt
 abbrev pub IsSettled : DeskKept → List SiteKept → Type 0

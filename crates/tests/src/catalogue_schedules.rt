@@ -10,7 +10,7 @@ use std::test::*;
 use terms::memory::Memory;
 
 /// Three catalogues: first one relation gets another split, and then the other.
-fn three(alloc: Global) -> Result<Chain, Memory> {
+pub(crate) fn three(alloc: Global) -> Result<Chain, Memory> {
     let mut catalogs = Vec::new(alloc);
     for text in [EMP_AND_DEPT, EMP_BY_ROWS, DEPT_IN_THREE] {
         catalogs.push(catalog(alloc, text)?)?;

@@ -18,6 +18,8 @@ mod ends;
 #[cfg(test)]
 mod letters;
 #[cfg(test)]
+mod one_client;
+#[cfg(test)]
 mod outcomes;
 #[cfg(test)]
 mod refragments;

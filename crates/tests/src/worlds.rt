@@ -136,6 +136,7 @@ pub(crate) fn heard_from<D: DeskStore, S: SiteStore>(
             }
             Err(Refusal::NoTransaction) => writeln!(told, "no transaction")?,
             Err(Refusal::Busy) => writeln!(told, "busy")?,
+            Err(Refusal::NoNext) => writeln!(told, "no next")?,
             Err(Refusal::Read(_)) => writeln!(told, "not read")?,
             Err(_) => return Err(Memory),
         }

@@ -76,7 +76,7 @@ impl Seats {
         }
     }
 
-    /// The replies of a transaction go this way from now on.
+    /// The replies of a transaction go this way from now on. No clause says so, since none says where a channel leads.
     pub fn enter(&mut self, txn: Txn, to: Sender<Given>) -> Result<(), Memory> {
         self.seats.push(Seat {
             txn,
@@ -86,12 +86,13 @@ impl Seats {
         Ok(())
     }
 
-    /// Nobody waits for the replies of a transaction any more.
+    /// Nobody waits for the replies of a transaction any more. What a seat is for, a channel, has no clause, nor has this.
     pub fn leave(&mut self, txn: Txn) {
         self.seats.retain(|seat| seat.txn != txn);
     }
 
-    /// Sends a reply to the session that waits for it, whose channel has room. Where none waits, the reply is lost.
+    /// Sends a reply to the session that waits for it, whose channel has room. Where none waits, the reply is lost. No
+    /// clause says so, since none follows a channel.
     pub fn tell<R: Wait>(&self, rt: &R, given: Given) {
         let seat = self.seats.iter().find(|seat| seat.txn == given.txn);
         if let Some(seat) = seat {
@@ -100,7 +101,7 @@ impl Seats {
     }
 
     /// A letter without which a transaction doesn't go on was lost for want of memory: the session that waits for its reply is
-    /// told so, once.
+    /// told so, once. No clause says so, since none follows a channel.
     pub fn lose<R: Wait>(&mut self, rt: &R, txn: Txn) {
         for seat in self.seats.iter_mut() {
             if seat.txn == txn && !seat.is_lost {
@@ -110,7 +111,7 @@ impl Seats {
         }
     }
 
-    /// Whether such a letter of a transaction was lost.
+    /// Whether such a letter of a transaction was lost. It stands in for what was told over a channel, so no clause says it.
     pub fn has_lost(&self, txn: Txn) -> bool {
         self.seats
             .iter()

@@ -110,7 +110,7 @@ impl<D: DeskStore, G> Shared<D, G> {
     }
 
     /// Brings a site's letter to the coordinator. Where memory runs out three times, the letter is lost, and the session that
-    /// waits for what comes of it is told so.
+    /// waits for what comes of it is told so. No clause says so, since none follows what lies under a lock.
     pub fn bring<R: Wait>(&self, rt: &R, letter: &Letter) {
         if !self.insist(rt, Errand::Take(letter)) && is_awaited(letter) {
             self.lose(rt, letter.txn);
@@ -118,7 +118,7 @@ impl<D: DeskStore, G> Shared<D, G> {
     }
 
     /// Gives a transaction up, unless it is decided. Where memory runs out three times, it stays undecided, and the session that
-    /// waits for it is told so.
+    /// waits for it is told so. No clause says so, since none follows what lies under a lock.
     pub fn give_up<R: Wait>(&self, rt: &R, txn: Txn) {
         if !self.insist(rt, Errand::GiveUp(txn)) {
             self.lose(rt, txn);

@@ -8,7 +8,7 @@ use Rattle.history.specs.Picks.{rows_of}
 use Rattle.history.specs.Told.{AllStand}
 use Rattle.history.specs.Weaving.{WovenAreRuns, WovenAreSerial}
 use Rattle.history.specs.Woven.{ArePutTogether, IsSettled}
-use Rattle.history.proofs.Woven.{weaves_run}
+use Rattle.history.proofs.Woven.{weaves_list, weaves_run}
 use Rattle.history.proofs.weave.weave.Given as given
 use Rattle.history.proofs.weave.weave.Goals as goal
 
@@ -30,12 +30,22 @@ stand_in g c =
 pub returns-clause-woven : goal.returns-clause-woven
 returns-clause-woven g c = record { happened = c.in_ok-happened.happened.items; put = put_in g c; told = c.in_ok-events_of.ensures; stand = stand_in g c }
 
+-- nothing was decided or in doubt
+settled_in : (g : given.Over) (c : goal.After-drop-rows-2 g) → IsSettled c.args.records.now.opening (map (λ (past : Past). past.opening) c.args.records.now.pasts.items)
+settled_in g c =
+    let yes : c.is_settled.result ≡ true = let no = c.if-not-is_settled.false in cc in
+    subst (λ pasts. IsSettled c.args.records.now.opening (map (λ (past : Past). past.opening) pasts)) c.pasts-pasts.ensures
+    (subst (λ opening. IsSettled opening (map (λ (past : Past). past.opening) c.pasts-pasts.result.now)) c.opening-opening.ensures (c.is_settled.ensures.0 yes))
+
 pub returns-clause-run : goal.returns-clause-run
 returns-clause-run g c = λ one clean records.
     let now = c.args.records.now in
-    let yes : c.is_settled.result ≡ true = let no = c.if-not-is_settled.false in cc in
-    let settled = subst (λ pasts. IsSettled now.opening (map (λ (past : Past). past.opening) pasts)) c.pasts-pasts.ensures
-    (subst (λ opening. IsSettled opening (map (λ (past : Past). past.opening) c.pasts-pasts.result.now)) c.opening-opening.ensures (c.is_settled.ensures.0 yes)) in
-    weaves_run g.D.DeskStore.is_clean g.D.DeskStore.is_sound g.D.DeskStore.kept g.S.SiteStore.is_clean g.S.SiteStore.is_sound g.S.SiteStore.kept now.machines now.catalogs.items now.opening now.entries.items now.pasts.items one records clean settled
+    weaves_run g.D.DeskStore.is_clean g.D.DeskStore.is_sound g.D.DeskStore.kept g.S.SiteStore.is_clean g.S.SiteStore.is_sound g.S.SiteStore.kept now.machines now.catalogs.items now.opening now.entries.items now.pasts.items one records clean (settled_in g c)
     (subst (λ x. WovenAreRuns (database (catalogue_of x))) c.catalog-catalog.ensures c.woven_are_runs.ensures) (subst (λ x. WovenAreSerial (database (catalogue_of x))) c.catalog-catalog.ensures c.woven_are_serial.ensures)
     (rows_of c.args.told.now) c.in_ok-happened.happened.items c.in_ok-events_of.field-0.items (put_in g c) c.in_ok-events_of.ensures (stand_in g c)
+
+pub returns-clause-lists : goal.returns-clause-lists
+returns-clause-lists g c = λ db listed of clean records.
+    let now = c.args.records.now in
+    weaves_list g.D.DeskStore.is_clean g.D.DeskStore.is_sound g.D.DeskStore.kept g.S.SiteStore.is_clean g.S.SiteStore.is_sound g.S.SiteStore.kept now.machines now.catalogs.items now.opening now.entries.items now.pasts.items db listed of records clean (settled_in g c)
+    (c.lists_woven_are_runs.ensures db listed) (c.lists_woven_are_serial.ensures db listed) (rows_of c.args.told.now) c.in_ok-happened.happened.items c.in_ok-events_of.field-0.items (put_in g c) c.in_ok-events_of.ensures (stand_in g c)
