@@ -9,7 +9,7 @@ ghost use Rattle.catalog.specs.Relation.{catalogue_of};
 ghost use Rattle.reader.specs.declared.command.Command.TheVariants.{Begin, Commit, Rollback, Run};
 ghost use Rattle.reader.specs.declared.command.Command.{Command as CommandNow};
 ghost use Rattle.store.specs.declared.name.Txn.{Txn as TxnNow};
-ghost use Rattle.world.specs.Commands.{Executes, IsCommand, IsNoCommand, UnlessStopped, heard_in};
+ghost use Rattle.world.specs.Commands.{Executes, IsCommand, IsNoCommand, IsUnreadable, UnlessStopped, heard_in};
 ghost use Rattle.reader.specs.Command.{IsTextOf};
 ghost use Rattle.protocol.specs.Desk.{Deed};
 ghost use Rattle.store.specs.PlainDesk.{kept_of as desk_kept};
