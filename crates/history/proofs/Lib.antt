@@ -8,8 +8,10 @@ pub mod OneOpened
 pub mod Unsplit
 pub mod Opens
 pub mod Events
+pub mod ListEvents
 pub mod Turns
 pub mod Law
+pub mod ListLaw
 pub mod RowPlaces
 pub mod Merging
 pub mod MapSteps
