@@ -88,6 +88,35 @@ site = "west"
 """
 
 
+# The same over two sites, where the employees are split by rows alone: what comes next after TWO_SITES.
+BY_ROWS = [
+    *TWO_SITES[:2],
+    Leaf("emp.1", "south", [0, 1, 2, 3], lambda row: row[2] < 10),
+    Leaf("emp.2", "north", [0, 1, 2, 3], lambda row: row[2] >= 10),
+]
+
+BY_ROWS_TEXT = """sites = ["north", "south"]
+
+[relations.emp]
+columns = ["id int", "name text", "dept int", "pay int"]
+[[relations.emp.rows]]
+where = "dept < 10"
+site = "south"
+[[relations.emp.rows]]
+where = "dept >= 10"
+site = "north"
+
+[relations.dept]
+columns = ["no int", "title text"]
+[[relations.dept.rows]]
+where = "no < 10"
+site = "north"
+[[relations.dept.rows]]
+where = "no >= 10"
+site = "south"
+"""
+
+
 def content(leaves, relations):
     """All parts that the sites of these leaves keep of whole relations: {site: {(leaf, key): bytes}}."""
     made = {leaf.site: {} for leaf in leaves}

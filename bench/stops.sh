@@ -9,6 +9,7 @@
 #   insert, delete
 #   transaction  four statements over three sites, between BEGIN and COMMIT
 #   several      three lone statements and a transaction, in a session that shows each answer at once
+#   split        the employees get the split of a second catalogue; each part is where the catalogue in force has it
 #   first        a folder that isn't there, and one statement
 #   sessions     two sessions of `fragdb run`, one with statements of one site, the other with one of the other site and with
 #                a transaction of both; none is in another's way
@@ -47,7 +48,7 @@ import tempfile
 TOP = os.getcwd()
 sys.path.insert(0, f"{TOP}/bench")
 sys.dont_write_bytecode = True
-from folders import THREE_SITES, THREE_SITES_TEXT, TWO_SITES, content, kept, table
+from folders import BY_ROWS, BY_ROWS_TEXT, THREE_SITES, THREE_SITES_TEXT, TWO_SITES, content, kept, table
 
 PROGRAM = os.path.abspath(os.environ.get("FRAGDB", "crates/fragdb/out/fragdb"))
 COLUMNS = {"dept": ["no", "title"], "emp": ["id", "name", "dept", "pay"]}
@@ -86,6 +87,18 @@ class Step:
         return f"changed {len(met)}"
 
 
+class Refragment:
+    """A REFRAGMENT of a relation, which changes no row."""
+
+    def __init__(self, relation):
+        self.text, self.relation = f"REFRAGMENT {relation}", relation
+
+    def run(self, relations):
+        """The answer; notes that the next catalogue is in force."""
+        relations["next"] = {}
+        return f"changed {len(relations[self.relation])}"
+
+
 class Transaction:
     def __init__(self, *steps, is_lone=False):
         self.steps, self.is_lone = steps, is_lone
@@ -104,9 +117,13 @@ class Transaction:
 class Schedule:
     """Transactions in turn, over a folder of these relations; None where it isn't there yet."""
 
-    def __init__(self, name, leaves, text, start, transactions, in_session=False):
+    def __init__(self, name, leaves, text, start, transactions, in_session=False, next_leaves=None, next_text=None):
         self.name, self.leaves, self.text, self.start, self.transactions = name, leaves, text, start, transactions
-        self.in_session = in_session
+        self.in_session, self.next_leaves, self.next_text = in_session, next_leaves, next_text
+
+    def leaves_of(self, state):
+        """The leaves of the catalogue that is in force in this state."""
+        return self.next_leaves if "next" in state else self.leaves
 
     def lines(self):
         return [line for it in self.transactions for line in it.lines()]
@@ -179,6 +196,7 @@ def schedules():
         Schedule("delete", TWO_SITES, two, LOADED, [Transaction(delete, is_lone=True)]),
         Schedule("transaction", THREE_SITES, THREE_SITES_TEXT, LOADED, [together]),
         Schedule("several", TWO_SITES, two, LOADED, several, in_session=True),
+        Schedule("split", TWO_SITES, two, LOADED, [Transaction(Refragment("emp"), is_lone=True)], next_leaves=BY_ROWS, next_text=BY_ROWS_TEXT),
         Schedule("first", TWO_SITES, two, None, [Transaction(first, is_lone=True)]),
         AtOnce("sessions", TWO_SITES, two, LOADED, sessions),
     ]
@@ -194,12 +212,16 @@ class Bench:
         self.room, self.folder = room, f"{room}/D"
         self.library = f"{room}/stop.so"
         subprocess.run(["cc", "-shared", "-fPIC", "-O1", "-o", self.library, f"{TOP}/bench/stop.c", "-ldl"], check=True)
-        self.count, self.wrong, self.left_in_doubt = collections.Counter(), [], []
+        self.count, self.wrong, self.left_in_doubt, self.next = collections.Counter(), [], [], []
 
     def made(self, schedule):
         """The folder with which a schedule begins, under a name of its own."""
         with open(f"{self.room}/catalogue.toml", "w", encoding="utf-8") as file:
             file.write(schedule.text)
+        self.next = ["--next", f"{self.room}/next.toml"] if schedule.next_text else []
+        if schedule.next_text:
+            with open(f"{self.room}/next.toml", "w", encoding="utf-8") as file:
+                file.write(schedule.next_text)
         loaded = f"{self.room}/loaded-{schedule.name}"
         if schedule.start and not os.path.exists(loaded):
             ran = self.run(loaded, LOAD, {})
@@ -212,7 +234,7 @@ class Bench:
         script = f"{self.room}/script"
         with open(script, "w", encoding="utf-8") as file:
             file.write("".join(f"{line}\n" for line in lines))
-        words = [PROGRAM, command, "--catalog", f"{self.room}/catalogue.toml", *more_words, "--dir", folder, script]
+        words = [PROGRAM, command, "--catalog", f"{self.room}/catalogue.toml", *self.next, *more_words, "--dir", folder, script]
         told = os.open(f"{self.room}/told", os.O_RDWR | os.O_CREAT | os.O_TRUNC)
         os.dup2(told, 9)
         os.set_inheritable(9, True)
@@ -346,7 +368,7 @@ class Bench:
             return f"{in_doubt} rows are left in doubt"
         for place, state in enumerate(states):
             shown = [line for relation in ("dept", "emp") for line in shown_as(state, relation)]
-            if parts == content(schedule.leaves, state) and again.stdout.splitlines() == shown:
+            if parts == content(schedule.leaves_of(state), state) and again.stdout.splitlines() == shown:
                 names = {1: ["as answered"], 2: ["the state before", "the state after"]}.get(len(states))
                 self.count[names[place] if names else "some of the transactions"] += 1
                 return None

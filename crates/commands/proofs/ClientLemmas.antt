@@ -29,10 +29,10 @@ use Rattle.lines.specs.Reply.{Answered, Refused, Told, told_by}
 use Rattle.commands.specs.Client.{AnswersTask, GoesOn, IsAnswered, IsDone, Seen, CountsLeafAs, ShowsLeafAs, Standing, StandsStill, heard_text, standing_of}
 use Rattle.std.specs.Io.KnownBytes.{Appends}
 use Rattle.lines.specs.declared.fault.ProgramFault.{ProgramFault}
-use Rattle.commands.specs.Origin.{Begins, Origin}
+use Rattle.commands.specs.Origin.{Begins, BeginsWith, IsBegun, Origin}
 use Rattle.lines.specs.Script.{CountsLeaf, DumpsRelation, Nothing, Reading, Runs, ShowsLeaf, ShowsRelation, Unreadable}
 use Rattle.commands.specs.Shown.{written_leaf}
-use Rattle.commands.specs.Solo.{AnswersTasks, IsRun, IsStretch, Stretches, said_by, said_by_tasks}
+use Rattle.commands.specs.Solo.{AnswersTasks, IsRun, IsRunFrom, IsStretch, Stretches, said_by, said_by_tasks}
 
 -- machines without the count of refusals
 abbrev pub uncounted : Machines → Machines
@@ -192,6 +192,23 @@ tasks_told mode catalogue law (first ∷ others) old new entries so answered =
     subst (λ es. Tells (database catalogue) es new.past) (append_assoc entries said (said_by_tasks mode catalogue others answered.0 new answered.2))
     (tasks_told mode catalogue law others answered.0 new (entries ++ said) (task_told mode catalogue law first.0 old answered.0 first.1 entries so answered.1) answered.2)
 
+-- tasks over a database that was opened over whole relations are a run of them
+pub run_over : {B : Type 0} (seen : Seen B) (mode : Mode) (catalogue : Catalogue) (origin : Origin) (tasks : List Reading) (written : List ℕ) (any_refused : Bool) (opened ended : B) → IsBegun seen catalogue origin opened → MovesFollow (database catalogue) → (seen.is_clean ended → seen.is_clean opened) →
+    ((whole : Relations) (past : List (Deed (language (database catalogue)))) → seen.is_clean ended → GoesOn seen catalogue whole past opened → IsStretch seen mode catalogue whole tasks past opened ended written any_refused) →
+    (whole : Relations) → BeginsWith catalogue origin whole → seen.is_clean ended → IsRunFrom mode catalogue whole tasks written any_refused
+run_over seen mode catalogue origin tasks written any_refused opened ended fresh law was_clean works whole begins clean =
+    let begun = fresh.goes_on whole begins (was_clean clean) in
+    let stretch = works whole [] clean begun in
+    record {
+      opening = standing_of seen catalogue opened [];
+      opened = record { served = begun.served; none = refl; idle = fresh.idle };
+      end = standing_of seen catalogue ended stretch.later;
+      work = stretch.work;
+      served = stretch.goes_on.served;
+      stands = stretch.goes_on.stands;
+      serial = law.serial whole (seen.machines ended) _ stretch.later (tasks_told mode catalogue law stretch.work.answers (standing_of seen catalogue opened []) (standing_of seen catalogue ended stretch.later) [] (record { phased = refl; stated = tt; heard = refl }) stretch.work.answered) stretch.goes_on.served;
+    }
+
 -- tasks over a database that was opened are a run of them
 pub run_from : {B : Type 0} (seen : Seen B) (IsOrigin : Origin → Type 0) (mode : Mode) (catalogue : Catalogue) (tasks : List Reading) (written : List ℕ) (any_refused : Bool) (opened ended : B) → Begins seen IsOrigin catalogue opened → MovesFollow (database catalogue) → (seen.is_clean ended → seen.is_clean opened) →
     ((whole : Relations) (past : List (Deed (language (database catalogue)))) → seen.is_clean ended → GoesOn seen catalogue whole past opened → IsStretch seen mode catalogue whole tasks past opened ended written any_refused) → IsRun seen IsOrigin mode catalogue tasks written any_refused
@@ -199,18 +216,7 @@ run_from seen IsOrigin mode catalogue tasks written any_refused opened ended fre
   origin = fresh.0;
   is_origin = fresh.1;
   ended = ended;
-  ran = λ whole begins clean.
-      let begun = fresh.2.goes_on whole begins (was_clean clean) in
-      let stretch = works whole [] clean begun in
-      record {
-        opening = standing_of seen catalogue opened [];
-        opened = record { served = begun.served; none = refl; idle = fresh.2.idle };
-        end = standing_of seen catalogue ended stretch.later;
-        work = stretch.work;
-        served = stretch.goes_on.served;
-        stands = stretch.goes_on.stands;
-        serial = law.serial whole (seen.machines ended) _ stretch.later (tasks_told mode catalogue law stretch.work.answers (standing_of seen catalogue opened []) (standing_of seen catalogue ended stretch.later) [] (record { phased = refl; stated = tt; heard = refl }) stretch.work.answered) stretch.goes_on.served;
-      };
+  ran = run_over seen mode catalogue fresh.0 tasks written any_refused opened ended fresh.2 law was_clean works;
 }
 
 -- tasks over a database that was opened have run

@@ -3,7 +3,6 @@ use Rattle.std.proofs.Common.{◌≡◌, ◌++◌, ◌∷◌, [], ◌+◌, ℕ, 
 use Rattle.std.proofs.Math.ListN.{length-set}
 use Rattle.std.proofs.lemmas.Grind.{flat_map-append}
 use Rattle.std.proofs.lemmas.List.{length-map}
-use Rattle.catalog.specs.Catalogue.{Catalogue}
 use Rattle.store.specs.declared.name.Txn.{Txn}
 use Rattle.desk.specs.declared.reply.Out.{Out}
 use Rattle.world.specs.declared.event.Entry.{Entry}
@@ -29,36 +28,37 @@ counted_same : (before after : Stage) → after ≡ before → IsCounted before 
 counted_same before after same counted = subst IsCounted (sym same) counted
 
 -- an event that happens or is refused
-pub counted_by_tries : (catalogue : Catalogue) (Recasts : Out → Cast → Cast → Type 0) (concerned : Concerned) (what : Event) (before after : Stage) (text : List ℕ) → Tries catalogue Recasts concerned what before after text → IsCounted before → IsCounted after
-counted_by_tries catalogue Recasts concerned what before after text (inl happens) counted = rw (happens.came, happens.entries) (counted_more before what happens.out counted)
-counted_by_tries catalogue Recasts concerned what before after text (inr refused) counted = counted_same before after refused.turned_down.same counted
+pub counted_by_tries : (Recasts : Out → Cast → Cast → Type 0) (concerned : Concerned) (what : Event) (before after : Stage) (text : List ℕ) → Tries Recasts concerned what before after text → IsCounted before → IsCounted after
+counted_by_tries Recasts concerned what before after text (inl happens) counted = rw (happens.came, happens.entries) (counted_more before what happens.out counted)
+counted_by_tries Recasts concerned what before after text (inr refused) counted = counted_same before after refused.turned_down.same counted
 
-counted_by_calls : (catalogue : Catalogue) (name : List ℕ) (asked : Ask) (known : Option Txn) (before after : Stage) (text : List ℕ) → Calls catalogue name asked known before after text → IsCounted before → IsCounted after
-counted_by_calls catalogue name asked None before after text calls counted = counted_same before after calls.0 counted
-counted_by_calls catalogue name asked (Some txn) before after text calls counted = counted_by_tries catalogue _ _ _ before after text calls counted
+counted_by_calls : (name : List ℕ) (asked : Ask) (known : Option Txn) (before after : Stage) (text : List ℕ) → Calls name asked known before after text → IsCounted before → IsCounted after
+counted_by_calls name asked None before after text calls counted = counted_same before after calls.0 counted
+counted_by_calls name asked (Some txn) before after text calls counted = counted_by_tries _ _ _ before after text calls counted
 
 -- what a client asks for
-pub counted_by_asks : (catalogue : Catalogue) (name : List ℕ) (asked : Ask) (before after : Stage) (text : List ℕ) → Asks catalogue name asked before after text → IsCounted before → IsCounted after
-counted_by_asks catalogue name ask.Begin before after text asks counted = counted_by_tries catalogue _ _ _ before after text asks counted
-counted_by_asks catalogue name (ask.State stated) before after text asks counted = counted_by_calls catalogue name (ask.State stated) (txn_of before.cast name) before after text asks counted
-counted_by_asks catalogue name ask.Commit before after text asks counted = counted_by_calls catalogue name ask.Commit (txn_of before.cast name) before after text asks counted
-counted_by_asks catalogue name ask.Rollback before after text asks counted = counted_by_calls catalogue name ask.Rollback (txn_of before.cast name) before after text asks counted
-counted_by_asks catalogue name ask.GiveUp before after text asks counted = counted_by_calls catalogue name ask.GiveUp (txn_of before.cast name) before after text asks counted
+pub counted_by_asks : (name : List ℕ) (asked : Ask) (before after : Stage) (text : List ℕ) → Asks name asked before after text → IsCounted before → IsCounted after
+counted_by_asks name ask.Begin before after text asks counted = counted_by_tries _ _ _ before after text asks counted
+counted_by_asks name (ask.Refragment stated) before after text asks counted = counted_by_tries _ _ _ before after text asks counted
+counted_by_asks name (ask.State stated) before after text asks counted = counted_by_calls name (ask.State stated) (txn_of before.cast name) before after text asks counted
+counted_by_asks name ask.Commit before after text asks counted = counted_by_calls name ask.Commit (txn_of before.cast name) before after text asks counted
+counted_by_asks name ask.Rollback before after text asks counted = counted_by_calls name ask.Rollback (txn_of before.cast name) before after text asks counted
+counted_by_asks name ask.GiveUp before after text asks counted = counted_by_calls name ask.GiveUp (txn_of before.cast name) before after text asks counted
 
 -- letters that are delivered
-pub counted_by_delivery : (catalogue : Catalogue) (place : ℕ) (kept : Bool) (before after : Stage) (text : List ℕ) → DeliversAt catalogue place kept before after text → IsCounted before → IsCounted after
-counted_by_delivery catalogue place kept before after text delivers counted =
+pub counted_by_delivery : (place : ℕ) (kept : Bool) (before after : Stage) (text : List ℕ) → DeliversAt place kept before after text → IsCounted before → IsCounted after
+counted_by_delivery place kept before after text delivers counted =
     let come : IsCounted (with_came place before) = length-set before.came place true ∙ counted in
-    counted_by_tries catalogue _ _ _ (with_came place before) after text delivers come
+    counted_by_tries _ _ _ (with_came place before) after text delivers come
 
-pub counted_by_number : (catalogue : Catalogue) (number : ℕ) (kept : Bool) (before after : Stage) (text : List ℕ) → Delivers catalogue number kept before after text → IsCounted before → IsCounted after
-counted_by_number catalogue zero kept before after text delivers counted = counted_same before after delivers.0 counted
-counted_by_number catalogue (suc place) kept before after text delivers counted = counted_by_delivery catalogue place kept before after text delivers counted
+pub counted_by_number : (number : ℕ) (kept : Bool) (before after : Stage) (text : List ℕ) → Delivers number kept before after text → IsCounted before → IsCounted after
+counted_by_number zero kept before after text delivers counted = counted_same before after delivers.0 counted
+counted_by_number (suc place) kept before after text delivers counted = counted_by_delivery place kept before after text delivers counted
 
-counted_by_each : (catalogue : Catalogue) (but places : List ℕ) (before after : Stage) (text : List ℕ) → DeliversEach catalogue but places before after text → IsCounted before → IsCounted after
-counted_by_each catalogue but [] before after text each counted = counted_same before after each.0 counted
-counted_by_each catalogue but (place ∷ places) before after text each counted =
-    counted_by_each catalogue but places each.0 after each.2 each.5 (counted_by_delivery catalogue place true before each.0 each.1 each.4 counted)
+counted_by_each : (but places : List ℕ) (before after : Stage) (text : List ℕ) → DeliversEach but places before after text → IsCounted before → IsCounted after
+counted_by_each but [] before after text each counted = counted_same before after each.0 counted
+counted_by_each but (place ∷ places) before after text each counted =
+    counted_by_each but places each.0 after each.2 each.5 (counted_by_delivery place true before each.0 each.1 each.4 counted)
 
-pub counted_by_all : (catalogue : Catalogue) (but : List ℕ) (before after : Stage) (text : List ℕ) → DeliversAll catalogue but before after text → IsCounted before → IsCounted after
-counted_by_all catalogue but before after text delivers counted = counted_by_each catalogue but delivers.places before after text delivers.each counted
+pub counted_by_all : (but : List ℕ) (before after : Stage) (text : List ℕ) → DeliversAll but before after text → IsCounted before → IsCounted after
+counted_by_all but before after text delivers counted = counted_by_each but delivers.places before after text delivers.each counted

@@ -1,23 +1,22 @@
 -- Lemmas on how letters are delivered.
 use Rattle.std.proofs.Common.{◌≡◌, inl, inr, ℕ, zero, suc, ◌+◌, Bool, true, false, List, [], ◌∷◌, ◌++◌, Some, drop, refl, sym, ap, ◌∙◌, arith, append-nil, append_assoc, cond}
 use Rattle.std.proofs.Math.ListN.{set}
-use Rattle.catalog.specs.Catalogue.{Catalogue}
 use Rattle.commands.specs.Delivering.{DeliversAt, DeliversEach, first_due, first_due_from, is_due}
 use Rattle.commands.specs.Schedule.{Stage, unseen}
 
 -- one letter more, after others
-pub DeliversEach-more : (catalogue : Catalogue) (but places : List ℕ) (place : ℕ) (before middle after : Stage) (told more : List ℕ) → DeliversEach catalogue but places before middle told → first_due but middle ≡ Some place → DeliversAt catalogue place true middle after more →
-    DeliversEach catalogue but (places ++ place ∷ []) before after (told ++ more)
-DeliversEach-more catalogue but [] place before middle after told more done due next =
+pub DeliversEach-more : (but places : List ℕ) (place : ℕ) (before middle after : Stage) (told more : List ℕ) → DeliversEach but places before middle told → first_due but middle ≡ Some place → DeliversAt place true middle after more →
+    DeliversEach but (places ++ place ∷ []) before after (told ++ more)
+DeliversEach-more but [] place before middle after told more done due next =
     let start : before ≡ middle = sym done.0 in
     rw (start, done.1) (after, more, [], due, next, (refl, refl), sym (append-nil more))
-DeliversEach-more catalogue but (first ∷ places) place before middle after told more done due next = (
+DeliversEach-more but (first ∷ places) place before middle after told more done due next = (
   done.0,
   done.1,
   done.2 ++ more,
   done.3,
   done.4,
-  DeliversEach-more catalogue but places place done.0 middle after done.2 more done.5 due next,
+  DeliversEach-more but places place done.0 middle after done.2 more done.5 due next,
   ap (λ (front : List ℕ). front ++ more) done.6 ∙ append_assoc done.1 done.2 more,
 )
 
@@ -37,14 +36,14 @@ due_behind but (c ∷ came) more here (suc j) due =
     by_due false next e = next e
 
 -- a letter that is delivered has come, and others may be sent
-came_after : (catalogue : Catalogue) (place : ℕ) (before after : Stage) (text : List ℕ) → DeliversAt catalogue place true before after text → (more : List Bool) × (after.came ≡ set before.came place true ++ more)
-came_after catalogue place before after text (inl happens) = (unseen happens.out.letters, happens.came)
-came_after catalogue place before after text (inr refused) = ([], ap (λ (stage : Stage). stage.came) refused.turned_down.same ∙ sym (append-nil (set before.came place true)))
+came_after : (place : ℕ) (before after : Stage) (text : List ℕ) → DeliversAt place true before after text → (more : List Bool) × (after.came ≡ set before.came place true ++ more)
+came_after place before after text (inl happens) = (unseen happens.out.letters, happens.came)
+came_after place before after text (inr refused) = ([], ap (λ (stage : Stage). stage.came) refused.turned_down.same ∙ sym (append-nil (set before.came place true)))
 
 -- behind a letter that is delivered as the first that is due the next is looked for
-pub next_behind : (catalogue : Catalogue) (but : List ℕ) (place : ℕ) (before after : Stage) (text : List ℕ) → first_due but before ≡ Some place → DeliversAt catalogue place true before after text → first_due but after ≡ first_due_from (place + 1) but (drop (place + 1) after.came)
-next_behind catalogue but place before after text due delivered =
-    let more = came_after catalogue place before after text delivered in
+pub next_behind : (but : List ℕ) (place : ℕ) (before after : Stage) (text : List ℕ) → first_due but before ≡ Some place → DeliversAt place true before after text → first_due but after ≡ first_due_from (place + 1) but (drop (place + 1) after.came)
+next_behind but place before after text due delivered =
+    let more = came_after place before after text delivered in
     let number : 0 + place ≡ place = omega arith in
     let behind : first_due_from 0 but (set before.came place true ++ more.0) ≡ first_due_from (place + 1) but (drop (place + 1) (set before.came place true ++ more.0)) =
     due_behind but before.came more.0 0 place (due ∙ ap (λ (n : ℕ). Some n) (sym number)) ∙ ap (λ (n : ℕ). first_due_from (n + 1) but (drop (place + 1) (set before.came place true ++ more.0))) number in

@@ -1,4 +1,7 @@
 pub mod SoloLemmas
+pub mod OpenerLemmas
+pub mod CatalogFilesLemmas
+pub mod SoloChainLemmas
 pub mod ClientLemmas
 pub mod DeliveringLemmas
 pub mod ShownLemmas
@@ -6,13 +9,17 @@ pub mod ReachedLemmas
 pub mod CountedLemmas
 pub mod PlayLemmas
 pub mod PerformLemmas
+pub mod PerformChainLemmas
+pub mod CatalogWordLemmas
 pub mod SessionLemmas
+pub mod SessionChainLemmas
 pub mod ScriptFileLemmas
 pub mod ImportLemmas
 pub mod ImportCounts
 pub mod SqlStoresLemmas
 pub mod ConversationLemmas
 pub mod RunLemmas
+pub mod RunChainLemmas
 pub mod RunRecordsLemmas
 pub mod RunTextLemmas
 pub mod ImportTalks

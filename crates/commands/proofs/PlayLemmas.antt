@@ -1,13 +1,24 @@
 -- Lemmas on playing a script of schedules.
-use Rattle.std.proofs.Common.{◌≡◌, ◌≤◌, ◌++◌, ◌∷◌, [], ℕ, List, Option, Some, None, Result, Ok, Err, OnOk, IfErr, IfOk, IfSome, ap, refl, sym, subst, inl, inr, append-nil, append_assoc, length, ◌∙◌}
+use Rattle.std.proofs.Common.{◌≡◌, ◌≤◌, ◌++◌, ◌∷◌, [], ℕ, List, Option, Some, None, Result, Ok, Err, OnOk, IfErr, IfOk, IfSome, ap, refl, sym, subst, inl, inr, append-nil, append_assoc, length, map, ◌∙◌}
 use Rattle.std.specs.Bool.{⊤}
 use Rattle.std.specs.Borrow.{Bor}
 use Rattle.std.specs.Io.KnownBytes.{Appends, Keeps}
 use Rattle.meaning.specs.Whole.{Relations}
+use Rattle.catalog.specs.declared.relation.SplitRelation.{SplitRelation}
 use Rattle.catalog.specs.Catalogue.{Catalogue}
 use Rattle.catalog.specs.FragmentLeaf.{schemas_of}
+use Rattle.catalog.specs.Relation.{catalogue_of}
 use Rattle.store.specs.declared.fault.StoreFault.{StoreFault}
+use Rattle.desk.specs.declared.desk.Desk.{Desk}
+use Rattle.desk.specs.CatalogueDatabase.{database}
+use Rattle.desk.specs.Database.{Database, language}
+use Rattle.protocol.specs.Desk.{Deed}
+use Rattle.world.specs.declared.event.Entry.{Entry}
 use Rattle.world.specs.declared.world.World.{World}
+use Rattle.world.specs.Chain.{sites_of}
+use Rattle.world.specs.Listed.{FitsList, StandsIn}
+use Rattle.world.specs.Machines.{AreFit, Machines}
+use Rattle.world.specs.Runs.{IsListRun, IsRun}
 use Rattle.lines.specs.declared.fault.ProgramFault.{ProgramFault}
 use Rattle.lines.specs.declared.fault.ProgramFault.TheVariants.{CannotRead, CannotWrite, Malformed, Memory, ScriptTooLong, Store}
 use Rattle.lines.specs.declared.play_items.Placed.{Placed}
@@ -18,96 +29,143 @@ use Rattle.lines.specs.declared.script.ScriptFault.{ScriptFault}
 use Rattle.lines.specs.declared.script.ScriptFault.TheVariants as script
 use Rattle.commands.specs.Client.{IsOfClient}
 use Rattle.lines.specs.Fault.{fault_of_script}
-use Rattle.commands.specs.Play.{IsPlayedOver, IsSound, Plays, PlaysAll, PlaysItem, PlaysItems, PlaysOrStops, PlaysScript, StopsItems}
+use Rattle.commands.specs.Play.{EndsOrStops, EndsOrStopsOf, IsSound, Plays, PlaysAll, PlaysItem, PlaysItems, StopsItems}
 use Rattle.lines.specs.PlayItems.{items_of}
 use Rattle.lines.specs.PlayLoad.{IsMalformedAt}
 use Rattle.lines.specs.Input.{IsOfOutput}
-use Rattle.commands.specs.Schedule.{HasRun, IsCounted, LeavesWorld, SeenWorld, stage_of}
+use Rattle.commands.specs.Schedule.{HasRun, IsCounted, IsListReached, IsReached, LeavesWorld, SeenWorld, stage_of}
 use Rattle.lines.specs.Script.{lines_of}
 use Rattle.commands.specs.Shown.{IsShownLeaf, IsShownRelation, ShowsOf}
 use Rattle.commands.specs.Solo.{longest}
-use Rattle.commands.specs.WorldOpener.{IsOpenedOver, StopsOpening}
+use Rattle.commands.specs.WorldOpener.{StopsOpening}
 use Rattle.commands.proofs.CountedLemmas.{counted_by_all, counted_by_asks, counted_by_number, counted_by_tries}
 use Rattle.commands.proofs.SoloLemmas.{Appends-more}
 
 module _ {D S : Type 0} (seen : SeenWorld (World D S)) where
   -- an item, where less is known of what is shown
-  Plays-weaker : {P Q : Type 0} (catalogue : Catalogue) (whole : Relations) (one : Item) (before after : Schedule D S) (told : List ℕ) → (Q → P) → Plays seen P catalogue whole one before after told → Plays seen Q catalogue whole one before after told
-  Plays-weaker catalogue whole (item.Load text) before after told knows plays = plays
-  Plays-weaker catalogue whole (item.Client name asked) before after told knows plays = plays
-  Plays-weaker catalogue whole (item.Deliver number kept) before after told knows plays = plays
-  Plays-weaker catalogue whole (item.All but) before after told knows plays = plays
-  Plays-weaker catalogue whole (item.Site name doing) before after told knows plays = plays
-  Plays-weaker catalogue whole item.RestartDesk before after told knows plays = plays
-  Plays-weaker catalogue whole (item.Show name) before after told knows plays = (plays.0, λ known. plays.1 (knows known))
-  Plays-weaker catalogue whole (item.Leaf name) before after told knows plays = (plays.0, λ known. plays.1 (knows known))
-  Plays-weaker catalogue whole item.Committed before after told knows plays = plays
+  Plays-weaker : {P Q : Type 0} (db : Database) (whole : Relations) (one : Item) (before after : Schedule D S) (told : List ℕ) → (Q → P) → Plays seen P db whole one before after told → Plays seen Q db whole one before after told
+  Plays-weaker db whole (item.Load text) before after told knows plays = plays
+  Plays-weaker db whole (item.Client name asked) before after told knows plays = plays
+  Plays-weaker db whole (item.Deliver number kept) before after told knows plays = plays
+  Plays-weaker db whole (item.All but) before after told knows plays = plays
+  Plays-weaker db whole (item.Site name doing) before after told knows plays = plays
+  Plays-weaker db whole item.RestartDesk before after told knows plays = plays
+  Plays-weaker db whole (item.Show name) before after told knows plays = (plays.0, λ known. plays.1 (knows known))
+  Plays-weaker db whole (item.Leaf name) before after told knows plays = (plays.0, λ known. plays.1 (knows known))
+  Plays-weaker db whole item.Committed before after told knows plays = plays
 
   -- so are items
-  pub PlaysAll-weaker : {P Q : Type 0} (catalogue : Catalogue) (whole : Relations) (items : List Placed) (before after : Schedule D S) (told : List ℕ) → (Q → P) → PlaysAll seen P catalogue whole items before after told → PlaysAll seen Q catalogue whole items before after told
-  PlaysAll-weaker catalogue whole [] before after told knows plays = plays
-  PlaysAll-weaker catalogue whole (first ∷ items) before after told knows plays =
-      (plays.0, plays.1, plays.2, Plays-weaker catalogue whole first.item before plays.0 plays.1 knows plays.3, PlaysAll-weaker catalogue whole items plays.0 after plays.2 knows plays.4, plays.5)
+  pub PlaysAll-weaker : {P Q : Type 0} (db : Database) (whole : Relations) (items : List Placed) (before after : Schedule D S) (told : List ℕ) → (Q → P) → PlaysAll seen P db whole items before after told → PlaysAll seen Q db whole items before after told
+  PlaysAll-weaker db whole [] before after told knows plays = plays
+  PlaysAll-weaker db whole (first ∷ items) before after told knows plays =
+      (plays.0, plays.1, plays.2, Plays-weaker db whole first.item before plays.0 plays.1 knows plays.3, λ known. plays.4 (knows known), PlaysAll-weaker db whole items plays.0 after plays.2 knows plays.5, plays.6)
 
   -- one item more, after others
-  PlaysAll-more : (P : Type 0) (catalogue : Catalogue) (whole : Relations) (items : List Placed) (placed : Placed) (before middle after : Schedule D S) (told more : List ℕ) → PlaysAll seen P catalogue whole items before middle told → Plays seen P catalogue whole placed.item middle after more →
-      PlaysAll seen P catalogue whole (items ++ placed ∷ []) before after (told ++ more)
-  PlaysAll-more P catalogue whole [] placed before middle after told more done next =
-      let first : Plays seen P catalogue whole placed.item before after more = subst (λ (start : Schedule D S). Plays seen P catalogue whole placed.item start after more) done.0 next in
-      (after, more, [], first, (refl, refl), ap (λ (front : List ℕ). front ++ more) done.1 ∙ sym (append-nil more))
-  PlaysAll-more P catalogue whole (first ∷ items) placed before middle after told more done next = (
+  PlaysAll-more : (P : Type 0) (db : Database) (whole : Relations) (items : List Placed) (placed : Placed) (before middle after : Schedule D S) (told more : List ℕ) → PlaysAll seen P db whole items before middle told → Plays seen P db whole placed.item middle after more → (P → seen.stands db after.world) →
+      PlaysAll seen P db whole (items ++ placed ∷ []) before after (told ++ more)
+  PlaysAll-more P db whole [] placed before middle after told more done next stands =
+      let first : Plays seen P db whole placed.item before after more = subst (λ (start : Schedule D S). Plays seen P db whole placed.item start after more) done.0 next in
+      (after, more, [], first, stands, (refl, refl), ap (λ (front : List ℕ). front ++ more) done.1 ∙ sym (append-nil more))
+  PlaysAll-more P db whole (first ∷ items) placed before middle after told more done next stands = (
     done.0,
     done.1,
     done.2 ++ more,
     done.3,
-    PlaysAll-more P catalogue whole items placed done.0 middle after done.2 more done.4 next,
-    ap (λ (front : List ℕ). front ++ more) done.5 ∙ append_assoc done.1 done.2 more,
+    done.4,
+    PlaysAll-more P db whole items placed done.0 middle after done.2 more done.5 next stands,
+    ap (λ (front : List ℕ). front ++ more) done.6 ∙ append_assoc done.1 done.2 more,
   )
 
   -- so, where what is known of what is shown is known from the end
   pub PlaysItems-more : (items : List Placed) (placed : Placed) (first second third : Option (List ℕ)) (before middle after : Schedule D S) (more : List ℕ) → PlaysItems seen items first second before middle → PlaysItem seen placed.item middle after more → Appends second third more →
-      LeavesWorld seen before.world middle.world → LeavesWorld seen middle.world after.world → (seen.machines before.world).later ≡ [] → PlaysItems seen (items ++ placed ∷ []) first third before after
-  PlaysItems-more items placed first second third before middle after more so_far next wrote left leaves single = record {
+      LeavesWorld seen before.world middle.world → LeavesWorld seen middle.world after.world → PlaysItems seen (items ++ placed ∷ []) first third before after
+  PlaysItems-more items placed first second third before middle after more so_far next wrote left leaves = record {
     told = so_far.told ++ more;
     said = Appends-more first second third so_far.told more so_far.said wrote;
-    plays = λ whole.
-        let P : Type 0 = seen.is_clean after.world × HasRun seen whole before.world in
-        let catalogue = seen.catalogue before.world in
-        PlaysAll-more P catalogue whole items placed before middle after so_far.told more
-        (PlaysAll-weaker {Q = P} catalogue whole items before middle so_far.told (λ known. (leaves.clean known.0, known.1)) (so_far.plays whole))
-        (Plays-weaker {Q = P} catalogue whole placed.item middle after more (λ known. (known.0, left.runs whole (leaves.clean known.0) known.1))
-        (subst (λ (over : Catalogue). Plays seen (seen.is_clean after.world × HasRun seen whole middle.world) over whole placed.item middle after more) (left.catalogs single).0 (next whole)));
+    plays = λ db whole.
+        let P : Type 0 = seen.is_clean after.world × HasRun seen db whole before.world in
+        PlaysAll-more P db whole items placed before middle after so_far.told more
+        (PlaysAll-weaker {Q = P} db whole items before middle so_far.told (λ known. (leaves.clean known.0, known.1)) (so_far.plays db whole))
+        (Plays-weaker {Q = P} db whole placed.item middle after more (λ known. (known.0, left.runs db whole (leaves.clean known.0) known.1)) (next db whole))
+        (λ known. (leaves.runs db whole known.0 (left.runs db whole (leaves.clean known.0) known.1)).stands);
   }
 
   -- what is shown is an item's
   pub shows_relation : {T E : Type 0} (name : List ℕ) (bytes_of : T → List ℕ) (before after : Schedule D S) (result : Result T E) → stage_of after ≡ stage_of before →
-      ShowsOf seen name (λ catalogue whole entries text. IsShownRelation catalogue whole entries name text) bytes_of before.world after.world result → IfOk result (λ given. PlaysItem seen (item.Show name) before after (bytes_of given))
-  shows_relation name bytes_of before after (Ok given) same shows = λ whole. (same, λ known. shows whole known.0 known.1)
+      ShowsOf seen name (λ sight text. IsShownRelation sight name text) bytes_of before.world after.world result → IfOk result (λ given. PlaysItem seen (item.Show name) before after (bytes_of given))
+  shows_relation name bytes_of before after (Ok given) same shows = λ db whole. (same, λ known. shows db whole known.0 known.1)
   shows_relation name bytes_of before after (Err e) same shows = tt
 
   pub shows_leaf : {T E : Type 0} (name : List ℕ) (bytes_of : T → List ℕ) (before after : Schedule D S) (result : Result T E) → stage_of after ≡ stage_of before →
-      ShowsOf seen name (λ catalogue whole entries text. IsShownLeaf catalogue whole entries name text) bytes_of before.world after.world result → IfOk result (λ given. PlaysItem seen (item.Leaf name) before after (bytes_of given))
-  shows_leaf name bytes_of before after (Ok given) same shows = λ whole. (same, λ known. shows whole known.0 known.1)
+      ShowsOf seen name (λ sight text. IsShownLeaf sight name text) bytes_of before.world after.world result → IfOk result (λ given. PlaysItem seen (item.Leaf name) before after (bytes_of given))
+  shows_leaf name bytes_of before after (Ok given) same shows = λ db whole. (same, λ known. shows db whole known.0 known.1)
   shows_leaf name bytes_of before after (Err e) same shows = tt
 
-  -- a world as it was opened
-  pub has_run : (catalogue : Catalogue) (whole : Relations) (world : World D S) → IsOpenedOver seen catalogue whole world → seen.is_clean world → HasRun seen whole world
-  has_run catalogue whole world opened clean = record {
-    sound = opened.sound clean;
-    reached = rw (opened.catalog, opened.none) ([], opened.run clean);
-  }
-
   -- each letter that was sent stays counted
-  pub Plays-counted : (P : Type 0) (catalogue : Catalogue) (whole : Relations) (one : Item) (before after : Schedule D S) (told : List ℕ) → Plays seen P catalogue whole one before after told → IsCounted (stage_of before) → IsCounted (stage_of after)
-  Plays-counted P catalogue whole (item.Load text) before after told plays counted = subst (λ (schedule : Schedule D S). IsCounted (stage_of schedule)) (sym plays.0) counted
-  Plays-counted P catalogue whole (item.Client name asked) before after told plays counted = counted_by_asks catalogue name asked (stage_of before) (stage_of after) told plays counted
-  Plays-counted P catalogue whole (item.Deliver number kept) before after told plays counted = counted_by_number catalogue number kept (stage_of before) (stage_of after) told plays counted
-  Plays-counted P catalogue whole (item.All but) before after told plays counted = counted_by_all catalogue but (stage_of before) (stage_of after) told plays counted
-  Plays-counted P catalogue whole (item.Site name doing) before after told plays counted = counted_by_tries catalogue _ _ _ (stage_of before) (stage_of after) told plays counted
-  Plays-counted P catalogue whole item.RestartDesk before after told plays counted = counted_by_tries catalogue _ _ _ (stage_of before) (stage_of after) told plays counted
-  Plays-counted P catalogue whole (item.Show name) before after told plays counted = subst IsCounted (sym plays.0) counted
-  Plays-counted P catalogue whole (item.Leaf name) before after told plays counted = subst IsCounted (sym plays.0) counted
-  Plays-counted P catalogue whole item.Committed before after told plays counted = subst (λ (schedule : Schedule D S). IsCounted (stage_of schedule)) (sym plays.0) counted
+  pub Plays-counted : (P : Type 0) (db : Database) (whole : Relations) (one : Item) (before after : Schedule D S) (told : List ℕ) → Plays seen P db whole one before after told → IsCounted (stage_of before) → IsCounted (stage_of after)
+  Plays-counted P db whole (item.Load text) before after told plays counted = subst (λ (schedule : Schedule D S). IsCounted (stage_of schedule)) (sym plays.0) counted
+  Plays-counted P db whole (item.Client name asked) before after told plays counted = counted_by_asks name asked (stage_of before) (stage_of after) told plays counted
+  Plays-counted P db whole (item.Deliver number kept) before after told plays counted = counted_by_number number kept (stage_of before) (stage_of after) told plays counted
+  Plays-counted P db whole (item.All but) before after told plays counted = counted_by_all but (stage_of before) (stage_of after) told plays counted
+  Plays-counted P db whole (item.Site name doing) before after told plays counted = counted_by_tries _ _ _ (stage_of before) (stage_of after) told plays counted
+  Plays-counted P db whole item.RestartDesk before after told plays counted = counted_by_tries _ _ _ (stage_of before) (stage_of after) told plays counted
+  Plays-counted P db whole (item.Show name) before after told plays counted = subst IsCounted (sym plays.0) counted
+  Plays-counted P db whole (item.Leaf name) before after told plays counted = subst IsCounted (sym plays.0) counted
+  Plays-counted P db whole item.Committed before after told plays counted = subst (λ (schedule : Schedule D S). IsCounted (stage_of schedule)) (sym plays.0) counted
+
+-- the first catalogue of a chain
+head_is : (one other : Catalogue) (more others : List Catalogue) → one ∷ more ≡ other ∷ others → one ≡ other
+head_is one other more others e = cc
+
+pub first_is : (chain : List (List (List ℕ) × List SplitRelation)) (first : List (List ℕ) × List SplitRelation) (others : List (List (List ℕ) × List SplitRelation)) (catalogue : Catalogue) (rest : List Catalogue) → chain ≡ first ∷ others → map catalogue_of chain ≡ catalogue ∷ rest →
+    catalogue_of first ≡ catalogue
+first_is chain first others catalogue rest are is = head_is (catalogue_of first) catalogue (map catalogue_of others) rest (sym (ap (map catalogue_of) are) ∙ is)
+
+-- all catalogues of a chain have the sites of the first one
+pub sites_there : (chain : List (List (List ℕ) × List SplitRelation)) (first : List (List ℕ) × List SplitRelation) (others : List (List (List ℕ) × List SplitRelation)) → chain ≡ first ∷ others → length first.0 ≡ length (sites_of chain)
+sites_there chain first others are = ap (λ (chain : List (List (List ℕ) × List SplitRelation)). length (sites_of chain)) (sym are)
+
+-- a catalogue alone has every number
+pub stands_alone : {D : Type 0} (catalogue : Catalogue) (desk : Desk D) → catalogue_of desk.catalog ≡ catalogue → desk.later.items ≡ [] → StandsIn (database catalogue) desk
+stands_alone catalogue desk is none = record { here = sym is; next = rw none tt }
+
+-- a run of one catalogue is one of its list, where none comes later, and the other way round
+listed_fits : (db : Database) (machines : Machines) → AreFit db machines → FitsList db machines
+listed_fits db machines fit = record { names = fit.names; leaves = fit.leaves; desk = fit.desk; within = fit.within; sites = fit.sites; still = λ single. fit.still }
+
+fits_single : (db : Database) (machines : Machines) → machines.later ≡ [] → FitsList db machines → AreFit db machines
+fits_single db machines single fit = record { names = fit.names; leaves = fit.leaves; desk = fit.desk; within = fit.within; sites = fit.sites; single = single; still = fit.still single }
+
+pub run_listed : (db : Database) (whole : Relations) (machines : Machines) (entries : List Entry) (past : List (Deed (language db))) → IsRun db whole machines entries past → IsListRun db whole machines entries past
+run_listed db whole machines entries past run = record {
+  version = run.version;
+  opening = run.opening;
+  opens = run.opens;
+  events = run.events;
+  are = run.are;
+  is = run.is;
+  placed = run.placed;
+  explained = run.explained;
+  tells = run.tells;
+  fit = listed_fits db machines run.fit;
+}
+
+run_single : (db : Database) (whole : Relations) (machines : Machines) (entries : List Entry) (past : List (Deed (language db))) → machines.later ≡ [] → IsListRun db whole machines entries past → IsRun db whole machines entries past
+run_single db whole machines entries past single run = record {
+  version = run.version;
+  opening = run.opening;
+  opens = run.opens;
+  events = run.events;
+  are = run.are;
+  is = run.is;
+  placed = run.placed;
+  explained = run.explained;
+  tells = run.tells;
+  fit = fits_single db machines single run.fit;
+}
+
+pub reached_single : (catalogue : Catalogue) (whole : Relations) (machines : Machines) (entries : List Entry) → machines.later ≡ [] → IsListReached (database catalogue) whole machines entries → IsReached catalogue whole machines entries
+reached_single catalogue whole machines entries single reached = (reached.0, run_single (database catalogue) whole machines entries reached.0 single reached.1)
 
 Keeps-same : (known : Option (List ℕ)) → Keeps known known
 Keeps-same None = tt
@@ -127,30 +185,35 @@ pub stops_as_client : (fault : ProgramFault) → IsOfClient fault → StopsOpeni
 stops_as_client fault (inl memory) = inl memory
 stops_as_client fault (inr failed) = inr (failed.0, tt, failed.1)
 
+-- what follows of what holds where a call succeeds
+pub ok_so : {T E P Q : Type 0} (result : Result T E) → (P → Q) → OnOk result P → OnOk result Q
+ok_so (Ok given) so p = so p
+ok_so (Err fault) so p = tt
+
 -- a script that is not loaded
-pub unloaded : {D S : Type 0} (seen : SeenWorld (World D S)) (Fails : StoreFault → Type 0) (catalogue : Catalogue) (text : List ℕ) (output : Option (List ℕ)) (fault : ScriptFault) → ((line : ℕ) → fault ≡ script.Malformed line → IsMalformedAt (schemas_of catalogue) (items_of (lines_of text)) line) →
-    PlaysOrStops seen Fails catalogue text output output (Err (fault_of_script fault))
-unloaded seen Fails catalogue text output (script.Malformed line) why = (why line refl, Keeps-same output)
-unloaded seen Fails catalogue text output script.Memory why = inr (Keeps-same output)
+pub unloaded : (Fails : StoreFault → Type 0) (catalogue : Catalogue) (text : List ℕ) (output : Option (List ℕ)) (Played : Type 0) (fault : ScriptFault) → ((line : ℕ) → fault ≡ script.Malformed line → IsMalformedAt (schemas_of catalogue) (items_of (lines_of text)) line) →
+    EndsOrStops Fails catalogue text output output Played (Err (fault_of_script fault))
+unloaded Fails catalogue text output Played (script.Malformed line) why = (why line refl, Keeps-same output)
+unloaded Fails catalogue text output Played script.Memory why = inr (Keeps-same output)
 
 -- a script that is loaded is played to its end, or stopped
-pub played : {D S : Type 0} (seen : SeenWorld (World D S)) (Fails : StoreFault → Type 0) (catalogue : Catalogue) (text : List ℕ) (old new : Option (List ℕ)) (result : Result Unit ProgramFault) → (sound : IsSound catalogue text) → OnOk result (IsPlayedOver seen catalogue sound.0 (items_of (lines_of text)).0 old new) → IfErr result (StopsItems Fails old new) →
-    PlaysOrStops seen Fails catalogue text old new result
-played seen Fails catalogue text old new (Ok done) sound ok err = record { sound = sound; played = ok }
-played seen Fails catalogue text old new (Err Memory) sound ok err = inl sound
-played seen Fails catalogue text old new (Err CannotWrite) sound ok err = sound
-played seen Fails catalogue text old new (Err (Store why)) sound ok err = (err.0, sound, err.1)
-played seen Fails catalogue text old new (Err (CannotRead file)) sound ok err = err
-played seen Fails catalogue text old new (Err ScriptTooLong) sound ok err = err
-played seen Fails catalogue text old new (Err (Malformed line)) sound ok err = absurd err
+pub played : (Fails : StoreFault → Type 0) (catalogue : Catalogue) (text : List ℕ) (old new : Option (List ℕ)) (Played : Type 0) (result : Result Unit ProgramFault) → IsSound catalogue text → OnOk result Played → IfErr result (StopsItems Fails old new) →
+    EndsOrStops Fails catalogue text old new Played result
+played Fails catalogue text old new Played (Ok done) sound ok err = ok
+played Fails catalogue text old new Played (Err Memory) sound ok err = inl sound
+played Fails catalogue text old new Played (Err CannotWrite) sound ok err = sound
+played Fails catalogue text old new Played (Err (Store why)) sound ok err = (err.0, sound, err.1)
+played Fails catalogue text old new Played (Err (CannotRead file)) sound ok err = err
+played Fails catalogue text old new Played (Err ScriptTooLong) sound ok err = err
+played Fails catalogue text old new Played (Err (Malformed line)) sound ok err = absurd err
 
--- the same of a script of which all bytes were read
-pub played_of : {D S : Type 0} (seen : SeenWorld (World D S)) (Fails : StoreFault → Type 0) (known : Option (List ℕ)) (catalogue : Catalogue) (file : Bor (List ℕ)) (read : List ℕ) (old new : Option (List ℕ)) (result : Result Unit ProgramFault) → IfSome known (λ bytes. read ≡ bytes) → length read ≤ longest → PlaysOrStops seen Fails catalogue read old new result →
-    IfSome known (λ text. PlaysScript seen Fails catalogue file text old new result)
-played_of seen Fails None catalogue file read old new result all short done = tt
-played_of seen Fails (Some bytes) catalogue file read old new result all short done = subst (λ (text : List ℕ). PlaysScript seen Fails catalogue file text old new result) all (of_read result done)
+-- the same of a script of which all bytes were read. Played: so that a script of these bytes was played
+pub played_of : (Fails : StoreFault → Type 0) (known : Option (List ℕ)) (catalogue : Catalogue) (file : Bor (List ℕ)) (read : List ℕ) (old new : Option (List ℕ)) (Played : List ℕ → Type 0) (result : Result Unit ProgramFault) → IfSome known (λ bytes. read ≡ bytes) → length read ≤ longest →
+    EndsOrStops Fails catalogue read old new (Played read) result → IfSome known (λ text. EndsOrStopsOf Fails catalogue file text old new (Played text) result)
+played_of Fails None catalogue file read old new Played result all short done = tt
+played_of Fails (Some bytes) catalogue file read old new Played result all short done = subst (λ (text : List ℕ). EndsOrStopsOf Fails catalogue file text old new (Played text) result) all (of_read result done)
   where
-    of_read : (result : Result Unit ProgramFault) → PlaysOrStops seen Fails catalogue read old new result → PlaysScript seen Fails catalogue file read old new result
+    of_read : (result : Result Unit ProgramFault) → EndsOrStops Fails catalogue read old new (Played read) result → EndsOrStopsOf Fails catalogue file read old new (Played read) result
     of_read (Ok done) h = (short, h)
     of_read (Err (CannotRead name)) h = absurd h
     of_read (Err ScriptTooLong) h = absurd h

@@ -1,7 +1,7 @@
 -- Lemmas on the run that a schedule carries.
-use Rattle.std.proofs.Common.{◌≡◌, ◌++◌, ℕ, List, Result, Ok, Err, ap, refl, sym, subst, ◌∙◌}
+use Rattle.std.proofs.Common.{◌≡◌, ◌++◌, ◌∷◌, [], ℕ, List, Result, Ok, Err, ap, map, refl, sym, subst, ◌∙◌}
 use Rattle.meaning.specs.Whole.{Relations}
-use Rattle.catalog.specs.Catalogue.{Catalogue}
+use Rattle.catalog.specs.declared.relation.SplitRelation.{SplitRelation}
 use Rattle.catalog.specs.Relation.{catalogue_of}
 use Rattle.store.specs.DeskContent.{DeskContent}
 use Rattle.store.specs.SiteContent.{SiteContent}
@@ -10,13 +10,18 @@ use Rattle.world.specs.declared.event.Event.{Event}
 use Rattle.world.specs.declared.fault.Fault.{Fault}
 use Rattle.world.specs.declared.world.World.{World}
 use Rattle.desk.specs.CatalogueDatabase.{database}
+use Rattle.desk.specs.Database.{Database}
 use Rattle.world.specs.Contents.{OfStores, counted, held}
-use Rattle.world.specs.Frame.{LeavesMachines, StaysAsItIs}
+use Rattle.world.specs.Frame.{LeavesMachines, StaysAsItIs, StaysInForce}
 use Rattle.world.specs.Machines.{Machines}
-use Rattle.world.specs.Runs.{StepsOn}
 use Rattle.world.specs.Steps.{Steps}
 use Rattle.commands.specs.declared.schedule.Schedule.{Schedule}
-use Rattle.commands.specs.Schedule.{HasRun, IsReached, LeavesWorld, SeenWorld, world_over}
+use Rattle.commands.specs.Schedule.{HasRun, IsListReached, LeavesWorld, SeenWorld, world_over}
+
+-- where none comes later by name, none does
+pub stays_last : (catalog now : List (List ℕ) × List SplitRelation) (later after : List (List (List ℕ) × List SplitRelation)) → (later ≡ [] → (now ≡ catalog) × (after ≡ [])) → map catalogue_of later ≡ [] → (catalogue_of now ≡ catalogue_of catalog) × (map catalogue_of after ≡ [])
+stays_last catalog now [] after same none = (ap catalogue_of (same refl).0, ap (map catalogue_of) (same refl).1)
+stays_last catalog now (next ∷ later) after same none = absurd (cc)
 
 -- the same schedule has the same world
 pub same_world : {D S : Type 0} (old new : Schedule D S) → new ≡ old → new.world ≡ old.world
@@ -24,13 +29,13 @@ same_world {D = D} {S = S} old new same = ap (λ (schedule : Schedule D S). sche
 
 -- a world that stays as it is
 pub leaves_same : {W : Type 0} (seen : SeenWorld W) (world : W) → LeavesWorld seen world world
-leaves_same seen world = record { clean = λ clean. clean; runs = λ whole clean has. has; catalogs = λ single. (refl, single) }
+leaves_same seen world = record { clean = λ clean. clean; runs = λ db whole clean has. has; catalogs = λ single. (refl, single) }
 
 -- two calls, one after the other
 pub leaves_then : {W : Type 0} (seen : SeenWorld W) (old middle new : W) → LeavesWorld seen old middle → LeavesWorld seen middle new → LeavesWorld seen old new
 leaves_then seen old middle new first next = record {
   clean = λ clean. first.clean (next.clean clean);
-  runs = λ whole clean has. next.runs whole clean (first.runs whole (next.clean clean) has);
+  runs = λ db whole clean has. next.runs db whole clean (first.runs db whole (next.clean clean) has);
   catalogs = λ single. (let here = first.catalogs single in let there = next.catalogs here.1 in (there.0 ∙ here.0, there.1));
 }
 
@@ -38,30 +43,32 @@ module _ {D S : Type 0} (desk_is_clean : D → Type 0) (site_is_clean : S → Ty
   abbrev seen : SeenWorld (World D S)
   seen = world_over desk_is_clean site_is_clean desk_is_sound site_is_sound of_desk of_site desk_refused site_refused
 
-  -- a run goes on, over the same catalogue
-  goes_on : (whole : Relations) (old new : World D S) → seen.catalogue new ≡ seen.catalogue old → seen.is_sound new → (reached : IsReached (seen.catalogue old) whole (seen.machines old) (seen.entries old)) →
-      StepsOn (database (seen.catalogue old)) whole (seen.machines old) (seen.machines new) (seen.entries old) (seen.entries new) reached.0 → HasRun seen whole new
-  goes_on whole old new same sound reached on = record {
-    sound = sound;
-    reached = subst (λ (catalogue : Catalogue). IsReached catalogue whole (seen.machines new) (seen.entries new)) (sym same) (reached.0 ++ on.deeds, on.run_on);
+  -- the catalogue of the number is in force still
+  stands_still : (db : Database) (old new : World D S) → StaysInForce old.machines new.machines → seen.stands db old → seen.stands db new
+  stands_still db old new same stands = record {
+    here = rw (same.version, same.catalog) stands.here;
+    next = rw (same.version, same.later) stands.next;
   }
 
   -- nothing has happened
-  stays : (whole : Relations) (old new : World D S) → seen.catalogue new ≡ seen.catalogue old → seen.is_sound new → seen.machines new ≡ seen.machines old → seen.entries new ≡ seen.entries old → HasRun seen whole old → HasRun seen whole new
-  stays whole old new same sound machines entries has = record {
+  stays : (db : Database) (whole : Relations) (old new : World D S) → StaysInForce old.machines new.machines → seen.is_sound new → seen.machines new ≡ seen.machines old → seen.entries new ≡ seen.entries old → HasRun seen db whole old → HasRun seen db whole new
+  stays db whole old new same sound machines entries has = record {
+    listed = has.listed;
     sound = sound;
-    reached = subst (λ (catalogue : Catalogue). IsReached catalogue whole (seen.machines new) (seen.entries new)) (sym same)
-        (subst (λ (machines : Machines). IsReached (seen.catalogue old) whole machines (seen.entries new)) (sym machines)
-        (subst (λ (entries : List Entry). IsReached (seen.catalogue old) whole (seen.machines old) entries) (sym entries) has.reached));
+    stands = stands_still db old new same has.stands;
+    reached = subst (λ (machines : Machines). IsListReached db whole machines (seen.entries new)) (sym machines)
+        (subst (λ (entries : List Entry). IsListReached db whole (seen.machines old) entries) (sym entries) has.reached);
   }
 
   -- an event of a world, by what is answered
   abbrev StepsTo : Event → Result Entry Fault → World D S → World D S → Type 0
   StepsTo what answer old new = Steps (database (catalogue_of old.machines.desk.catalog)) (OfStores desk_is_clean site_is_clean) (OfStores desk_is_sound site_is_sound) (held of_desk of_site) (counted of_desk of_site desk_refused site_refused) what answer old new
 
-  runs_on : (what : Event) (answer : Result Entry Fault) (old new : World D S) → StepsTo what answer old new → (whole : Relations) → seen.is_clean new → HasRun seen whole old → HasRun seen whole new
-  runs_on what (Ok entry) old new stepped whole clean has = goes_on whole old new (ap catalogue_of (stepped.catalogs has.reached.1.fit.single).0) (stepped.sound clean has.sound) has.reached (stepped.goes_on whole has.reached.0 clean has.sound has.reached.1).0
-  runs_on what (Err told) old new stepped whole clean has = stays whole old new (ap catalogue_of (stepped.catalogs has.reached.1.fit.single).0) (stepped.sound clean has.sound) (stepped.err clean has.sound) stepped.same has
+  runs_on : (what : Event) (answer : Result Entry Fault) (old new : World D S) → StepsTo what answer old new → (db : Database) (whole : Relations) → seen.is_clean new → HasRun seen db whole old → HasRun seen db whole new
+  runs_on what (Ok entry) old new stepped db whole clean has =
+      let on = stepped.lists db whole has.reached.0 has.listed has.stands clean has.sound has.reached.1 in
+      record { listed = has.listed; sound = stepped.sound clean has.sound; stands = on.1; reached = (has.reached.0 ++ on.0.0.deeds, on.0.0.run_on) }
+  runs_on what (Err told) old new stepped db whole clean has = stays db whole old new stepped.stays (stepped.sound clean has.sound) (stepped.err clean has.sound) stepped.same has
 
   pub steps_leave : (what : Event) (answer : Result Entry Fault) (old new : World D S) → StepsTo what answer old new → LeavesWorld seen old new
   steps_leave what answer old new stepped = record { clean = stepped.clean; runs = runs_on what answer old new stepped; catalogs = λ single. (let same = stepped.catalogs single in (ap catalogue_of same.0, same.1)) }
@@ -71,6 +78,9 @@ module _ {D S : Type 0} (desk_is_clean : D → Type 0) (site_is_clean : S → Ty
       StaysAsItIs (OfStores desk_is_clean site_is_clean) (OfStores desk_is_sound site_is_sound) (held of_desk of_site) old.machines new.machines → new.entries.items ≡ old.entries.items → LeavesWorld seen old new
   looks_leave old new leaves same entries = record {
     clean = leaves.clean;
-    runs = λ whole clean has. stays whole old new (ap catalogue_of leaves.catalog) (leaves.sound clean has.sound) (same clean has.sound) entries has;
+    runs = λ db whole clean has.
+        let as_is = same clean has.sound in
+        let in_force : StaysInForce old.machines new.machines = record { version = ap (λ (machines : Machines). machines.table.version) as_is; catalog = leaves.catalog; later = leaves.later } in
+        stays db whole old new in_force (leaves.sound clean has.sound) as_is entries has;
     catalogs = λ single. (ap catalogue_of leaves.catalog, leaves.later ∙ single);
   }

@@ -7,8 +7,8 @@ use Rattle.store.specs.DeskContent.{DeskContent}
 use Rattle.store.specs.SiteContent.{SiteContent}
 use Rattle.commands.specs.declared.conversation.Conversation.{Conversation}
 use Rattle.commands.specs.Conversations.{AreHeld, AreOfParts}
-use Rattle.commands.specs.declared.run.RunFault.{RunFault}
-use Rattle.commands.specs.declared.run.RunFault.TheVariants.{Closed, Program, Refused}
+use Rattle.commands.specs.declared.run_fault.RunFault.{RunFault}
+use Rattle.commands.specs.declared.run_fault.RunFault.TheVariants.{Closed, Program, Refused, Unchained}
 use Rattle.lines.specs.CatalogFile.{IsCatalogueFile}
 use Rattle.commands.specs.Run.{RunsFiles, RunsScript}
 use Rattle.lines.specs.RunScript.{SessionPart}
@@ -50,3 +50,4 @@ ran_over desk_is_clean desk_is_sound desk_content site_is_clean site_is_sound si
 ran_over desk_is_clean desk_is_sound desk_content site_is_clean site_is_sound site_content catalog bytes catalogue file script old new (Err (Program fault)) text valid ran = inr (record { catalogue = catalogue; text = text; valid = valid; ran = ran })
 ran_over desk_is_clean desk_is_sound desk_content site_is_clean site_is_sound site_content catalog bytes catalogue file script old new (Err Closed) text valid ran = record { catalogue = catalogue; text = text; valid = valid; ran = ran }
 ran_over desk_is_clean desk_is_sound desk_content site_is_clean site_is_sound site_content catalog bytes catalogue file script old new (Err (Refused fault)) text valid ran = absurd ran
+ran_over desk_is_clean desk_is_sound desk_content site_is_clean site_is_sound site_content catalog bytes catalogue file script old new (Err Unchained) text valid ran = ran

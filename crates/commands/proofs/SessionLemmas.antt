@@ -10,11 +10,10 @@ use Rattle.world.specs.declared.event.Entry.{Entry}
 use Rattle.world.specs.Commands.{MovesFollow}
 use Rattle.desk.specs.CatalogueDatabase.{database}
 use Rattle.world.specs.Replies.{Tells}
-use Rattle.lines.specs.declared.fault.ProgramFault.{ProgramFault}
 use Rattle.commands.specs.Client.{GoesOn, IsAnswered, Seen, Standing, standing_of}
-use Rattle.commands.specs.Origin.{Begins, Origin}
+use Rattle.commands.specs.Origin.{BeginsWith, IsBegun, Origin}
 use Rattle.lines.specs.Reply.{text_of}
-use Rattle.commands.specs.Session.{Answer, AnswersEach, Beside, Exchange, HasTalked, IsAsideOf, IsTalk, Talks, aside_text, exchange_in, exchanges_in, piece_text, said_by_each}
+use Rattle.commands.specs.Session.{Answer, AnswersEach, Beside, Exchange, IsAsideOf, IsSessionFrom, IsTalk, Talks, aside_text, exchange_in, exchanges_in, piece_text, said_by_each}
 use Rattle.commands.specs.Solo.{said_by}
 use Rattle.commands.proofs.ClientLemmas.{still_told, task_told}
 use Rattle.commands.proofs.SoloLemmas.{Appends-more}
@@ -109,30 +108,20 @@ each_told catalogue law (first ∷ others) old new entries so answered =
     subst (λ es. Tells (database catalogue) es new.past) (append_assoc entries said (said_by_each catalogue others answered.0 new answered.2))
     (each_told catalogue law others answered.0 new (entries ++ said) (task_told first.mode catalogue law first.task old answered.0 first.told entries so answered.1) answered.2)
 
--- there was a session over a database that was opened
-pub held_from : {B : Type 0} (seen : Seen B) (IsOrigin : Origin → Type 0) (old new : Option (List ℕ)) (catalogue : Catalogue) (opened ended : B) (result : Result Unit ProgramFault) → Begins seen IsOrigin catalogue opened → MovesFollow (database catalogue) →
-    OnOk result (Talks seen old new opened ended) → OnOk result (HasTalked seen IsOrigin catalogue old new)
-held_from seen IsOrigin old new catalogue opened ended (Ok done) fresh law talks = (
-  talks.written,
-  talks.told,
-  record {
-    origin = fresh.0;
-    is_origin = fresh.1;
-    ended = ended;
-    held = λ whole begins clean.
-        let begun = fresh.2.goes_on whole begins (talks.clean clean) in
-        let stretch = talks.stretch catalogue whole [] clean begun in
-        record {
-          opening = standing_of seen catalogue opened [];
-          opened = record { served = begun.served; none = refl; idle = fresh.2.idle };
-          end = standing_of seen catalogue ended stretch.later;
-          pieces = stretch.pieces;
-          answered = stretch.answered;
-          lines = stretch.lines;
-          served = stretch.goes_on.served;
-          stands = stretch.goes_on.stands;
-          serial = law.serial whole (seen.machines ended) _ stretch.later (each_told catalogue law (exchanges_in catalogue stretch.pieces) (standing_of seen catalogue opened []) (standing_of seen catalogue ended stretch.later) [] (record { phased = refl; stated = tt; heard = refl }) stretch.answered) stretch.goes_on.served;
-        };
-  },
-)
-held_from seen IsOrigin old new catalogue opened ended (Err fault) fresh law talks = tt
+-- a talk over a database that was opened over whole relations is a session
+pub session_over : {B : Type 0} (seen : Seen B) (catalogue : Catalogue) (origin : Origin) (old new : Option (List ℕ)) (opened ended : B) → IsBegun seen catalogue origin opened → MovesFollow (database catalogue) → (talks : Talks seen old new opened ended) →
+    (whole : Relations) → BeginsWith catalogue origin whole → seen.is_clean ended → IsSessionFrom catalogue whole talks.written
+session_over seen catalogue origin old new opened ended fresh law talks whole begins clean =
+    let begun = fresh.goes_on whole begins (talks.clean clean) in
+    let stretch = talks.stretch catalogue whole [] clean begun in
+    record {
+      opening = standing_of seen catalogue opened [];
+      opened = record { served = begun.served; none = refl; idle = fresh.idle };
+      end = standing_of seen catalogue ended stretch.later;
+      pieces = stretch.pieces;
+      answered = stretch.answered;
+      lines = stretch.lines;
+      served = stretch.goes_on.served;
+      stands = stretch.goes_on.stands;
+      serial = law.serial whole (seen.machines ended) _ stretch.later (each_told catalogue law (exchanges_in catalogue stretch.pieces) (standing_of seen catalogue opened []) (standing_of seen catalogue ended stretch.later) [] (record { phased = refl; stated = tt; heard = refl }) stretch.answered) stretch.goes_on.served;
+    }

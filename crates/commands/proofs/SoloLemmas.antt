@@ -97,7 +97,7 @@ Appends-kept (Some a) None third xs h k = absurd h
 Appends-kept (Some a) (Some b) None xs h k = absurd k
 Appends-kept (Some a) (Some b) (Some c) xs h k = k ∙ h
 
-Keeps-same : (known : Option (List ℕ)) → Keeps known known
+pub Keeps-same : (known : Option (List ℕ)) → Keeps known known
 Keeps-same None = tt
 Keeps-same (Some bytes) = refl
 

@@ -1,5 +1,5 @@
 -- What the commands of a script come to over a database for one client, and what is shown of it.
-use Rattle.std.specs.Prelude.{◌≡◌, ◌⊎◌, ℕ, false, IfErr, IfOk, List, [], ◌++◌, flat_map, Option, Some, None, Result, Ok, Err}
+use Rattle.std.specs.Prelude.{◌≡◌, ◌⊎◌, ℕ, false, IfErr, IfOk, List, [], ◌++◌, flat_map, map, Option, Some, None, Result, Ok, Err}
 use Rattle.terms.specs.declared.leaf.Leaf.{Leaf}
 use Rattle.terms.specs.declared.value.Value.{Value}
 use Rattle.meaning.specs.Whole.{FitsSchema, Relations}
@@ -37,7 +37,7 @@ use Rattle.lines.specs.Script.{CountsLeaf as To_count_leaf, DumpsRelation as To_
 use Rattle.commands.specs.Shown.{counted_text, dumped_text, no_leaf_text, parts_text, relation_text, written_leaf}
 
 -- how a database for one client is seen: whether its stores gave back what was written, and keep it as stores leave it; its machines, with how often the medium of each
--- store has refused; the transaction that the client has begun; what has stopped it; and its catalogue
+-- store has refused; the transaction that the client has begun; what has stopped it; the catalogue in force, its number, and those that come after it
 pub record Seen (B : Type 0) : Type 1 where
   pub is_clean : B → Type 0
   pub is_sound : B → Type 0
@@ -45,6 +45,8 @@ pub record Seen (B : Type 0) : Type 1 where
   pub current : B → Option Txn
   pub stopped : B → Option Refusal
   pub catalogue : B → Catalogue
+  pub version : B → ℕ
+  pub later : B → List Catalogue
 
 -- so over stores of these kinds
 abbrev pub seen_over : {D S : Type 0} → (D → Type 0) → (S → Type 0) → (D → Type 0) → (S → Type 0) → (D → DeskContent) → (S → SiteContent) → (D → ℕ) → (S → ℕ) → Seen (code.Solo D S)
@@ -55,6 +57,8 @@ seen_over desk_is_clean site_is_clean desk_is_sound site_is_sound of_desk of_sit
   current = λ solo. solo.current;
   stopped = λ solo. solo.stopped;
   catalogue = λ solo. catalogue_of solo.machines.desk.catalog;
+  version = λ solo. solo.machines.desk.volatile.version;
+  later = λ solo. map catalogue_of solo.machines.desk.later.items;
 }
 
 -- where a client stands: its database's machines, the transaction that it has begun, and what has happened to transactions since the opening

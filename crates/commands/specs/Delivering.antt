@@ -1,7 +1,6 @@
 -- How letters of a schedule are delivered.
 use Rattle.std.specs.Prelude.{◌≡◌, ◌⊎◌, ◌≤◌, ℕ, zero, suc, ◌+◌, ◌==◌, Bool, true, false, List, [], ◌∷◌, ◌++◌, Option, Some, None, if◌then◌else◌, codes, length, slice_get, slice_set}
 use Rattle.std.specs.List.{list_any}
-use Rattle.catalog.specs.Catalogue.{Catalogue}
 use Rattle.world.specs.declared.event.Event.TheVariants as event
 use Rattle.world.specs.Posted.{letters_in}
 use Rattle.commands.specs.Schedule.{KeepsNames, Stage, Tries, of_letter}
@@ -11,14 +10,14 @@ abbrev pub with_came : ℕ → Stage → Stage
 with_came place stage = record stage { came = slice_set stage.came place true }
 
 -- The letter at this place is delivered; kept: whether the store call that it leads to is not refused. It counts as come also where it is refused.
-abbrev pub DeliversAt : Catalogue → ℕ → Bool → Stage → Stage → List ℕ → Type 0
-DeliversAt catalogue place kept before after text =
-    Tries catalogue KeepsNames (of_letter before.cast (place + 1) (slice_get (letters_in before.entries) place)) (event.Deliver place kept) (with_came place before) after text
+abbrev pub DeliversAt : ℕ → Bool → Stage → Stage → List ℕ → Type 0
+DeliversAt place kept before after text =
+    Tries KeepsNames (of_letter before.cast (place + 1) (slice_get (letters_in before.entries) place)) (event.Deliver place kept) (with_came place before) after text
 
 -- the letter of this number, counted from 1
-abbrev pub Delivers : Catalogue → ℕ → Bool → Stage → Stage → List ℕ → Type 0
-Delivers catalogue zero kept before after text = (after ≡ before) × (text ≡ codes "no letter 0" ++ 10 ∷ [])
-Delivers catalogue (suc place) kept before after text = DeliversAt catalogue place kept before after text
+abbrev pub Delivers : ℕ → Bool → Stage → Stage → List ℕ → Type 0
+Delivers zero kept before after text = (after ≡ before) × (text ≡ codes "no letter 0" ++ 10 ∷ [])
+Delivers (suc place) kept before after text = DeliversAt place kept before after text
 
 -- whether a letter, by its number, is to be delivered: it never came, and is none of these
 abbrev pub is_due : List ℕ → ℕ → Bool → Bool
@@ -34,15 +33,15 @@ abbrev pub first_due : List ℕ → Stage → Option ℕ
 first_due but stage = first_due_from 0 but stage.came
 
 -- letters, by their places, one after another, each the first that is to be delivered then
-abbrev pub DeliversEach : Catalogue → List ℕ → List ℕ → Stage → Stage → List ℕ → Type 0
-DeliversEach catalogue but [] before after text = (after ≡ before) × (text ≡ [])
-DeliversEach catalogue but (place ∷ places) before after text =
-    (middle : Stage) × (first : List ℕ) × (others : List ℕ) × (first_due but before ≡ Some place) × DeliversAt catalogue place true before middle first
-    × DeliversEach catalogue but places middle after others × (text ≡ first ++ others)
+abbrev pub DeliversEach : List ℕ → List ℕ → Stage → Stage → List ℕ → Type 0
+DeliversEach but [] before after text = (after ≡ before) × (text ≡ [])
+DeliversEach but (place ∷ places) before after text =
+    (middle : Stage) × (first : List ℕ) × (others : List ℕ) × (first_due but before ≡ Some place) × DeliversAt place true before middle first
+    × DeliversEach but places middle after others × (text ≡ first ++ others)
 
 -- all letters that are to be delivered, also those that are sent meanwhile, until none is left or a million went
-pub record DeliversAll (catalogue : Catalogue) (but : List ℕ) (before after : Stage) (text : List ℕ) : Type 0 where
+pub record DeliversAll (but : List ℕ) (before after : Stage) (text : List ℕ) : Type 0 where
   pub places : List ℕ
-  pub each : DeliversEach catalogue but places before after text
+  pub each : DeliversEach but places before after text
   pub within : length places ≤ 1_000_000
   pub ends : (first_due but after ≡ None) ⊎ (length places ≡ 1_000_000)

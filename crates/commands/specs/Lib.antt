@@ -4,9 +4,11 @@ pub mod Delivering
 pub mod Shown
 pub mod WorldOpener
 pub mod Client
+pub mod CatalogFiles
 pub mod Origin
 pub mod SqlStores
 pub mod Solo
+pub mod SoloChain
 pub mod Play
 pub mod Import
 pub mod ImportFile
@@ -14,6 +16,8 @@ pub mod ImportWord
 pub mod Leaves
 pub mod Stats
 pub mod Session
+pub mod CatalogWord
+pub mod SessionChain
 pub mod Dump
 pub mod SuggestFile
 pub mod ScriptFile
@@ -21,6 +25,8 @@ pub mod RunText
 pub mod Conversation
 pub mod Conversations
 pub mod Run
+pub mod RunChain
 pub mod Perform
+pub mod PerformChain
 
 -- Helpers.

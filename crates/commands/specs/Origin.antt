@@ -1,5 +1,5 @@
 -- What a database begins with.
-use Rattle.std.specs.Prelude.{◌≡◌, List, [], None}
+use Rattle.std.specs.Prelude.{◌≡◌, List, [], ◌∷◌, None}
 use Rattle.std.specs.FinMap as finite
 use Rattle.meaning.specs.Whole.{Relations}
 use Rattle.catalog.specs.Catalogue.{Catalogue}
@@ -10,6 +10,7 @@ use Rattle.protocol.specs.Desk.{Deed}
 use Rattle.desk.specs.CatalogueDatabase.{database}
 use Rattle.desk.specs.Database.{language}
 use Rattle.desk.specs.State.{IsMemory}
+use Rattle.world.specs.Chain.{StandsLast}
 use Rattle.world.specs.Client.{IsServed}
 use Rattle.world.specs.Machines.{Machines}
 use Rattle.world.specs.Recovery.{AreKept, HaveLeaves}
@@ -60,3 +61,12 @@ pub record IsBegun {B : Type 0} (seen : Seen B) (catalogue : Catalogue) (origin 
 -- a database that was opened, over what it may begin with
 abbrev pub Begins : {B : Type 0} → Seen B → (Origin → Type 0) → Catalogue → B → Type 0
 Begins seen IsOrigin catalogue base = (origin : Origin) × IsOrigin origin × IsBegun seen catalogue origin base
+
+-- of these catalogues this is the last one, and in force as a database begins so
+abbrev pub IsLastOf : List Catalogue → Origin → Catalogue → Type 0
+IsLastOf catalogues New catalogue = catalogues ≡ catalogue ∷ []
+IsLastOf catalogues (Kept found) catalogue = StandsLast found.desk.version catalogues catalogue
+
+-- a database of these catalogues that was opened, over what it may begin with: where one comes after the catalogue in force, nothing is said of it
+abbrev pub BeginsOver : {B : Type 0} → Seen B → (Origin → Type 0) → List Catalogue → B → Type 0
+BeginsOver seen IsOrigin catalogues base = (origin : Origin) × IsOrigin origin × ((catalogue : Catalogue) → IsLastOf catalogues origin catalogue → IsBegun seen catalogue origin base)

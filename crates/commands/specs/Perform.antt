@@ -6,7 +6,7 @@ use Rattle.store.specs.declared.fault.StoreFault.{StoreFault}
 use Rattle.world.specs.declared.world.World.{World}
 use Rattle.shell.specs.declared.mode.Mode.{Mode}
 use Rattle.lines.specs.declared.outcome.Outcome.{Outcome}
-use Rattle.lines.specs.declared.outcome.Outcome.TheVariants.{Done, Lost, SomeRefused, Refused, RefusedStatement, Stopped}
+use Rattle.lines.specs.declared.outcome.Outcome.TheVariants.{Done, Lost, SomeRefused, Refused, RefusedStatement, Stopped, Unchained}
 use Rattle.lines.specs.declared.usage.Request.{Request}
 use Rattle.lines.specs.declared.usage.Request.TheVariants.{Solo, Check, Plan, Play}
 use Rattle.lines.specs.Check.{ChecksFile}
@@ -95,6 +95,7 @@ abbrev pub IsStopped : Outcome → Type 0
 IsStopped Done = ⊥
 IsStopped SomeRefused = ⊥
 IsStopped (Refused fault) = Unit
+IsStopped Unchained = ⊥
 IsStopped (RefusedStatement fault) = ⊥
 IsStopped Lost = ⊥
 IsStopped (Stopped fault) = Unit

@@ -6,7 +6,9 @@ use Rattle.meaning.specs.Whole.{Relations}
 use Rattle.catalog.specs.Catalogue.{Catalogue, IsValidCatalogue}
 use Rattle.catalog.specs.FragmentLeaf.{schemas_of}
 use Rattle.store.specs.declared.fault.StoreFault.{StoreFault}
-use Rattle.desk.specs.CatalogueDatabase.{database}
+use Rattle.desk.specs.CatalogueDatabase.{database, databases}
+use Rattle.desk.specs.Database.{Database}
+use Rattle.desk.specs.OfCatalogue.{from_number}
 use Rattle.world.specs.declared.world.World.{World}
 use Rattle.world.specs.Runs.{IsSerialRun}
 use Rattle.world.specs.Replies.{committed_in}
@@ -24,9 +26,9 @@ use Rattle.commands.specs.Delivering.{Delivers, DeliversAll}
 use Rattle.lines.specs.Input.{IsOfInput}
 use Rattle.lines.specs.PlayItems.{items_of}
 use Rattle.lines.specs.PlayLoad.{IsLoaded, IsMalformedAt}
-use Rattle.commands.specs.Schedule.{Asks, HappensAt, HasRun, IsReached, RestartsDesk, SeenWorld, Stage, stage_of}
+use Rattle.commands.specs.Schedule.{Asks, HappensAt, HasRun, IsListReached, IsReached, RestartsDesk, SeenWorld, Stage, stage_of}
 use Rattle.lines.specs.Script.{lines_of}
-use Rattle.commands.specs.Shown.{IsShownLeaf, IsShownRelation, ShownUnlessRefused, names_text}
+use Rattle.commands.specs.Shown.{IsShownLeaf, IsShownRelation, ShownUnlessRefused, names_text, sight_of}
 use Rattle.commands.specs.Solo.{longest}
 
 -- nothing has happened yet
@@ -67,6 +69,16 @@ StopsPlayOf Fails catalogue file script old new Memory = StopsPlay Fails catalog
 StopsPlayOf Fails catalogue file script old new (Store why) = (length script ≤ longest) × StopsPlay Fails catalogue script old new (Store why)
 StopsPlayOf Fails catalogue file script old new CannotWrite = StopsPlay Fails catalogue script old new CannotWrite
 
+-- a script that is short enough was played to its end, as Played says, or was stopped
+abbrev pub EndsOrStops : (StoreFault → Type 0) → Catalogue → List ℕ → Option (List ℕ) → Option (List ℕ) → Type 0 → Result Unit ProgramFault → Type 0
+EndsOrStops Fails catalogue script old new Played (Ok done) = Played
+EndsOrStops Fails catalogue script old new Played (Err fault) = StopsPlay Fails catalogue script old new fault
+
+-- so was the script of a file
+abbrev pub EndsOrStopsOf : (StoreFault → Type 0) → Catalogue → Bor (List ℕ) → List ℕ → Option (List ℕ) → Option (List ℕ) → Type 0 → Result Unit ProgramFault → Type 0
+EndsOrStopsOf Fails catalogue file script old new Played (Ok done) = (length script ≤ longest) × Played
+EndsOrStopsOf Fails catalogue file script old new Played (Err fault) = StopsPlayOf Fails catalogue file script old new fault
+
 -- why nothing is played where the script can't be opened: the catalogue is none, or that is told
 abbrev pub IsUnplayed : Bor (List ℕ) → List ℕ → Bor (List ℕ) → Result Unit CatalogFault → Type 0
 IsUnplayed catalog bytes file (Ok done) = ⊥
@@ -75,47 +87,64 @@ IsUnplayed catalog bytes file (Err (Program fault)) = IsOfInput catalog fault �
 
 -- seen: how the worlds are seen that are opened for a play
 module _ {D S : Type 0} (seen : SeenWorld (World D S)) where
-  -- an item of a script that loads these whole relations, and what is told of it; what is loaded stands in the fragments from the beginning, and what is shown changes nothing. Clean: where it
-  -- is known what the fragments show
-  abbrev pub Plays : Type 0 → Catalogue → Relations → Item → Schedule D S → Schedule D S → List ℕ → Type 0
-  Plays Clean catalogue whole (item.Load text) before after told = (after ≡ before) × (told ≡ [])
-  Plays Clean catalogue whole (item.Client name asked) before after told = Asks catalogue name asked (stage_of before) (stage_of after) told
-  Plays Clean catalogue whole (item.Deliver number kept) before after told = Delivers catalogue number kept (stage_of before) (stage_of after) told
-  Plays Clean catalogue whole (item.All but) before after told = DeliversAll catalogue but (stage_of before) (stage_of after) told
-  Plays Clean catalogue whole (item.Site name doing) before after told = HappensAt catalogue name doing (stage_of before) (stage_of after) told
-  Plays Clean catalogue whole item.RestartDesk before after told = RestartsDesk catalogue (stage_of before) (stage_of after) told
-  Plays Clean catalogue whole (item.Show name) before after told =
-      (stage_of after ≡ stage_of before) × (Clean → ShownUnlessRefused (seen.refused before.world) (seen.refused after.world) name (IsShownRelation catalogue whole (seen.entries before.world) name) told)
-  Plays Clean catalogue whole (item.Leaf name) before after told =
-      (stage_of after ≡ stage_of before) × (Clean → ShownUnlessRefused (seen.refused before.world) (seen.refused after.world) name (IsShownLeaf catalogue whole (seen.entries before.world) name) told)
-  Plays Clean catalogue whole item.Committed before after told = (after ≡ before) × (told ≡ names_text (name_of before.cast) (committed_in (seen.entries before.world)))
+  -- an item of a script that loads these whole relations, over a list of catalogues, and what is told of it; what is loaded stands in the fragments from the beginning, and what is shown changes
+  -- nothing. Clean: where it is known what the fragments show
+  abbrev pub Plays : Type 0 → Database → Relations → Item → Schedule D S → Schedule D S → List ℕ → Type 0
+  Plays Clean db whole (item.Load text) before after told = (after ≡ before) × (told ≡ [])
+  Plays Clean db whole (item.Client name asked) before after told = Asks name asked (stage_of before) (stage_of after) told
+  Plays Clean db whole (item.Deliver number kept) before after told = Delivers number kept (stage_of before) (stage_of after) told
+  Plays Clean db whole (item.All but) before after told = DeliversAll but (stage_of before) (stage_of after) told
+  Plays Clean db whole (item.Site name doing) before after told = HappensAt name doing (stage_of before) (stage_of after) told
+  Plays Clean db whole item.RestartDesk before after told = RestartsDesk (stage_of before) (stage_of after) told
+  Plays Clean db whole (item.Show name) before after told =
+      (stage_of after ≡ stage_of before) × (Clean → ShownUnlessRefused (seen.refused before.world) (seen.refused after.world) name (IsShownRelation (sight_of seen db whole before.world) name) told)
+  Plays Clean db whole (item.Leaf name) before after told =
+      (stage_of after ≡ stage_of before) × (Clean → ShownUnlessRefused (seen.refused before.world) (seen.refused after.world) name (IsShownLeaf (sight_of seen db whole before.world) name) told)
+  Plays Clean db whole item.Committed before after told = (after ≡ before) × (told ≡ names_text (name_of before.cast) (committed_in (seen.entries before.world)))
 
-  -- items, one after another, with what is told of all
-  abbrev pub PlaysAll : Type 0 → Catalogue → Relations → List Placed → Schedule D S → Schedule D S → List ℕ → Type 0
-  PlaysAll Clean catalogue whole [] before after told = (after ≡ before) × (told ≡ [])
-  PlaysAll Clean catalogue whole (placed ∷ rest) before after told =
-      (middle : Schedule D S) × (first : List ℕ) × (others : List ℕ) × Plays Clean catalogue whole placed.item before middle first × PlaysAll Clean catalogue whole rest middle after others × (told ≡ first ++ others)
+  -- items, one after another, with what is told of all; after each the catalogue in force is the one of its number in the list
+  abbrev pub PlaysAll : Type 0 → Database → Relations → List Placed → Schedule D S → Schedule D S → List ℕ → Type 0
+  PlaysAll Clean db whole [] before after told = (after ≡ before) × (told ≡ [])
+  PlaysAll Clean db whole (placed ∷ rest) before after told =
+      (middle : Schedule D S) × (first : List ℕ) × (others : List ℕ) × Plays Clean db whole placed.item before middle first × (Clean → seen.stands db middle.world) × PlaysAll Clean db whole rest middle after others × (told ≡ first ++ others)
 
-  -- whatever whole relations a run began over, an item is played, and what is shown is known where that run had led to the world before and its stores are clean afterwards
+  -- whatever whole relations and list of catalogues a run began over, an item is played, and what is shown is known where that run had led to the world before and its stores are clean afterwards
   abbrev pub PlaysItem : Item → Schedule D S → Schedule D S → List ℕ → Type 0
-  PlaysItem one before after told = (whole : Relations) → Plays (seen.is_clean after.world × HasRun seen whole before.world) (seen.catalogue before.world) whole one before after told
+  PlaysItem one before after told = (db : Database) (whole : Relations) → Plays (seen.is_clean after.world × HasRun seen db whole before.world) db whole one before after told
 
   -- so are items, one after another, and all that is told of them is written
   pub record PlaysItems (items : List Placed) (old new : Option (List ℕ)) (before after : Schedule D S) : Type 0 where
     pub told : List ℕ
     pub said : Appends old new told
-    pub plays : (whole : Relations) → PlaysAll (seen.is_clean after.world × HasRun seen whole before.world) (seen.catalogue before.world) whole items before after told
+    pub plays : (db : Database) (whole : Relations) → PlaysAll (seen.is_clean after.world × HasRun seen db whole before.world) db whole items before after told
 
-  -- Items were played to their end over a world in which nothing had happened, and all that is told of them was written. Where the stores of the world at the end are clean, what happened are the
-  -- entries of a run over these whole relations, and its committed transactions ran as if one after another.
+  -- Items were played to their end over a world of one catalogue in which nothing had happened, and all that is told of them was written. Where the stores of the world at the end are clean, what
+  -- happened are the entries of a run over these whole relations, and its committed transactions ran as if one after another.
   pub record IsPlayedOver (catalogue : Catalogue) (whole : Relations) (items : List Placed) (old new : Option (List ℕ)) : Type 0 where
     pub opening : Schedule D S
     pub opens : IsOpening (stage_of opening)
+    pub catalog : (stage_of opening).catalogue ≡ catalogue
+    pub last : (stage_of opening).later ≡ []
     pub ended : Schedule D S
     pub told : List ℕ
-    pub plays : PlaysAll (seen.is_clean ended.world) catalogue whole items opening ended told
+    pub plays : PlaysAll (seen.is_clean ended.world) (database catalogue) whole items opening ended told
     pub run : seen.is_clean ended.world → IsReached catalogue whole (seen.machines ended.world) (seen.entries ended.world)
     pub serial : seen.is_clean ended.world → IsSerialRun (database catalogue) whole (seen.machines ended.world) (seen.entries ended.world)
+    pub said : Appends old new told
+
+  -- So over a chain of catalogues: those from one of them on were in force and came later. Where the stores of the world at the end are clean, what happened are the entries of a run over the list of
+  -- them, whichever came into force, under the one of whose number the world ends.
+  pub record IsChainPlayedOver (first : Catalogue) (rest : List Catalogue) (whole : Relations) (items : List Placed) (old new : Option (List ℕ)) : Type 0 where
+    pub opening : Schedule D S
+    pub opens : IsOpening (stage_of opening)
+    pub number : ℕ
+    pub catalogs : (stage_of opening).catalogue ∷ (stage_of opening).later ≡ from_number number (first ∷ rest)
+    pub ended : Schedule D S
+    pub told : List ℕ
+    pub plays : PlaysAll (seen.is_clean ended.world) (databases first rest) whole items opening ended told
+    pub stands : seen.is_clean ended.world → seen.stands (databases first rest) ended.world
+    pub run : seen.is_clean ended.world → IsListReached (databases first rest) whole (seen.machines ended.world) (seen.entries ended.world)
+    pub serial : seen.is_clean ended.world → IsSerialRun (databases first rest) whole (seen.machines ended.world) (seen.entries ended.world)
     pub said : Appends old new told
 
   -- a script was played to its end over what it loads, and all that is told of its items was written
@@ -123,17 +152,27 @@ module _ {D S : Type 0} (seen : SeenWorld (World D S)) where
     pub sound : IsSound catalogue script
     pub played : IsPlayedOver catalogue sound.0 (items_of (lines_of script)).0 old new
 
+  -- so over a chain of catalogues, which have the same relations
+  pub record IsChainPlayed (first : Catalogue) (rest : List Catalogue) (script : List ℕ) (old new : Option (List ℕ)) : Type 0 where
+    pub sound : IsSound first script
+    pub played : IsChainPlayedOver first rest sound.0 (items_of (lines_of script)).0 old new
+
 -- Fails: why a store may fail as such a world is opened
 module _ {D S : Type 0} (seen : SeenWorld (World D S)) (Fails : StoreFault → Type 0) where
   -- a script that is short enough was played to its end, or was stopped
   abbrev pub PlaysOrStops : Catalogue → List ℕ → Option (List ℕ) → Option (List ℕ) → Result Unit ProgramFault → Type 0
-  PlaysOrStops catalogue script old new (Ok done) = IsPlayed seen catalogue script old new
-  PlaysOrStops catalogue script old new (Err fault) = StopsPlay Fails catalogue script old new fault
+  PlaysOrStops catalogue script old new result = EndsOrStops Fails catalogue script old new (IsPlayed seen catalogue script old new) result
 
   -- the script of a file was played to its end, or was stopped
   abbrev pub PlaysScript : Catalogue → Bor (List ℕ) → List ℕ → Option (List ℕ) → Option (List ℕ) → Result Unit ProgramFault → Type 0
-  PlaysScript catalogue file script old new (Ok done) = (length script ≤ longest) × IsPlayed seen catalogue script old new
-  PlaysScript catalogue file script old new (Err fault) = StopsPlayOf Fails catalogue file script old new fault
+  PlaysScript catalogue file script old new result = EndsOrStopsOf Fails catalogue file script old new (IsPlayed seen catalogue script old new) result
+
+  -- so over a chain of catalogues
+  abbrev pub PlaysChainOrStops : Catalogue → List Catalogue → List ℕ → Option (List ℕ) → Option (List ℕ) → Result Unit ProgramFault → Type 0
+  PlaysChainOrStops first rest script old new result = EndsOrStops Fails first script old new (IsChainPlayed seen first rest script old new) result
+
+  abbrev pub PlaysChain : Catalogue → List Catalogue → Bor (List ℕ) → List ℕ → Option (List ℕ) → Option (List ℕ) → Result Unit ProgramFault → Type 0
+  PlaysChain first rest file script old new result = EndsOrStopsOf Fails first file script old new (IsChainPlayed seen first rest script old new) result
 
   -- these bytes are of a valid catalogue, over which the script of this file was played to its end, or stopped
   pub record IsPlayOf (bytes : List ℕ) (file : Bor (List ℕ)) (script : List ℕ) (old new : Option (List ℕ)) (result : Result Unit ProgramFault) : Type 0 where

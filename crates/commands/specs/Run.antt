@@ -41,8 +41,8 @@ use Rattle.lines.specs.declared.fault.ProgramFault.TheVariants.{CannotRead, Cann
 use Rattle.lines.specs.declared.outcome.Outcome.{Outcome}
 use Rattle.lines.specs.declared.outcome.Outcome.TheVariants as outcome
 use Rattle.lines.specs.declared.outcome.Outcome.TheVariants.{Done, Lost, SomeRefused, Stopped}
-use Rattle.commands.specs.declared.run.RunFault.{RunFault}
-use Rattle.commands.specs.declared.run.RunFault.TheVariants.{Closed, Program, Refused}
+use Rattle.commands.specs.declared.run_fault.RunFault.{RunFault}
+use Rattle.commands.specs.declared.run_fault.RunFault.TheVariants.{Closed, Program, Refused, Unchained}
 use Rattle.lines.specs.CatalogFile.{IsCatalogueFile, RefusesFile}
 use Rattle.commands.specs.Client.{IsOfClient}
 use Rattle.commands.specs.Conversations.{AreOfParts}
@@ -140,10 +140,11 @@ fault_of_call call.Memory = Program Memory
 fault_of_call (call.Store why) = Program (Store why)
 fault_of_call other = Closed
 
--- what stops sessions before anything is printed
+-- what stops sessions before anything is printed; over one catalogue they aren't stopped as unchained
 abbrev pub StopsRun : RunFault → Type 0
 StopsRun (Program fault) = IsOfClient fault
 StopsRun Closed = ⊤
+StopsRun Unchained = ⊤
 StopsRun (Refused fault) = ⊥
 
 -- what stops sessions that may run: memory ran out, a store failed, nobody reads what is printed, all of which is written at the end, or a machine can't be had back
@@ -153,6 +154,7 @@ StopsSessions old new (Program (Store why)) = Keeps old new
 StopsSessions old new (Program CannotWrite) = ⊤
 StopsSessions old new (Program other) = ⊥
 StopsSessions old new Closed = Keeps old new
+StopsSessions old new Unchained = Keeps old new
 StopsSessions old new (Refused fault) = ⊥
 
 -- what stopped the script of this file
@@ -164,12 +166,14 @@ StopsScript file script old new (Program Memory) = IsAccepted script ⊎ Keeps o
 StopsScript file script old new (Program (Store why)) = IsAccepted script × Keeps old new
 StopsScript file script old new (Program CannotWrite) = IsAccepted script
 StopsScript file script old new Closed = IsAccepted script × Keeps old new
+StopsScript file script old new Unchained = IsAccepted script × Keeps old new
 StopsScript file script old new (Refused fault) = ⊥
 
 -- a fault of the file of this name, as it was read
 abbrev pub IsOfFile : Bor (List ℕ) → RunFault → Type 0
 IsOfFile file (Program fault) = IsOfInput file fault
 IsOfFile file Closed = ⊥
+IsOfFile file Unchained = ⊥
 IsOfFile file (Refused fault) = ⊥
 
 -- why nothing runs where the script can't be opened: the catalogue is none, or that is told
@@ -183,6 +187,7 @@ abbrev pub outcome_of : Result Bool RunFault → Outcome
 outcome_of (Ok true) = Done
 outcome_of (Ok false) = SomeRefused
 outcome_of (Err (Refused fault)) = outcome.Refused fault
+outcome_of (Err Unchained) = outcome.Unchained
 outcome_of (Err (Program fault)) = Stopped fault
 outcome_of (Err Closed) = Lost
 
@@ -196,6 +201,7 @@ module _ {D S : Type 0} (desk_is_clean desk_is_sound : D → Type 0) (desk_conte
   -- the script of a file ran to its end, or was stopped
   abbrev pub RunsScript : Catalogue → Bor (List ℕ) → List ℕ → Option (List ℕ) → Option (List ℕ) → Result Bool RunFault → Type 0
   RunsScript catalogue file script old new (Ok is_woven) = IsAccepted script × HasWritten catalogue (sessions_of (lines_of script)) old new is_woven
+  RunsScript catalogue file script old new (Err Unchained) = ⊥
   RunsScript catalogue file script old new (Err fault) = StopsScript file script old new fault
 
   -- these bytes are of a valid catalogue, over which the script of this file ran to its end, or was stopped
@@ -211,3 +217,4 @@ module _ {D S : Type 0} (desk_is_clean desk_is_sound : D → Type 0) (desk_conte
   RunsFiles catalog bytes file script old new (Err (Refused fault)) = RefusesFile bytes fault.relation fault.rule × Keeps old new
   RunsFiles catalog bytes file script old new (Err (Program fault)) = (IsOfInput catalog fault × Keeps old new) ⊎ IsRunOf bytes file script old new (Err (Program fault))
   RunsFiles catalog bytes file script old new (Err Closed) = IsRunOf bytes file script old new (Err Closed)
+  RunsFiles catalog bytes file script old new (Err Unchained) = ⊥

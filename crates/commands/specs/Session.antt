@@ -19,7 +19,7 @@ use Rattle.lines.specs.declared.fault.ProgramFault.{ProgramFault}
 use Rattle.lines.specs.CatalogFile.{IsCatalogueFile, RefusesFile}
 use Rattle.commands.specs.Client.{AnswersTask, GoesOn, Seen, Standing, standing_of}
 use Rattle.lines.specs.Input.{IsOfInput}
-use Rattle.lines.specs.Listing.{schema_text, tables_text}
+use Rattle.lines.specs.Listing.{catalog_text, schema_text, tables_text}
 use Rattle.commands.specs.declared.stats.Stats.{Stats}
 use Rattle.commands.specs.Import.{ImportMade, imported_text}
 use Rattle.commands.specs.Stats.{stats_text}
@@ -46,6 +46,7 @@ help_text =
     ++ codes ".tables             the relations\n"
     ++ codes ".schema [RELATION]  their columns\n"
     ++ codes ".leaves [RELATION]  their fragments, with sites, columns, conditions and rows\n"
+    ++ codes ".catalog            which catalogue is in force, of how many\n"
     ++ codes ".show RELATION      the rows of a relation, rebuilt\n"
     ++ codes ".leaf LEAF          the rows of a fragment\n"
     ++ codes ".plan STATEMENT     which fragments a statement reads; EXPLAIN tells it too\n"
@@ -66,6 +67,7 @@ pub data Aside (catalogue : Catalogue) : Type 0 where
   Help : Aside catalogue
   Tables : Aside catalogue
   Schema : (asked : List ℕ) → Aside catalogue
+  InForce : (number count : ℕ) (name : List ℕ) → Aside catalogue
   Cost : (stats : Stats) (traffic : Traffic) → Aside catalogue
   Plan : (typed text : List ℕ) (of_typed : IsPlanOf catalogue typed text) → Aside catalogue
   LineEnd : Aside catalogue
@@ -76,6 +78,7 @@ aside_text catalogue (Prompt is_more is_open) = prompt_text is_more is_open
 aside_text catalogue Help = help_text
 aside_text catalogue Tables = tables_text catalogue
 aside_text catalogue (Schema asked) = schema_text catalogue asked
+aside_text catalogue (InForce number count name) = catalog_text number count name
 aside_text catalogue (Cost stats traffic) = stats_text stats traffic
 aside_text catalogue (Plan typed text of_typed) = text
 aside_text catalogue LineEnd = 10 ∷ []

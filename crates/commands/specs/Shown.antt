@@ -16,7 +16,7 @@ use Rattle.catalog.specs.FragmentLeaf.{catalogue_leaves, leaf_named, schemas_of}
 use Rattle.store.specs.declared.name.Txn.{Txn}
 use Rattle.world.specs.declared.event.Entry.{Entry}
 use Rattle.world.specs.declared.fault.Fault.{Fault}
-use Rattle.desk.specs.CatalogueDatabase.{database}
+use Rattle.desk.specs.Database.{Database}
 use Rattle.world.specs.Counted.{HaveRefused}
 use Rattle.world.specs.Fault.{is_of_medium}
 use Rattle.world.specs.Machines.{Machines}
@@ -26,7 +26,7 @@ use Rattle.shell.specs.declared.mode.Mode.TheVariants.{Tabs}
 use Rattle.shell.specs.Mode.{answer_in, line_in}
 use Rattle.lines.specs.Check.{columns_of, leaf_told, names_of_columns}
 use Rattle.lines.specs.PlayText.{Naming, leaf_columns}
-use Rattle.commands.specs.Schedule.{HasRun, IsReached, SeenWorld, refusal_text}
+use Rattle.commands.specs.Schedule.{HasRun, IsListReached, SeenWorld, refusal_text}
 
 -- rows under the names of their columns
 abbrev pub rows_text : Mode → List (List ℕ) → List (List Value) → List ℕ
@@ -84,22 +84,33 @@ written_leaf name (leaf ∷ leaves) = if bytes_eq (leaf_text leaf.name) name the
 abbrev pub names_text : Naming → List Txn → List ℕ
 names_text named txns = flat_map (λ txn. named txn ++ 10 ∷ []) txns
 
+-- what stands where something is shown: a database, its catalogue in force, whole relations, what has happened in a run over them, and the machines that it has led to
+pub record Sight : Type 0 where
+  pub db : Database
+  pub catalogue : Catalogue
+  pub whole : Relations
+  pub entries : List Entry
+  pub machines : Machines
+
+abbrev pub sight_of : {W : Type 0} → SeenWorld W → Database → Relations → W → Sight
+sight_of seen db whole world = record { db = db; catalogue = seen.catalogue world; whole = whole; entries = seen.entries world; machines = seen.machines world }
+
 -- what is shown of a relation after a run over whole relations: the rows that the committed transactions make of it, one after another
-abbrev pub IsShownRelation : Catalogue → Relations → List Entry → List ℕ → List ℕ → Type 0
-IsShownRelation catalogue whole entries name text =
-    (found : Option (List (List Value))) × ShowsSerial (database catalogue) whole entries name found × (text ≡ relation_text Tabs catalogue name found)
+abbrev pub IsShownRelation : Sight → List ℕ → List ℕ → Type 0
+IsShownRelation sight name text =
+    (found : Option (List (List Value))) × ShowsSerial sight.db sight.whole sight.entries name found × (text ≡ relation_text Tabs sight.catalogue name found)
 
--- the same of a leaf: the parts that are kept of it where a run with these entries leads to
-abbrev pub IsShownParts : Catalogue → Relations → List Entry → List ℕ → Leaf → List ℕ → Type 0
-IsShownParts catalogue whole entries name leaf text =
-    (machines : Machines) × IsReached catalogue whole machines entries × (text ≡ parts_text Tabs catalogue name leaf (parts_kept (database catalogue) machines leaf))
+-- the same of a leaf: the parts that are kept of it where the run leads to
+abbrev pub IsShownParts : Sight → List ℕ → Leaf → List ℕ → Type 0
+IsShownParts sight name leaf text =
+    IsListReached sight.db sight.whole sight.machines sight.entries × (text ≡ parts_text Tabs sight.catalogue name leaf (parts_kept sight.db sight.machines leaf))
 
-abbrev pub IsShownAs : Catalogue → Relations → List Entry → List ℕ → Option Leaf → List ℕ → Type 0
-IsShownAs catalogue whole entries name None text = text ≡ no_leaf_text Tabs name
-IsShownAs catalogue whole entries name (Some leaf) text = IsShownParts catalogue whole entries name leaf text
+abbrev pub IsShownAs : Sight → List ℕ → Option Leaf → List ℕ → Type 0
+IsShownAs sight name None text = text ≡ no_leaf_text Tabs name
+IsShownAs sight name (Some leaf) text = IsShownParts sight name leaf text
 
-abbrev pub IsShownLeaf : Catalogue → Relations → List Entry → List ℕ → List ℕ → Type 0
-IsShownLeaf catalogue whole entries name text = IsShownAs catalogue whole entries name (written_leaf name (catalogue_leaves catalogue)) text
+abbrev pub IsShownLeaf : Sight → List ℕ → List ℕ → Type 0
+IsShownLeaf sight name text = IsShownAs sight name (written_leaf name (catalogue_leaves sight.catalogue)) text
 
 -- what is asked for by this name isn't shown, as the medium of a store has refused meanwhile, and that is told. before, after: how often the media have refused
 pub record IsUnshown (before after : List ℕ) (name text : List ℕ) : Type 0 where
@@ -112,8 +123,8 @@ pub record IsUnshown (before after : List ℕ) (name text : List ℕ) : Type 0 w
 abbrev pub ShownUnlessRefused : (before after : List ℕ) → List ℕ → (List ℕ → Type 0) → List ℕ → Type 0
 ShownUnlessRefused before after name Shown text = Shown text ⊎ IsUnshown before after name text
 
--- So by a call after a run over whole relations, where the stores are clean as it ends. Shown: what it says of a catalogue, of whole relations, of what has happened and of a text; bytes_of: the
--- text of what a call gives
-abbrev pub ShowsOf : {W T E : Type 0} → SeenWorld W → List ℕ → (Catalogue → Relations → List Entry → List ℕ → Type 0) → (T → List ℕ) → W → W → Result T E → Type 0
+-- So by a call after a run over whole relations and a list of catalogues, where the stores are clean as it ends. Shown: what it says of what stands there and of a text; bytes_of: the text of
+-- what a call gives
+abbrev pub ShowsOf : {W T E : Type 0} → SeenWorld W → List ℕ → (Sight → List ℕ → Type 0) → (T → List ℕ) → W → W → Result T E → Type 0
 ShowsOf seen name Shown bytes_of old new result =
-    (whole : Relations) → seen.is_clean new → HasRun seen whole old → IfOk result (λ given. ShownUnlessRefused (seen.refused old) (seen.refused new) name (Shown (seen.catalogue old) whole (seen.entries old)) (bytes_of given))
+    (db : Database) (whole : Relations) → seen.is_clean new → HasRun seen db whole old → IfOk result (λ given. ShownUnlessRefused (seen.refused old) (seen.refused new) name (Shown (sight_of seen db whole old)) (bytes_of given))

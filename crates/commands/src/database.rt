@@ -1,6 +1,6 @@
 //! Databases for one client.
 
-ghost use Rattle.std.specs.Prelude.{◌≡◌, is_some};
+ghost use Rattle.std.specs.Prelude.{◌≡◌, is_some, map};
 ghost use Rattle.catalog.specs.Relation.{catalogue_of};
 ghost use Rattle.commands.specs.Client.{Seen, Serves};
 ghost use Rattle.lines.specs.Reply.{told_by};
@@ -20,7 +20,7 @@ use world::traffic::Traffic;
 
 /// A database for one client, over whatever stores.
 pub trait Database {
-    /// How it is seen: its stores, its machines, where its client stands, and its catalogue.
+    /// How it is seen: its stores, its machines, where its client stands, and its catalogues.
     ghost seen: { Seen Self };
 
     /// What an item is answered by.
@@ -32,9 +32,17 @@ pub trait Database {
     ) -> Result<Reply, ProgramFault<'a>>
         ensures { Serves seen mode (task_of item.entry) told_by self.old self.new result };
 
-    /// The catalogue.
+    /// The catalogue in force.
     fn catalog(&self) -> &Catalog
         ensures { catalogue_of result.now ≡ seen.catalogue self.now };
+
+    /// The number of the catalogue in force, counted from 1.
+    fn version(&self) -> u64
+        ensures { result ≡ seen.version self.now };
+
+    /// The catalogues that come after it, in their order.
+    fn later(&self) -> &[Catalog]
+        ensures { map catalogue_of result.now ≡ seen.later self.now };
 
     /// Whether the client has begun a transaction that has not ended.
     fn is_open(&self) -> bool
@@ -60,6 +68,14 @@ impl<D: DeskStore, S: SiteStore> Database for Solo<D, S> {
 
     fn catalog(&self) -> &Catalog {
         Solo::catalog(self)
+    }
+
+    fn version(&self) -> u64 {
+        Solo::version(self)
+    }
+
+    fn later(&self) -> &[Catalog] {
+        Solo::later(self)
     }
 
     fn is_open(&self) -> bool {

@@ -1,9 +1,8 @@
 //! Letters of a schedule are delivered.
 
-ghost use Rattle.std.specs.Prelude.{◌≡◌, [], ◌<◌, ◌+◌, ◌^◌, ◌==◌, true, slice_set, drop, length, IfOk, IfSome, OnOk, string_bytes};
+ghost use Rattle.std.specs.Prelude.{◌≡◌, ◌<◌, ◌+◌, ◌^◌, ◌==◌, true, slice_set, drop, length, IfOk, IfSome, OnOk, string_bytes};
 ghost use Rattle.std.specs.List.{list_any};
 ghost use Rattle.std.specs.Option.{option_copied};
-ghost use Rattle.catalog.specs.Relation.{catalogue_of};
 ghost use Rattle.commands.specs.Delivering.{Delivers, DeliversAll, DeliversAt, first_due_from};
 ghost use Rattle.commands.specs.Schedule.{IsCounted, LeavesWorld, of_letter, refusal_text, stage_of, world_over};
 
@@ -72,9 +71,8 @@ fn letter_refusal(
 impl<D: DeskStore, S: SiteStore> Schedule<D, S> {
     /// The letter of this number, counted from 1, is delivered.
     pub fn deliver(&mut self, alloc: Global, number: usize, kept: bool) -> Result<String, Memory>
-        requires counted { IsCounted (stage_of self.old) }
-        requires single { self.old.world.machines.desk.later.items ≡ [] }
-        ensures delivers { IfOk result (λ text. Delivers (catalogue_of self.old.world.machines.desk.catalog) number kept (stage_of self.old) (stage_of self.new) (string_bytes text)) }
+        requires { IsCounted (stage_of self.old) }
+        ensures delivers { IfOk result (λ text. Delivers number kept (stage_of self.old) (stage_of self.new) (string_bytes text)) }
         ensures leaves { LeavesWorld (world_over D.is_clean S.is_clean D.is_sound S.is_sound D.kept S.kept D.refused S.refused) self.old.world self.new.world }
     {
         if number == 0 {
@@ -86,9 +84,8 @@ impl<D: DeskStore, S: SiteStore> Schedule<D, S> {
     /// The letter at this place is delivered.
     fn deliver_at(&mut self, alloc: Global, place: usize, kept: bool) -> Result<String, Memory>
         requires counted { IsCounted (stage_of self.old) }
-        requires single { self.old.world.machines.desk.later.items ≡ [] }
         requires within { place + 1 < 2 ^ 64 }
-        ensures delivers { IfOk result (λ text. DeliversAt (catalogue_of self.old.world.machines.desk.catalog) place kept (stage_of self.old) (stage_of self.new) (string_bytes text)) }
+        ensures delivers { IfOk result (λ text. DeliversAt place kept (stage_of self.old) (stage_of self.new) (string_bytes text)) }
         ensures leaves { LeavesWorld (world_over D.is_clean S.is_clean D.is_sound S.is_sound D.kept S.kept D.refused S.refused) self.old.world self.new.world }
     {
         mark(self.came.as_mut_slice(), place);
@@ -105,9 +102,8 @@ impl<D: DeskStore, S: SiteStore> Schedule<D, S> {
     /// Each letter that never came is delivered, but for these: the least number first, new ones too, until none
     /// is left or a million went.
     pub fn deliver_all(&mut self, alloc: Global, but: &[usize]) -> Result<String, Memory>
-        requires counted { IsCounted (stage_of self.old) }
-        requires single { self.old.world.machines.desk.later.items ≡ [] }
-        ensures delivers { IfOk result (λ text. DeliversAll (catalogue_of self.old.world.machines.desk.catalog) but.now (stage_of self.old) (stage_of self.new) (string_bytes text)) }
+        requires { IsCounted (stage_of self.old) }
+        ensures delivers { IfOk result (λ text. DeliversAll but.now (stage_of self.old) (stage_of self.new) (string_bytes text)) }
         ensures leaves { LeavesWorld (world_over D.is_clean S.is_clean D.is_sound S.is_sound D.kept S.kept D.refused S.refused) self.old.world self.new.world }
     {
         let mut text = String::new(alloc);

@@ -1,4 +1,5 @@
-//! The folder of a database, in which its stores lie, and beside them the catalogue that they are of.
+//! The folder of a database, in which its stores lie, and beside them the first catalogue that they are of. Those that come after it
+//! don't stand there: whoever opens the folder gives the same list each time.
 
 ghost use Rattle.std.specs.Prelude.{IfErr};
 ghost use Rattle.commands.specs.Client.{IsOfClient};
@@ -15,7 +16,7 @@ use std::rt::HostRuntime;
 use std::{fs, io};
 use store::fault::StoreFault;
 
-/// The file of a folder in which its catalogue stands.
+/// The file of a folder in which its first catalogue stands.
 pub const CATALOGUE: &str = "catalogue.toml";
 
 /// The file in which it stands until it is whole.
@@ -30,7 +31,7 @@ pub enum Standing {
     Kept,
 }
 
-/// Makes the folder, where it isn't there, and sees whether its stores can be of this catalogue. Another catalogue's folder
+/// Makes the folder, where it isn't there, and sees whether its stores can be of this first catalogue. A folder with another one
 /// is left as it is, and counts as damaged; so does one in which the file of a store is missing.
 pub fn enter<'a>(
     rt: &HostRuntime,

@@ -9,7 +9,7 @@ ghost use Rattle.commands.specs.ImportFile as spec;
 
 use crate::database::Database;
 use crate::import::{Imported, import};
-use crate::opener::Opens;
+use crate::opener::{Opens, open_alone};
 use crate::row_progress::RowProgress;
 use crate::session_word::tell;
 use catalog::catalogue::Catalog;
@@ -120,7 +120,7 @@ fn insert_all<'a, B: Database + Drop, O: Opens<B>, W: Write, E: Write>(
     ensures { IfOk result (λ is_cut. HasInserted B.seen O.origin (catalogue_of catalog.now) relation.now.name rows.now many is_cut (W.contents output.old) (W.contents output.new)) }
 {
     moves_follow(catalog);
-    let mut database = opener.open(alloc, catalog)?;
+    let mut database = open_alone(alloc, opener, catalog)?;
     let many = many_of(many, rows);
     match import(alloc, &mut database, relation, rows, many, progress)? {
         Imported::All => {

@@ -4,6 +4,8 @@
 //! The contract that carries it is that of `perform::perform`: what is written and what comes of each request.
 #![tactic(auto)]
 
+pub mod catalog_files;
+pub mod catalog_word;
 pub mod client;
 pub mod conversation;
 pub mod conversations;
@@ -22,19 +24,24 @@ pub mod leaves;
 pub mod misuse;
 pub mod opener;
 pub mod perform;
+pub mod perform_chain;
 pub mod play;
 pub mod progress;
 pub mod row_progress;
 pub mod run;
+pub mod run_chain;
+pub mod run_fault;
 pub mod run_records;
 pub mod run_text;
 pub mod schedule;
 pub mod script_file;
 pub mod session;
+pub mod session_files;
 pub mod session_word;
 pub mod sessions;
 pub mod shown;
 pub mod solo;
+pub mod solo_chain;
 pub mod sql_stores;
 pub mod stats;
 pub mod store_opener;

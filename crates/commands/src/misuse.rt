@@ -14,6 +14,7 @@ fn usage_of(word: Word) -> &'static str {
         Word::Tables => ".tables",
         Word::Schema => ".schema [RELATION]",
         Word::Leaves => ".leaves [RELATION]",
+        Word::Catalog => ".catalog",
         Word::Show => ".show RELATION",
         Word::Leaf => ".leaf LEAF",
         Word::Plan => ".plan STATEMENT",

@@ -1,17 +1,23 @@
-//! How the database of a catalogue is opened.
+//! How the database of a chain of catalogues is opened.
 
-ghost use Rattle.std.specs.Prelude.{◌≡◌, IfErr, IfOk, length};
+ghost use Rattle.std.specs.Prelude.{◌≡◌, ◌↔◌, IfErr, IfOk, length, map};
 ghost use Rattle.catalog.specs.Relation.{catalogue_of};
+ghost use Rattle.desk.specs.declared.refusal.Refusal.TheVariants as refusals;
+ghost use Rattle.world.specs.declared.fault.Fault.TheVariants as faults;
+ghost use Rattle.commands.specs.CatalogFiles as spec;
+ghost use Rattle.commands.specs.CatalogFiles.{IsOfOpening};
 ghost use Rattle.commands.specs.Client.{IsOfClient};
-ghost use Rattle.commands.specs.Origin.{Begins, Origin as OriginNow};
+ghost use Rattle.commands.specs.Origin.{Begins, BeginsOver, Origin as OriginNow};
 ghost use Rattle.commands.specs.SqlStores.{AreOfLeaves};
 
+use crate::catalog_files::ChainFault;
 use crate::client::stopped;
 use crate::database::Database;
 use crate::folder::{Standing, enter, keep_catalogue};
 use crate::found::found_text;
 use crate::sql_stores::{OpenStores, OpensFiles, file_desk, file_sites, memory_desk, memory_sites};
 use catalog::catalogue::Catalog;
+use catalog::chain::Chain;
 use desk::refusal::Refusal;
 use lines::fault::ProgramFault;
 use lines::play_load::empty_relations;
@@ -25,7 +31,7 @@ use store::fault::StoreFault;
 use store::plain_desk::PlainDesk;
 use store::plain_site::PlainSite;
 use terms::memory::Memory;
-use world::chain::alone;
+use world::chain::{alone, first_of};
 use world::fault::Fault;
 use world::solo::{Solo, open, open_on};
 
@@ -34,15 +40,43 @@ pub trait Opens<B: Database> {
     /// What such a database may begin with.
     ghost origin: { OriginNow → Type 0 };
 
-    /// Opens the database of this catalogue.
-    fn open<'a>(&self, alloc: Global, catalog: &Catalog) -> Result<B, ProgramFault<'a>>
-        ensures ok { IfOk result (Begins B.seen origin (catalogue_of catalog.now)) }
-        ensures err { IfErr result IsOfClient };
+    /// Opens the database of this chain. In force is the catalogue whose number its stores keep, or the first one.
+    fn open<'a>(&self, alloc: Global, chain: &Chain) -> Result<B, ChainFault<'a>>
+        ensures ok { IfOk result (BeginsOver B.seen origin (map catalogue_of chain.now)) }
+        ensures err { IfErr result IsOfOpening };
 
     /// What a session is to tell of what such a database is going to begin with, in lines; nothing where it begins without rows.
     /// Nothing is claimed of the words.
     fn found(&self, alloc: Global, _catalog: &Catalog) -> Result<String, Memory> {
         Ok(String::new(alloc))
+    }
+}
+
+/// Opens the database of one catalogue. A coordinator's store that keeps another number than the first is damaged.
+pub fn open_alone<'a, B: Database, O: Opens<B>>(
+    alloc: Global,
+    opener: &O,
+    catalog: &Catalog,
+) -> Result<B, ProgramFault<'a>>
+    ensures ok { IfOk result (Begins B.seen O.origin (catalogue_of catalog.now)) }
+    ensures err { IfErr result IsOfClient }
+{
+    let chain = alone(alloc, catalog)?;
+    match opener.open(alloc, &chain) {
+        Ok(database) => Ok(database),
+        Err(fault) => Err(fault_alone(fault)),
+    }
+}
+
+/// What stops the program where a database of one catalogue isn't opened.
+pub fn fault_alone(fault: ChainFault<'_>) -> ProgramFault<'_>
+    ensures { result ≡ spec.fault_alone fault.entry }
+{
+    match fault {
+        ChainFault::Program(fault) => fault,
+        ChainFault::Refused(_) | ChainFault::Unchained => ProgramFault::Store {
+            fault: StoreFault::Damaged,
+        },
     }
 }
 
@@ -59,14 +93,13 @@ impl Opens<Solo<PlainDesk, PlainSite>> for Lists {
     fn open<'a>(
         &self,
         alloc: Global,
-        catalog: &Catalog,
-    ) -> Result<Solo<PlainDesk, PlainSite>, ProgramFault<'a>> {
-        let whole = empty_relations(alloc, catalog.schema())?;
-        let chain = alone(alloc, catalog)?;
-        match open(alloc, &chain, &whole) {
+        chain: &Chain,
+    ) -> Result<Solo<PlainDesk, PlainSite>, ChainFault<'a>> {
+        let whole = empty_relations(alloc, first_of(chain).schema())?;
+        match open(alloc, chain, &whole) {
             Ok(database) => Ok(database),
             // Lists refuse for want of memory alone.
-            Err(_) => Err(ProgramFault::Memory),
+            Err(_) => Err(ChainFault::Program(ProgramFault::Memory)),
         }
     }
 }
@@ -84,32 +117,33 @@ impl Opens<Solo<SqlDesk<MemStore>, SqlSite<MemStore>>> for InMemory {
     fn open<'a>(
         &self,
         alloc: Global,
-        catalog: &Catalog,
-    ) -> Result<Solo<SqlDesk<MemStore>, SqlSite<MemStore>>, ProgramFault<'a>> {
-        let whole = empty_relations(alloc, catalog.schema())?;
-        let sites = memory_sites(alloc, catalog)?;
+        chain: &Chain,
+    ) -> Result<Solo<SqlDesk<MemStore>, SqlSite<MemStore>>, ChainFault<'a>> {
+        let first = first_of(chain);
+        let whole = empty_relations(alloc, first.schema())?;
+        let sites = memory_sites(alloc, first)?;
         let desk = memory_desk(alloc)?;
-        let chain = alone(alloc, catalog)?;
-        match open_on(alloc, &chain, &whole, sites, desk) {
+        match open_on(alloc, chain, &whole, sites, desk) {
             Ok(database) => Ok(database),
-            Err(fault) => Err(unopened(fault)),
+            Err(fault) => Err(unchained(fault)),
         }
     }
 }
 
-/// Databases over the stores in SQLite that lie in a folder. They go on from what an earlier one left there.
+/// Databases over the stores in SQLite that lie in a folder. They go on from what an earlier one left there, of the same
+/// catalogues: the folder keeps the first one's text alone, so whoever opens it gives those that come after it anew.
 #[derive(Drop)]
 pub struct Folder<'f, F> {
     rt: &'f HostRuntime,
     files: &'f F,
     dir: &'f str,
-    /// The file of its catalogue; none for the built-in one.
+    /// The file of its first catalogue; none for the built-in one.
     source: Option<&'f str>,
 }
 
 impl<'f, F> Folder<'f, F> {
-    /// Those of this folder, over the catalogue of a file, or the built-in one. What lies in a folder no contract can say, so none
-    /// says which one this is.
+    /// Those of this folder, whose first catalogue is that of a file, or the built-in one. What lies in a folder no contract can say,
+    /// so none says which one this is.
     pub fn new(
         rt: &'f HostRuntime,
         files: &'f F,
@@ -149,16 +183,16 @@ impl<M: Alter + Drop, F: OpensFiles<M>> Opens<Solo<SqlDesk<M>, SqlSite<M>>> for 
     fn open<'a>(
         &self,
         alloc: Global,
-        catalog: &Catalog,
-    ) -> Result<Solo<SqlDesk<M>, SqlSite<M>>, ProgramFault<'a>> {
-        let standing = enter(self.rt, self.dir, catalog)?;
-        let OpenStores { sites, desk } = open_files(alloc, self, catalog, standing)?;
+        chain: &Chain,
+    ) -> Result<Solo<SqlDesk<M>, SqlSite<M>>, ChainFault<'a>> {
+        let first = first_of(chain);
+        let standing = enter(self.rt, self.dir, first)?;
+        let OpenStores { sites, desk } = open_files(alloc, self, first, standing)?;
         // No transaction begins in a folder before its catalogue stands there.
-        keep_catalogue(self.rt, self.dir, self.source, catalog, standing)?;
-        let chain = alone(alloc, catalog)?;
-        match Solo::open_stores(alloc, &chain, sites, desk) {
+        keep_catalogue(self.rt, self.dir, self.source, first, standing)?;
+        match Solo::open_stores(alloc, chain, sites, desk) {
             Ok(database) => Ok(database),
-            Err(fault) => Err(unopened(fault)),
+            Err(fault) => Err(unchained(fault)),
         }
     }
 
@@ -167,8 +201,19 @@ impl<M: Alter + Drop, F: OpensFiles<M>> Opens<Solo<SqlDesk<M>, SqlSite<M>>> for 
     }
 }
 
-/// What stops the program where a database can't be opened. An incarnation after the last one can't be kept, and a coordinator's store with
-/// the number of a catalogue that isn't given is damaged.
+/// Why a database of a chain isn't opened: also since the coordinator's store keeps the number of none of its catalogues.
+pub fn unchained<'a>(fault: Fault) -> ChainFault<'a>
+    ensures own { IsOfOpening result }
+    ensures chain { (result ≡ ChainFault.Unchained) ↔ (fault ≡ faults.Desk refusals.Chain) }
+{
+    match fault {
+        Fault::Desk(Refusal::Chain) => ChainFault::Unchained,
+        fault => ChainFault::Program(unopened(fault)),
+    }
+}
+
+/// What stops the program where a database of one catalogue can't be opened. An incarnation after the last one can't be kept, and a
+/// coordinator's store with the number of a catalogue that isn't given is damaged.
 pub fn unopened<'a>(fault: Fault) -> ProgramFault<'a>
     ensures { IsOfClient result }
 {

@@ -12,7 +12,7 @@ ghost use Rattle.commands.specs.Solo.{IsUnrun};
 use crate::database::Database;
 use crate::opener::Opens;
 use crate::play::play_files;
-use crate::session::session_files;
+use crate::session_files::session_files;
 use crate::solo::solo_files;
 use crate::texts::OpensText;
 use crate::world_opener::OpensWorld;

@@ -1,18 +1,20 @@
 //! The command `play`: a script of schedules over a world of its own.
 
-ghost use Rattle.std.specs.Prelude.{◌≡◌, [], IfErr, IfOk, IfSome, OnOk, is_err, true, string_bytes};
+ghost use Rattle.std.specs.Prelude.{◌≡◌, ◌∷◌, [], List, IfErr, IfOk, IfSome, OnOk, is_err, map, true, string_bytes};
 ghost use Rattle.std.specs.Io.KnownBytes.{Keeps};
 ghost use Rattle.meaning.specs.Whole.{FitsSchema};
+ghost use Rattle.catalog.specs.Catalogue.{Catalogue};
 ghost use Rattle.catalog.specs.FragmentLeaf.{schemas_of};
 ghost use Rattle.catalog.specs.Relation.{catalogue_of};
-ghost use Rattle.commands.specs.Play.{IsPlayedOver, IsUnplayed, PlaysFiles, PlaysItem, PlaysItems, PlaysOrStops, PlaysScript, StopsItems};
-ghost use Rattle.lines.specs.Input.{IsOfOutput};
+ghost use Rattle.commands.specs.Play.{IsChainPlayedOver, IsPlayedOver, IsUnplayed, PlaysChain, PlaysChainOrStops, PlaysFiles, PlaysItem, PlaysItems, PlaysOrStops, PlaysScript, StopsItems};
+ghost use Rattle.lines.specs.Input.{IsOfInput, IsOfOutput};
 ghost use Rattle.commands.specs.Schedule.{IsCounted, LeavesWorld, stage_of, world_over};
 
 use crate::schedule::Schedule;
 use crate::solo::read_script;
 use crate::world_opener::OpensWorld;
 use catalog::catalogue::Catalog;
+use catalog::chain::Chain;
 use lines::catalog_file::{CatalogFault, read_catalog};
 use lines::fault::ProgramFault;
 use lines::play_items::{Placed, read_items};
@@ -25,7 +27,10 @@ use std::io::{Read, Write};
 use store::desk_store::DeskStore;
 use store::site_store::SiteStore;
 use terms::memory::Memory;
-use world::laws::runs_are_serial;
+use world::chain::{alone, first_of};
+use world::laws::{
+    chain_is_listed, database_is_of_catalogue, language_is_lawful, list_runs_are_serial,
+};
 
 /// Plays the script that `input` gives, which `file` names in a fault, over the catalogue that `catalog` gives, which
 /// `catalog_file` names. The catalogue is read first.
@@ -83,25 +88,75 @@ pub fn play<
     ensures { IfSome (R.remaining input) (λ script. PlaysScript (world_over D.is_clean S.is_clean D.is_sound S.is_sound D.kept S.kept D.refused S.refused) O.fails_for (catalogue_of catalog) file.entry script (W.contents output.old) (W.contents output.new) result) }
 {
     let script = read_script(alloc, file, input)?;
-    play_script(alloc, opener, catalog, script.as_slice(), output)
+    let chain = alone(alloc, &catalog)?;
+    play_script(alloc, opener, &chain, script.as_slice(), output)
+}
+
+/// Plays the script that `input` gives, which `file` names in a fault, over a chain of catalogues that was read.
+pub fn play_catalogues<
+    'a,
+    D: DeskStore + Drop,
+    S: SiteStore + Drop,
+    O: OpensWorld<D, S>,
+    R: Read + Drop,
+    W: Write,
+>(
+    alloc: Global,
+    opener: &O,
+    chain: &Chain,
+    file: &'a str,
+    input: io::Result<R>,
+    output: &mut W,
+) -> Result<(), ProgramFault<'a>>
+    ensures opened { (first : Catalogue) (rest : List Catalogue) → map catalogue_of chain.now ≡ first ∷ rest → IfOk input (λ reader. IfSome (R.remaining reader) (λ script. PlaysChain (world_over D.is_clean S.is_clean D.is_sound S.is_sound D.kept S.kept D.refused S.refused) O.fails_for first rest file.entry script (W.contents output.old) (W.contents output.new) result)) }
+    ensures unread { IfErr input (λ error. IfErr result (IsOfInput file.entry)) }
+    ensures idle { IfErr input (λ error. (is_err result ≡ true) × Keeps (W.contents output.old) (W.contents output.new)) }
+{
+    match input {
+        Ok(input) => play_chain(alloc, opener, chain, file, input, output),
+        Err(error) => Err(ProgramFault::reading(file, &error)),
+    }
+}
+
+/// Plays a script as `play` does, over a new world of a chain of catalogues: a `refragment` brings the next one into force.
+pub fn play_chain<
+    'a,
+    D: DeskStore + Drop,
+    S: SiteStore + Drop,
+    O: OpensWorld<D, S>,
+    R: Read + Drop,
+    W: Write,
+>(
+    alloc: Global,
+    opener: &O,
+    chain: &Chain,
+    file: &'a str,
+    input: R,
+    output: &mut W,
+) -> Result<(), ProgramFault<'a>>
+    ensures { (first : Catalogue) (rest : List Catalogue) → map catalogue_of chain.now ≡ first ∷ rest → IfSome (R.remaining input) (λ script. PlaysChain (world_over D.is_clean S.is_clean D.is_sound S.is_sound D.kept S.kept D.refused S.refused) O.fails_for first rest file.entry script (W.contents output.old) (W.contents output.new) result) }
+{
+    let script = read_script(alloc, file, input)?;
+    play_script(alloc, opener, chain, script.as_slice(), output)
 }
 
 /// Plays a script of which all bytes were read.
 fn play_script<'a, D: DeskStore + Drop, S: SiteStore + Drop, O: OpensWorld<D, S>, W: Write>(
     alloc: Global,
     opener: &O,
-    catalog: Catalog,
+    chain: &Chain,
     script: &[u8],
     output: &mut W,
 ) -> Result<(), ProgramFault<'a>>
-    ensures { PlaysOrStops (world_over D.is_clean S.is_clean D.is_sound S.is_sound D.kept S.kept D.refused S.refused) O.fails_for (catalogue_of catalog) script.now (W.contents output.old) (W.contents output.new) result }
+    ensures one { (catalogue : Catalogue) → map catalogue_of chain.now ≡ catalogue ∷ [] → PlaysOrStops (world_over D.is_clean S.is_clean D.is_sound S.is_sound D.kept S.kept D.refused S.refused) O.fails_for catalogue script.now (W.contents output.old) (W.contents output.new) result }
+    ensures lists { (first : Catalogue) (rest : List Catalogue) → map catalogue_of chain.now ≡ first ∷ rest → PlaysChainOrStops (world_over D.is_clean S.is_clean D.is_sound S.is_sound D.kept S.kept D.refused S.refused) O.fails_for first rest script.now (W.contents output.old) (W.contents output.new) result }
 {
     let script = read_items(alloc, script)?;
-    match loaded(alloc, catalog.schema(), &script) {
+    match loaded(alloc, first_of(chain).schema(), &script) {
         Ok(whole) => play_over(
             alloc,
             opener,
-            catalog,
+            chain,
             &whole,
             script.items.as_slice(),
             output,
@@ -114,17 +169,22 @@ fn play_script<'a, D: DeskStore + Drop, S: SiteStore + Drop, O: OpensWorld<D, S>
 fn play_over<'a, D: DeskStore + Drop, S: SiteStore + Drop, O: OpensWorld<D, S>, W: Write>(
     alloc: Global,
     opener: &O,
-    catalog: Catalog,
+    chain: &Chain,
     whole: &Whole,
     items: &[Placed],
     output: &mut W,
 ) -> Result<(), ProgramFault<'a>>
-    requires { FitsSchema (schemas_of (catalogue_of catalog)) whole.now }
-    ensures ok { OnOk result (IsPlayedOver (world_over D.is_clean S.is_clean D.is_sound S.is_sound D.kept S.kept D.refused S.refused) (catalogue_of catalog) whole.now items.now (W.contents output.old) (W.contents output.new)) }
+    requires { (first : Catalogue) (rest : List Catalogue) → map catalogue_of chain.now ≡ first ∷ rest → FitsSchema (schemas_of first) whole.now }
+    ensures one { (catalogue : Catalogue) → map catalogue_of chain.now ≡ catalogue ∷ [] → OnOk result (IsPlayedOver (world_over D.is_clean S.is_clean D.is_sound S.is_sound D.kept S.kept D.refused S.refused) catalogue whole.now items.now (W.contents output.old) (W.contents output.new)) }
+    ensures lists { (first : Catalogue) (rest : List Catalogue) → map catalogue_of chain.now ≡ first ∷ rest → OnOk result (IsChainPlayedOver (world_over D.is_clean S.is_clean D.is_sound S.is_sound D.kept S.kept D.refused S.refused) first rest whole.now items.now (W.contents output.old) (W.contents output.new)) }
     ensures err { IfErr result (StopsItems O.fails_for (W.contents output.old) (W.contents output.new)) }
 {
-    runs_are_serial(&catalog);
-    let world = opener.open(alloc, &catalog, whole)?;
+    let first = first_of(chain);
+    database_is_of_catalogue(first);
+    language_is_lawful(first);
+    chain_is_listed(chain);
+    list_runs_are_serial();
+    let world = opener.open(alloc, chain, whole)?;
     let mut schedule = Schedule::new(alloc, world);
     let done = play_items(alloc, &mut schedule, items, output);
     // What was told before a fault goes out too.
@@ -152,8 +212,7 @@ fn play_items<'a, D: DeskStore, S: SiteStore, W: Write>(
     items: &[Placed],
     output: &mut W,
 ) -> Result<(), ProgramFault<'a>>
-    requires counted { IsCounted (stage_of schedule.old) }
-    requires single { schedule.old.world.machines.desk.later.items ≡ [] }
+    requires { IsCounted (stage_of schedule.old) }
     ensures ok { OnOk result (PlaysItems (world_over D.is_clean S.is_clean D.is_sound S.is_sound D.kept S.kept D.refused S.refused) items.now (W.contents output.old) (W.contents output.new) schedule.old schedule.new) }
     ensures leaves { LeavesWorld (world_over D.is_clean S.is_clean D.is_sound S.is_sound D.kept S.kept D.refused S.refused) schedule.old.world schedule.new.world }
     ensures err { IfErr result IsOfOutput }
@@ -173,8 +232,7 @@ fn play_item<D: DeskStore, S: SiteStore>(
     schedule: &mut Schedule<D, S>,
     item: &Item,
 ) -> Result<String, Memory>
-    requires counted { IsCounted (stage_of schedule.old) }
-    requires single { schedule.old.world.machines.desk.later.items ≡ [] }
+    requires { IsCounted (stage_of schedule.old) }
     ensures plays { IfOk result (λ told. PlaysItem (world_over D.is_clean S.is_clean D.is_sound S.is_sound D.kept S.kept D.refused S.refused) item.now schedule.old schedule.new (string_bytes told)) }
     ensures leaves { LeavesWorld (world_over D.is_clean S.is_clean D.is_sound S.is_sound D.kept S.kept D.refused S.refused) schedule.old.world schedule.new.world }
 {

@@ -1,37 +1,21 @@
 //! The command `run`: a script of many sessions, which are at work at once.
 
-ghost use Rattle.std.specs.Prelude.{◌≡◌, ◌≤◌, ◌∷◌, Err, IfErr, IfOk, IfSome, List, length, map, string_bytes};
-ghost use Rattle.catalog.specs.Catalogue.{Catalogue};
+ghost use Rattle.std.specs.Prelude.{IfErr, IfOk, IfSome};
 ghost use Rattle.std.specs.Io.KnownBytes.{Keeps};
 ghost use Rattle.catalog.specs.Relation.{catalogue_of};
-ghost use Rattle.history.specs.Records.{AreRecords};
-ghost use Rattle.wire.specs.Opening.{HaveLeaves};
-ghost use Rattle.world.specs.Chain.{sites_of};
-ghost use Rattle.commands.specs.Client.{IsOfClient};
-ghost use Rattle.commands.specs.Conversations.{AreOfParts};
 ghost use Rattle.commands.specs.Perform.{ComesTo, IsUnread};
-ghost use Rattle.commands.specs.Run.{HasRun, HasWritten, IsUnrun, RunsFiles, RunsScript, StopsRun, StopsSessions, outcome_of};
-ghost use Rattle.lines.specs.RunScript.{part_of};
-ghost use Rattle.commands.specs.Solo.{longest};
+ghost use Rattle.commands.specs.Run.{IsUnrun, RunsFiles, RunsScript, outcome_of};
 
-use crate::conversation::{Conversation, Manner};
-use crate::conversations::converse_at_once;
-use crate::opener::unopened;
+use crate::conversation::Manner;
 use crate::perform::unread;
 use crate::progress::Watches;
-use crate::run_records::{Ran, conclude};
-use crate::solo::read_script;
-use crate::sql_stores::OpenStores;
+use crate::run_chain::run_chain;
+use crate::run_fault::{RunFault, ended_alone, outcome_of};
 use crate::store_opener::OpensStores;
 use catalog::catalogue::Catalog;
-use catalog::chain::Chain;
-use catalog::fault::CatFault;
-use history::records::Records;
 use lines::catalog_file::{CatalogFault, read_catalog};
 use lines::fault::ProgramFault;
 use lines::outcome::Outcome;
-use lines::run_script::{Part, parts};
-use lines::written::write_text;
 use std::alloc::Global;
 use std::io;
 use std::io::{Read, Write};
@@ -40,57 +24,7 @@ use std::thread::Threads;
 use std::time::Clock;
 use store::desk_store::DeskStore;
 use store::site_store::SiteStore;
-use terms::memory::Memory;
-use wire::database::Database;
-use wire::fault::CallFault;
-use wire::gate::Ungated;
 use world::chain::alone;
-
-/// Why sessions at once don't come to their ends.
-#[derive(Drop)]
-pub enum RunFault<'a> {
-    /// The catalogue was refused.
-    Refused(CatFault),
-    /// The command stopped.
-    Program(ProgramFault<'a>),
-    /// A machine can't be had back.
-    Closed,
-}
-
-impl<'a> From<ProgramFault<'a>> for RunFault<'a> {
-    ghost use Rattle.commands.specs.declared.run.RunFault.TheVariants.{Program};
-
-    ghost from_gives = { λ program fault. fault ≡ Program program };
-
-    fn from(fault: ProgramFault<'a>) -> RunFault<'a> {
-        RunFault::Program(fault)
-    }
-}
-
-impl From<CallFault> for RunFault<'_> {
-    ghost use Rattle.commands.specs.Run.{fault_of_call};
-
-    ghost from_gives = { λ told fault. fault ≡ fault_of_call told };
-
-    fn from(fault: CallFault) -> Self {
-        match fault {
-            CallFault::Memory => RunFault::Program(ProgramFault::Memory),
-            CallFault::Store(fault) => RunFault::Program(ProgramFault::Store { fault }),
-            _ => RunFault::Closed,
-        }
-    }
-}
-
-impl From<Memory> for RunFault<'_> {
-    ghost use Rattle.lines.specs.declared.fault.ProgramFault.TheVariants as why;
-    ghost use Rattle.commands.specs.declared.run.RunFault.TheVariants.{Program};
-
-    ghost from_gives = { λ _ fault. fault ≡ Program why.Memory };
-
-    fn from(_error: Memory) -> Self {
-        RunFault::Program(ProgramFault::Memory)
-    }
-}
 
 /// Runs the script that `input` gives, which `file` names in a fault, over a database of the catalogue that `catalog` gives,
 /// which `catalog_file` names: the lines of each session in a thread of its own. The catalogue is read first. What is
@@ -181,19 +115,6 @@ fn run_catalogued<
     }
 }
 
-/// What sessions came to, as an outcome.
-fn outcome_of(ended: Result<bool, RunFault<'_>>) -> Outcome<'_>
-    ensures { result ≡ outcome_of ended.entry }
-{
-    match ended {
-        Ok(true) => Outcome::Done,
-        Ok(false) => Outcome::SomeRefused,
-        Err(RunFault::Refused(fault)) => Outcome::Refused(fault),
-        Err(RunFault::Program(fault)) => Outcome::Stopped(fault),
-        Err(RunFault::Closed) => Outcome::Lost,
-    }
-}
-
 /// Runs the script that `input` gives over a database of this catalogue: the whole script or none of it. Answers whether
 /// what the machines did was one run.
 fn run<
@@ -219,155 +140,8 @@ fn run<
 ) -> Result<bool, RunFault<'a>>
     ensures { IfSome (R.remaining input) (λ script. RunsScript D.is_clean D.is_sound D.kept S.is_clean S.is_sound S.kept (catalogue_of catalog.now) file.entry script (W.contents output.old) (W.contents output.new) result) }
 {
-    let script = read_script(alloc, file, input)?;
-    let parts = match parts(alloc, script.as_slice()) {
-        Ok(parts) => parts,
-        Err(fault) => return Err(RunFault::Program(ProgramFault::from(fault))),
-    };
-    run_parts(
-        rt,
-        alloc,
-        opener,
-        manner,
-        catalog,
-        parts.as_slice(),
-        output,
-        errors,
-    )
-}
-
-/// Runs the parts of a script, each in a session of its own, and writes what is printed. Answers whether what the machines
-/// did was one run.
-fn run_parts<
-    'a,
-    H: Threads + Wait + Clock + Copy + Send + Sync + 'static,
-    D: DeskStore + Send + Drop + 'static,
-    S: SiteStore + Send + Drop + 'static,
-    O: OpensStores<D, S>,
-    P: Watches + Sync,
-    W: Write,
-    E: Write,
->(
-    rt: &H,
-    alloc: Global,
-    opener: &O,
-    manner: &Manner<'_, P>,
-    catalog: &Catalog,
-    parts: &[Part<'_>],
-    output: &mut W,
-    errors: &mut E,
-) -> Result<bool, RunFault<'a>>
-    ensures ok { IfOk result (λ is_woven. HasWritten D.is_clean D.is_sound D.kept S.is_clean S.is_sound S.kept (catalogue_of catalog.now) (map part_of parts.now) (W.contents output.old) (W.contents output.new) is_woven) }
-    ensures err { IfErr result (StopsSessions (W.contents output.old) (W.contents output.new)) }
-{
-    let stores = opener.open(alloc, catalog)?;
-    manner.watch.begin(commands_in(parts));
-    let Ran {
-        printed,
-        is_woven,
-        retries,
-    } = run_over(rt, alloc, stores, manner, catalog, parts)?;
-    if manner.retry > 0 {
-        // Where the standard error is closed nobody can be told.
-        let _ = writeln!(errors, "fragdb: {retries} retries");
-    }
-    write_text(output, printed.as_str())?;
-    Ok(is_woven)
-}
-
-/// How many commands parts have in all.
-fn commands_in(parts: &[Part<'_>]) -> usize {
-    parts.iter().fold(
-        0,
-        |all: usize, part| all.saturating_add(part.commands.len()),
-    )
-}
-
-/// Runs the parts over a database of these stores, which is closed then.
-fn run_over<
-    'a,
-    H: Threads + Wait + Clock + Copy + Send + Sync + 'static,
-    D: DeskStore + Send + Drop + 'static,
-    S: SiteStore + Send + Drop + 'static,
-    P: Watches + Sync,
->(
-    rt: &H,
-    alloc: Global,
-    stores: OpenStores<D, S>,
-    manner: &Manner<'_, P>,
-    catalog: &Catalog,
-    parts: &[Part<'_>],
-) -> Result<Ran, RunFault<'a>>
-    requires one_each { length stores.sites.items ≡ length catalog.now.0 }
-    requires leaves { HaveLeaves S.is_clean S.kept (catalogue_of catalog.now) stores.sites.items }
-    ensures ok { IfOk result (λ ran. HasRun D.is_clean D.is_sound D.kept S.is_clean S.is_sound S.kept (catalogue_of catalog.now) (map part_of parts.now) (string_bytes ran.printed) ran.is_woven) }
-    ensures err { IfErr result StopsRun }
-{
-    let Held {
-        conversations,
-        records,
-    } = hold(rt, alloc, stores, manner, catalog, parts)?;
-    match conclude(alloc, catalog, conversations.as_slice(), records)? {
-        Some(ran) => Ok(ran),
-        None => Err(RunFault::Closed),
-    }
-}
-
-/// What sessions said and heard, and the records of their database.
-#[derive(Drop)]
-struct Held<D: DeskStore, S: SiteStore> {
-    conversations: Vec<Conversation>,
-    records: Records<D, S>,
-}
-
-/// The chain of a catalogue, over whose stores a database is opened.
-fn chain_over<D: DeskStore, S: SiteStore>(
-    alloc: Global,
-    catalog: &Catalog,
-    stores: &OpenStores<D, S>,
-) -> Result<Chain, Memory>
-    requires one_each { length stores.now.sites.items ≡ length catalog.now.0 }
-    requires leaves { HaveLeaves S.is_clean S.kept (catalogue_of catalog.now) stores.now.sites.items }
-    ensures one_each { IfOk result (λ chain. length stores.now.sites.items ≡ length (sites_of chain)) }
-    ensures leaves { (first : Catalogue) (rest : List Catalogue) → IfOk result (λ chain. map catalogue_of chain ≡ first ∷ rest → HaveLeaves S.is_clean S.kept first stores.now.sites.items) }
-{
     let chain = alone(alloc, catalog)?;
-    Ok(chain)
-}
-
-/// Opens a database over these stores, holds the conversations of all parts at once, and closes it.
-fn hold<
-    'a,
-    H: Threads + Wait + Clock + Copy + Send + Sync + 'static,
-    D: DeskStore + Send + Drop + 'static,
-    S: SiteStore + Send + Drop + 'static,
-    P: Watches + Sync,
->(
-    rt: &H,
-    alloc: Global,
-    stores: OpenStores<D, S>,
-    manner: &Manner<'_, P>,
-    catalog: &Catalog,
-    parts: &[Part<'_>],
-) -> Result<Held<D, S>, RunFault<'a>>
-    requires one_each { length stores.sites.items ≡ length catalog.now.0 }
-    requires leaves { HaveLeaves S.is_clean S.kept (catalogue_of catalog.now) stores.sites.items }
-    ensures held { IfOk result (λ held. AreOfParts (map part_of parts.now) held.conversations.items) }
-    ensures records { IfOk result (λ held. AreRecords D.is_clean D.is_sound D.kept S.is_clean S.is_sound S.kept held.records.machines held.records.catalogs.items held.records.opening held.records.entries.items held.records.pasts.items) }
-    ensures err { IfErr result StopsRun }
-{
-    let chain = chain_over(alloc, catalog, &stores)?;
-    let OpenStores { sites, desk } = stores;
-    let database = match Database::open(rt, alloc, &chain, sites, desk, Ungated) {
-        Ok(database) => database,
-        Err(fault) => return Err(RunFault::Program(unopened(fault))),
-    };
-    let conversations = converse_at_once(rt, alloc, manner, &database, parts);
-    let closed = database.close(rt);
-    let conversations = conversations?;
-    let records = closed?.records;
-    Ok(Held {
-        conversations,
-        records,
-    })
+    ended_alone(run_chain(
+        rt, alloc, opener, manner, &chain, file, input, output, errors,
+    ))
 }

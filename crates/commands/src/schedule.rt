@@ -4,7 +4,6 @@ ghost use Rattle.std.specs.Prelude.{◌≡◌, ◌++◌, ◌∷◌, [], List, So
 ghost use Rattle.std.specs.Option.{option_copied};
 ghost use Rattle.catalog.specs.Relation.{catalogue_of};
 ghost use Rattle.desk.specs.declared.reply.Out.{Out as OutNow};
-ghost use Rattle.world.specs.declared.event.Call.TheVariants as calls;
 ghost use Rattle.world.specs.declared.event.Entry.{Entry as EntryNow};
 ghost use Rattle.world.specs.declared.event.Event.{Event as EventNow};
 ghost use Rattle.world.specs.declared.event.Event.TheVariants as events;
@@ -13,7 +12,7 @@ ghost use Rattle.world.specs.Runs.{entry_of};
 ghost use Rattle.lines.specs.Cast.{name_of};
 ghost use Rattle.lines.specs.PlayText.{out_text};
 ghost use Rattle.commands.specs.Schedule as spec;
-ghost use Rattle.commands.specs.Schedule.{Asks, HappensAt, IsCounted, IsNamedFirst, KeepsNames, LeavesWorld, Names, RestartsDesk, Steps, Tries, event_at, of_client, refusal_text, stage_of, unseen, world_over};
+ghost use Rattle.commands.specs.Schedule.{Asks, Begins, HappensAt, IsCounted, IsNamedFirst, KeepsNames, LeavesWorld, RestartsDesk, Steps, Tries, event_at, of_client, refusal_text, stage_of, unseen, world_over};
 
 use desk::refusal::Refusal;
 use desk::reply::{Notice, Out};
@@ -112,8 +111,9 @@ impl<D: DeskStore, S: SiteStore> Schedule<D, S> {
     }
 
     /// An event happens, or is refused: then it is answered why.
+    #[tactic(auto, using(crate::proofs::ReachedLemmas::stays_last))]
     pub fn step(&mut self, event: Event) -> Result<Option<Fault>, Memory>
-        ensures steps { IfOk result (λ why. Steps (catalogue_of self.old.world.machines.desk.catalog) event (stage_of self.old) (stage_of self.new) why) }
+        ensures steps { IfOk result (λ why. Steps event (stage_of self.old) (stage_of self.new) why) }
         ensures counted { IsCounted (stage_of self.old) → OnOk result (IsCounted (stage_of self.new)) }
         ensures leaves { LeavesWorld (world_over D.is_clean S.is_clean D.is_sound S.is_sound D.kept S.kept D.refused S.refused) self.old.world self.new.world }
     {
@@ -143,13 +143,13 @@ impl<D: DeskStore, S: SiteStore> Schedule<D, S> {
 
     /// What the client of the transaction of this name asks for.
     pub fn ask(&mut self, alloc: Global, name: &Text, ask: &Ask) -> Result<String, Memory>
-        requires counted { IsCounted (stage_of self.old) }
-        requires single { self.old.world.machines.desk.later.items ≡ [] }
-        ensures asks { IfOk result (λ text. Asks (catalogue_of self.old.world.machines.desk.catalog) name.now ask.now (stage_of self.old) (stage_of self.new) (string_bytes text)) }
+        requires { IsCounted (stage_of self.old) }
+        ensures asks { IfOk result (λ text. Asks name.now ask.now (stage_of self.old) (stage_of self.new) (string_bytes text)) }
         ensures leaves { LeavesWorld (world_over D.is_clean S.is_clean D.is_sound S.is_sound D.kept S.kept D.refused S.refused) self.old.world self.new.world }
     {
         match ask {
-            Ask::Begin => self.begin(alloc, name),
+            Ask::Begin => self.begin(alloc, name, Call::Begin),
+            Ask::Refragment(text) => self.begin(alloc, name, Call::Refragment(text.copy()?)),
             _ => match self.cast.txn(name) {
                 Some(txn) => self.call(alloc, name, call_of(txn, ask)?),
                 None => unknown(alloc, name, ask),
@@ -157,14 +157,13 @@ impl<D: DeskStore, S: SiteStore> Schedule<D, S> {
         }
     }
 
-    /// A transaction is begun under this name.
-    fn begin(&mut self, alloc: Global, name: &Text) -> Result<String, Memory>
-        requires counted { IsCounted (stage_of self.old) }
-        requires single { self.old.world.machines.desk.later.items ≡ [] }
-        ensures tries { IfOk result (λ text. Tries (catalogue_of self.old.world.machines.desk.catalog) (Names name.now) (of_client name.now) (events.Call calls.Begin) (stage_of self.old) (stage_of self.new) (string_bytes text)) }
+    /// A transaction is begun under this name, by a call that begins one.
+    fn begin(&mut self, alloc: Global, name: &Text, call: Call) -> Result<String, Memory>
+        requires { IsCounted (stage_of self.old) }
+        ensures tries { IfOk result (λ text. Begins name.now call (stage_of self.old) (stage_of self.new) (string_bytes text)) }
         ensures leaves { LeavesWorld (world_over D.is_clean S.is_clean D.is_sound S.is_sound D.kept S.kept D.refused S.refused) self.old.world self.new.world }
     {
-        match self.step(Event::Call(Call::Begin)) {
+        match self.step(Event::Call(call)) {
             Ok(None) => {
                 if let Some(out) = last_out(self.world.entries()) {
                     name_first(&mut self.cast, name, out.replies.as_slice())?;
@@ -178,9 +177,8 @@ impl<D: DeskStore, S: SiteStore> Schedule<D, S> {
 
     /// The client of the transaction of this name makes a call.
     fn call(&mut self, alloc: Global, name: &Text, call: Call) -> Result<String, Memory>
-        requires counted { IsCounted (stage_of self.old) }
-        requires single { self.old.world.machines.desk.later.items ≡ [] }
-        ensures tries { IfOk result (λ text. Tries (catalogue_of self.old.world.machines.desk.catalog) KeepsNames (of_client name.now) (events.Call call) (stage_of self.old) (stage_of self.new) (string_bytes text)) }
+        requires { IsCounted (stage_of self.old) }
+        ensures tries { IfOk result (λ text. Tries KeepsNames (of_client name.now) (events.Call call) (stage_of self.old) (stage_of self.new) (string_bytes text)) }
         ensures leaves { LeavesWorld (world_over D.is_clean S.is_clean D.is_sound S.is_sound D.kept S.kept D.refused S.refused) self.old.world self.new.world }
     {
         match self.step(Event::Call(call)) {
@@ -192,9 +190,8 @@ impl<D: DeskStore, S: SiteStore> Schedule<D, S> {
 
     /// Something happens at the site of this name.
     pub fn at_site(&mut self, alloc: Global, site: &Text, doing: AtSite) -> Result<String, Memory>
-        requires counted { IsCounted (stage_of self.old) }
-        requires single { self.old.world.machines.desk.later.items ≡ [] }
-        ensures happens { IfOk result (λ text. HappensAt (catalogue_of self.old.world.machines.desk.catalog) site.now doing (stage_of self.old) (stage_of self.new) (string_bytes text)) }
+        requires { IsCounted (stage_of self.old) }
+        ensures happens { IfOk result (λ text. HappensAt site.now doing (stage_of self.old) (stage_of self.new) (string_bytes text)) }
         ensures leaves { LeavesWorld (world_over D.is_clean S.is_clean D.is_sound S.is_sound D.kept S.kept D.refused S.refused) self.old.world self.new.world }
     {
         match self.step(event_at(site.copy()?, doing)) {
@@ -209,9 +206,8 @@ impl<D: DeskStore, S: SiteStore> Schedule<D, S> {
 
     /// The coordinator restarts.
     pub fn restart_desk(&mut self, alloc: Global) -> Result<String, Memory>
-        requires counted { IsCounted (stage_of self.old) }
-        requires single { self.old.world.machines.desk.later.items ≡ [] }
-        ensures restarts { IfOk result (λ text. RestartsDesk (catalogue_of self.old.world.machines.desk.catalog) (stage_of self.old) (stage_of self.new) (string_bytes text)) }
+        requires { IsCounted (stage_of self.old) }
+        ensures restarts { IfOk result (λ text. RestartsDesk (stage_of self.old) (stage_of self.new) (string_bytes text)) }
         ensures leaves { LeavesWorld (world_over D.is_clean S.is_clean D.is_sound S.is_sound D.kept S.kept D.refused S.refused) self.old.world self.new.world }
     {
         match self.step(Event::DeskRestarts(true)) {
@@ -241,6 +237,7 @@ fn call_of(txn: Txn, ask: &Ask) -> Result<Call, Memory>
 {
     match ask {
         Ask::Begin => Ok(Call::Begin),
+        Ask::Refragment(text) => Ok(Call::Refragment(text.copy()?)),
         Ask::State(text) => Ok(Call::State(txn, text.copy()?)),
         Ask::Commit => Ok(Call::Commit(txn)),
         Ask::Rollback => Ok(Call::Rollback(txn)),

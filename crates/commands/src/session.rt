@@ -1,31 +1,32 @@
 //! A session: what a person types is answered at once.
 
-ghost use Rattle.std.specs.Prelude.{◌≡◌, IfErr, IfOk, IfSome, OnOk};
+ghost use Rattle.std.specs.Prelude.{◌≡◌, IfErr, IfOk, OnOk, map};
 ghost use Rattle.std.specs.Str.{IsUtf8};
 ghost use Rattle.catalog.specs.Relation.{catalogue_of};
-ghost use Rattle.commands.specs.Session.{HasTalked, IsOfSession, RunsSession, Talks};
+ghost use Rattle.commands.specs.Session.{IsOfSession, Talks};
 ghost use Rattle.commands.specs.Session as spec;
+ghost use Rattle.commands.specs.SessionChain.{HoldsOver};
 ghost use Rattle.commands.specs.Solo.{IsOfRun};
 
+use crate::catalog_files::ChainFault;
 use crate::database::Database;
 use crate::opener::Opens;
 use crate::session_word::{State, Turn, take_item, take_plan, take_word, tell};
 use crate::texts::OpensText;
 use crate::typed::{Typed, first_of, is_whole, next_line};
 use catalog::catalogue::Catalog;
-use lines::catalog_file::{CatalogFault, read_catalog};
+use catalog::chain::Chain;
 use lines::explaining::explain_text;
 use lines::fault::ProgramFault;
 use lines::script::Item;
 use lines::written::write_text;
-use meaning::schema::Schema;
 use meaning::statement::Statement;
 use reader::command::Command;
 use reader::read::read;
 use shell::mode::Mode;
 use std::alloc::Global;
 use std::io;
-use std::io::{BufRead, BufReader, Read, Write};
+use std::io::{BufRead, Read, Write};
 use std::time::{Clock, Instant};
 use world::laws::moves_follow;
 
@@ -33,80 +34,8 @@ use world::laws::moves_follow;
 const GREETING: &str =
     "fragdb 0.1.0, a relational database in fragments; .help tells what can be typed\n";
 
-/// Answers what `input` gives, line by line, over a new database of the catalogue that `catalog` gives. `file` and
-/// `catalog_file` name them in a fault. The catalogue is read first.
-pub fn session_files<
-    'a,
-    B: Database + Drop,
-    O: Opens<B>,
-    K: Clock + OpensText<T>,
-    T: Read + Drop,
-    C: Read + Drop,
-    R: Read + Drop,
-    W: Write,
-    E: Write,
->(
-    alloc: Global,
-    opener: &O,
-    host: &K,
-    mode: Mode,
-    catalog_file: &'a str,
-    catalog: C,
-    file: &'a str,
-    input: io::Result<R>,
-    output: &mut W,
-    errors: &mut E,
-) -> Result<(), CatalogFault<'a>>
-    ensures { IfSome (C.remaining catalog) (λ bytes. RunsSession B.seen O.origin catalog_file.entry bytes file.entry (W.contents output.old) (W.contents output.new) result) }
-{
-    match read_catalog(alloc, catalog_file, catalog) {
-        Ok(catalog) => {
-            match open_session(
-                alloc, opener, host, mode, &catalog, file, input, output, errors,
-            ) {
-                Ok(()) => Ok(()),
-                Err(fault) => Err(CatalogFault::Program(fault)),
-            }
-        }
-        Err(fault) => Err(fault),
-    }
-}
-
-/// Answers what `input` gives, if it could be opened.
-fn open_session<
-    'a,
-    B: Database + Drop,
-    O: Opens<B>,
-    K: Clock + OpensText<T>,
-    T: Read + Drop,
-    R: Read + Drop,
-    W: Write,
-    E: Write,
->(
-    alloc: Global,
-    opener: &O,
-    host: &K,
-    mode: Mode,
-    catalog: &Catalog,
-    file: &'a str,
-    input: io::Result<R>,
-    output: &mut W,
-    errors: &mut E,
-) -> Result<(), ProgramFault<'a>>
-    ensures ok { OnOk result (HasTalked B.seen O.origin (catalogue_of catalog.now) (W.contents output.old) (W.contents output.new)) }
-    ensures err { IfErr result (IsOfSession file.entry) }
-{
-    let input = input.map_err(|error| ProgramFault::reading(file, &error))?;
-    let mut input = BufReader::new(alloc, input).map_err(|error| ProgramFault::reading(
-        file, &error,
-    ))?;
-    session(
-        alloc, opener, host, mode, catalog, file, &mut input, output, errors,
-    )
-}
-
-/// Answers what is typed, line by line, over a new database of this catalogue, until the input ends or the end is
-/// asked for. What is wrong with a line is told to `errors`, and costs that line alone.
+/// Answers what is typed, line by line, over a new database of this chain, until the input ends or the end is asked for. What is
+/// wrong with a line is told to `errors`, and costs that line alone. `names` are what the catalogues are called.
 pub fn session<
     'a,
     B: Database + Drop,
@@ -121,38 +50,40 @@ pub fn session<
     opener: &O,
     host: &K,
     mode: Mode,
-    catalog: &Catalog,
+    chain: &Chain,
+    names: &[&str],
     file: &'a str,
     input: &mut R,
     output: &mut W,
     errors: &mut E,
-) -> Result<(), ProgramFault<'a>>
-    ensures ok { OnOk result (HasTalked B.seen O.origin (catalogue_of catalog.now) (W.contents output.old) (W.contents output.new)) }
-    ensures err { IfErr result (IsOfSession file.entry) }
+) -> Result<(), ChainFault<'a>>
+    ensures { HoldsOver B.seen O.origin file.entry (W.contents output.old) (W.contents output.new) (map catalogue_of chain.now) result }
 {
-    moves_follow(catalog);
-    let found = opener.found(alloc, catalog)?;
-    let mut database = opener.open(alloc, catalog)?;
+    let found = opener.found(alloc, world::chain::first_of(chain))?;
+    let mut database = opener.open(alloc, chain)?;
+    moves_follow(database.catalog());
+    let mut state = State::new(alloc, mode, names);
     talk(
         alloc,
         host,
-        mode,
         found.as_str(),
         &mut database,
+        &mut state,
         file,
         input,
         output,
         errors,
-    )
+    )?;
+    Ok(())
 }
 
 /// Greets, tells what was found, and answers line by line.
 fn talk<'a, B: Database, K: Clock + OpensText<T>, T: Read + Drop, R: BufRead, W: Write, E: Write>(
     alloc: Global,
     host: &K,
-    mode: Mode,
     found: &str,
     database: &mut B,
+    state: &mut State<'_>,
     file: &'a str,
     input: &mut R,
     output: &mut W,
@@ -163,12 +94,9 @@ fn talk<'a, B: Database, K: Clock + OpensText<T>, T: Read + Drop, R: BufRead, W:
 {
     write_text(output, GREETING)?;
     tell(errors, found);
-    let mut state = State::new(alloc, mode);
     for number in 0..u64::MAX {
         let _ = number;
-        let turn = take_turn(
-            alloc, host, database, &mut state, file, input, output, errors,
-        )?;
+        let turn = take_turn(alloc, host, database, state, file, input, output, errors)?;
         if turn == Turn::Ends {
             return Ok(());
         }
@@ -189,7 +117,7 @@ fn take_turn<
     alloc: Global,
     host: &K,
     database: &mut B,
-    state: &mut State,
+    state: &mut State<'_>,
     file: &'a str,
     input: &mut R,
     output: &mut W,
@@ -265,7 +193,7 @@ fn take_bytes<'a, B: Database, K: OpensText<T>, T: Read + Drop, W: Write, E: Wri
     alloc: Global,
     host: &K,
     database: &mut B,
-    state: &mut State,
+    state: &mut State<'_>,
     line: &[u8],
     output: &mut W,
     errors: &mut E,
@@ -296,7 +224,7 @@ fn take_line<'a, B: Database, K: OpensText<T>, T: Read + Drop, W: Write, E: Writ
     alloc: Global,
     host: &K,
     database: &mut B,
-    state: &mut State,
+    state: &mut State<'_>,
     line: &str,
     output: &mut W,
     errors: &mut E,
@@ -333,7 +261,7 @@ fn explained(line: &str) -> Option<&str> {
 fn take_parts<'a, B: Database, W: Write, E: Write>(
     alloc: Global,
     database: &mut B,
-    state: &mut State,
+    state: &mut State<'_>,
     line: &str,
     output: &mut W,
     errors: &mut E,
@@ -354,7 +282,7 @@ fn take_parts<'a, B: Database, W: Write, E: Write>(
 fn take_part<'a, B: Database, W: Write, E: Write>(
     alloc: Global,
     database: &mut B,
-    state: &mut State,
+    state: &mut State<'_>,
     line: &str,
     output: &mut W,
     errors: &mut E,
@@ -377,21 +305,23 @@ fn take_part<'a, B: Database, W: Write, E: Write>(
         output,
     )?;
     state.stats = state.stats.with_answer(is_refused);
-    let schema = database.catalog().schema();
-    explain_answer(alloc, schema, was_open, state.typed.as_str(), errors);
+    if is_refused {
+        explain_answer(alloc, database, was_open, state.typed.as_str(), errors);
+    }
     state.typed.clear();
     Ok(Turn::Answered)
 }
 
-/// Explains why a text was refused, if it was: for what it says, or since a transaction was open, or none was. Nothing
-/// is claimed of what stands on the standard error.
-fn explain_answer<E: Write>(
+/// Explains why a text was refused: for what it says, or since a transaction was open, or none was, or no catalogue gives its relation
+/// another split next. Nothing is claimed of what stands on the standard error.
+fn explain_answer<B: Database, E: Write>(
     alloc: Global,
-    schema: &Schema,
+    database: &B,
     was_open: bool,
     text: &str,
     errors: &mut E,
 ) {
+    let schema = database.catalog().schema();
     let _ = explain_text(alloc, schema, text, errors);
     match read(alloc, text, schema) {
         Ok(Command::Begin | Command::Run(Statement::Refragment(_))) if was_open => {
@@ -400,18 +330,23 @@ fn explain_answer<E: Write>(
                 "a transaction is open; COMMIT or ROLLBACK ends it\n",
             );
         }
-        Ok(Command::Run(Statement::Refragment(_))) => {
-            tell(
-                errors,
-                "no catalogue comes after the one in force, so each relation stays as it is split\n",
-            );
-        }
+        Ok(Command::Run(Statement::Refragment(_))) => tell_no_next(database.later(), errors),
         Ok(Command::Commit | Command::Rollback) if !was_open => {
             tell(errors, "no transaction is open; BEGIN begins one\n");
         }
         Ok(_) => {}
         Err(_) => tell_word(text, errors),
     }
+}
+
+/// Tells why a relation gets no other split.
+fn tell_no_next<E: Write>(later: &[Catalog], errors: &mut E) {
+    let text = if later.is_empty() {
+        "no catalogue comes after the one in force, so each relation stays as it is split\n"
+    } else {
+        "the catalogue that comes next splits another relation\n"
+    };
+    tell(errors, text);
 }
 
 /// Tells the shell's word for what other shells take without a dot.

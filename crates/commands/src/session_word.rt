@@ -5,6 +5,7 @@ ghost use Rattle.catalog.specs.Relation.{catalogue_of};
 ghost use Rattle.commands.specs.Session.{Talks};
 ghost use Rattle.commands.specs.Solo.{IsOfRun};
 
+use crate::catalog_word::take_catalog;
 use crate::database::Database;
 use crate::dump::take_dump;
 use crate::import_word::{Asked, take_import};
@@ -34,6 +35,7 @@ const HELP: &str =
 .tables             the relations
 .schema [RELATION]  their columns
 .leaves [RELATION]  their fragments, with sites, columns, conditions and rows
+.catalog            which catalogue is in force, of how many
 .show RELATION      the rows of a relation, rebuilt
 .leaf LEAF          the rows of a fragment
 .plan STATEMENT     which fragments a statement reads; EXPLAIN tells it too
@@ -50,7 +52,9 @@ rlwrap fragdb has a history, and lines that can be edited.
 
 /// What a session keeps besides its database.
 #[derive(Drop)]
-pub struct State {
+pub struct State<'n> {
+    /// What the catalogues are called, in their order.
+    pub names: &'n [&'n str],
     /// How answers are shown.
     pub mode: Mode,
     /// Whether it is told how long answers take.
@@ -61,14 +65,16 @@ pub struct State {
     pub typed: String,
 }
 
-impl State {
+impl<'n> State<'n> {
     /// A session in which nothing has been typed.
-    pub fn new(alloc: Global, mode: Mode) -> State
+    pub fn new(alloc: Global, mode: Mode, names: &'n [&'n str]) -> State<'n>
+        ensures names { result.names ≡ names.entry }
         ensures mode { result.mode ≡ mode }
         ensures untimed { result.is_timed ≡ false }
         ensures nothing { string_bytes result.typed ≡ [] }
     {
         State {
+            names,
             mode,
             is_timed: false,
             stats: Stats::none(),
@@ -93,7 +99,7 @@ pub fn take_word<'a, B: Database, K: OpensText<T>, T: Read + Drop, W: Write, E: 
     alloc: Global,
     host: &K,
     database: &mut B,
-    state: &mut State,
+    state: &mut State<'_>,
     line: &str,
     output: &mut W,
     errors: &mut E,
@@ -126,7 +132,7 @@ fn take_known<'a, B: Database, K: OpensText<T>, T: Read + Drop, W: Write, E: Wri
     alloc: Global,
     host: &K,
     database: &mut B,
-    state: &mut State,
+    state: &mut State<'_>,
     word: Word,
     rest: &str,
     output: &mut W,
@@ -136,7 +142,7 @@ fn take_known<'a, B: Database, K: OpensText<T>, T: Read + Drop, W: Write, E: Wri
     ensures err { IfErr result IsOfRun }
 {
     match word {
-        Word::Help | Word::Tables | Word::Stats | Word::Quit => {
+        Word::Help | Word::Tables | Word::Catalog | Word::Stats | Word::Quit => {
             take_lone(alloc, database, state, word, rest, output, errors)
         }
         Word::Schema | Word::Leaves => take_listing(alloc, database, word, rest, output, errors),
@@ -159,7 +165,7 @@ fn take_known<'a, B: Database, K: OpensText<T>, T: Read + Drop, W: Write, E: Wri
 fn take_lone<'a, B: Database, W: Write, E: Write>(
     alloc: Global,
     database: &mut B,
-    state: &State,
+    state: &State<'_>,
     word: Word,
     rest: &str,
     output: &mut W,
@@ -174,6 +180,7 @@ fn take_lone<'a, B: Database, W: Write, E: Write>(
     }
     match word {
         Word::Quit => Ok(Turn::Ends),
+        Word::Catalog => take_catalog(alloc, database, state.names, output),
         Word::Tables => {
             let text = tables_text(alloc, database.catalog())?;
             write_text(output, text.as_str())?;
@@ -419,7 +426,7 @@ fn refusal_in(fault: PlanFault<'_>) -> Option<ReadFault> {
 }
 
 /// Sets how answers are shown, or whether it is told how long they take; whether what is asked for is known.
-fn set(state: &mut State, word: Word, rest: &str) -> bool {
+fn set(state: &mut State<'_>, word: Word, rest: &str) -> bool {
     match (word, mode_named(rest), switch_named(rest)) {
         (Word::Mode, Some(mode), _) => {
             state.mode = mode;

@@ -1,15 +1,20 @@
 //! The sessions of a script, run over the files and the stores that the command line names.
 
+use crate::catalog_files::Source;
 use crate::conversation::Manner;
 use crate::opener::{Folder, InMemory, Lists};
 use crate::progress::{Progress, Unwatched, Watches};
 use crate::run::run_files;
+use crate::run_chain::run_catalogs;
 use crate::sql_stores::{Files, OpensFiles};
 use crate::store_opener::OpensStores;
 use lines::built_in::{BUILT_IN, BUILT_IN_NAME};
-use lines::outcome::{Status, exit};
+use lines::fault::ProgramFault;
+use lines::outcome::{Outcome, Status, exit};
 use lines::usage::{Sessions, Stores};
 use sqlite::Alter;
+use std::alloc::AllocError;
+use std::fs::File;
 use std::io::{IsTerminal, Read, Write};
 use std::sync::Wait;
 use std::thread::Threads;
@@ -18,24 +23,36 @@ use std::{fs, io};
 use store::desk_store::DeskStore;
 use store::site_store::SiteStore;
 
-/// Runs the sessions of a script over the stores that they ask for, and tells what it came to. What files hold no contract can
-/// say; over readers and writers `run_files` says what is done.
-pub fn do_run<H: Threads + Wait + Clock + Copy + Send + Sync + 'static, W: Write, E: Write>(
+/// Runs the sessions of a script over the stores that they ask for, and the catalogues that come next by these files' names, and
+/// tells what it came to. What files hold no contract can say; over readers and writers `run_files` and `run_catalogs` say what
+/// is done.
+pub fn do_run<'a, H: Threads + Wait + Clock + Copy + Send + Sync + 'static, W: Write, E: Write>(
     rt: &HostRuntime,
     threads: &H,
-    sessions: Sessions<'_>,
+    sessions: Sessions<'a>,
+    next: &[&'a str],
     output: &mut W,
     errors: &mut E,
 ) -> Status {
     match sessions.stores() {
-        Stores::Lists => run_over(rt, threads, &Lists, sessions, output, errors),
-        Stores::InMemory => run_over(rt, threads, &InMemory, sessions, output, errors),
-        Stores::Folder(dir) => run_in(rt, threads, &Files::new(rt), dir, sessions, output, errors),
+        Stores::Lists => run_over(rt, threads, &Lists, sessions, next, output, errors),
+        Stores::InMemory => run_over(rt, threads, &InMemory, sessions, next, output, errors),
+        Stores::Folder(dir) => run_in(
+            rt,
+            threads,
+            &Files::new(rt),
+            dir,
+            sessions,
+            next,
+            output,
+            errors,
+        ),
     }
 }
 
 /// The same over the stores of a folder.
 fn run_in<
+    'a,
     H: Threads + Wait + Clock + Copy + Send + Sync + 'static,
     M: Alter + Send + Drop + 'static,
     F: OpensFiles<M>,
@@ -46,16 +63,18 @@ fn run_in<
     threads: &H,
     files: &F,
     dir: &str,
-    sessions: Sessions<'_>,
+    sessions: Sessions<'a>,
+    next: &[&'a str],
     output: &mut W,
     errors: &mut E,
 ) -> Status {
     let folder = Folder::new(rt, files, dir, sessions.catalog);
-    run_over(rt, threads, &folder, sessions, output, errors)
+    run_over(rt, threads, &folder, sessions, next, output, errors)
 }
 
 /// The same over the catalogue that is named, or the built-in one.
 fn run_over<
+    'a,
     H: Threads + Wait + Clock + Copy + Send + Sync + 'static,
     D: DeskStore + Send + Drop + 'static,
     S: SiteStore + Send + Drop + 'static,
@@ -66,14 +85,17 @@ fn run_over<
     rt: &HostRuntime,
     threads: &H,
     opener: &O,
-    sessions: Sessions<'_>,
+    sessions: Sessions<'a>,
+    next: &[&'a str],
     output: &mut W,
     errors: &mut E,
 ) -> Status {
     match sessions.catalog {
         Some(file) => {
             let catalog = fs::open(rt, file);
-            run_on(rt, threads, opener, sessions, file, catalog, output, errors)
+            run_on(
+                rt, threads, opener, sessions, next, file, catalog, output, errors,
+            )
         }
         None => {
             let catalog = Ok(BUILT_IN.as_bytes());
@@ -82,6 +104,7 @@ fn run_over<
                 threads,
                 opener,
                 sessions,
+                next,
                 BUILT_IN_NAME,
                 catalog,
                 output,
@@ -93,6 +116,7 @@ fn run_over<
 
 /// The same, watched where a person reads what is told.
 fn run_on<
+    'a,
     H: Threads + Wait + Clock + Copy + Send + Sync + 'static,
     D: DeskStore + Send + Drop + 'static,
     S: SiteStore + Send + Drop + 'static,
@@ -104,8 +128,9 @@ fn run_on<
     rt: &HostRuntime,
     threads: &H,
     opener: &O,
-    sessions: Sessions<'_>,
-    catalog_file: &str,
+    sessions: Sessions<'a>,
+    next: &[&'a str],
+    catalog_file: &'a str,
     catalog: io::Result<C>,
     output: &mut W,
     errors: &mut E,
@@ -120,6 +145,7 @@ fn run_on<
             opener,
             &manner,
             sessions,
+            next,
             catalog_file,
             catalog,
             output,
@@ -134,6 +160,7 @@ fn run_on<
             opener,
             &manner,
             sessions,
+            next,
             catalog_file,
             catalog,
             output,
@@ -144,6 +171,7 @@ fn run_on<
 
 /// The same, with the script opened that is named, or from standard input.
 fn run_watched<
+    'a,
     H: Threads + Wait + Clock + Copy + Send + Sync + 'static,
     D: DeskStore + Send + Drop + 'static,
     S: SiteStore + Send + Drop + 'static,
@@ -157,15 +185,72 @@ fn run_watched<
     threads: &H,
     opener: &O,
     manner: &Manner<'_, P>,
-    sessions: Sessions<'_>,
-    catalog_file: &str,
+    sessions: Sessions<'a>,
+    next: &[&'a str],
+    catalog_file: &'a str,
     catalog: io::Result<C>,
     output: &mut W,
     errors: &mut E,
 ) -> Status {
-    let (alloc, script) = (rt.alloc(), sessions.script);
     if sessions.is_of_input() {
         let input = Ok(rt.stdin());
+        return run_script(
+            rt,
+            threads,
+            opener,
+            manner,
+            next,
+            catalog_file,
+            catalog,
+            sessions.script,
+            input,
+            output,
+            errors,
+        );
+    }
+    let input = fs::open(rt, sessions.script);
+    run_script(
+        rt,
+        threads,
+        opener,
+        manner,
+        next,
+        catalog_file,
+        catalog,
+        sessions.script,
+        input,
+        output,
+        errors,
+    )
+}
+
+/// The same of a script that was opened, over its catalogue and the files of those that come next.
+fn run_script<
+    'a,
+    H: Threads + Wait + Clock + Copy + Send + Sync + 'static,
+    D: DeskStore + Send + Drop + 'static,
+    S: SiteStore + Send + Drop + 'static,
+    O: OpensStores<D, S>,
+    P: Watches + Sync,
+    C: Read + Drop,
+    R: Read + Drop,
+    W: Write,
+    E: Write,
+>(
+    rt: &HostRuntime,
+    threads: &H,
+    opener: &O,
+    manner: &Manner<'_, P>,
+    next: &[&'a str],
+    catalog_file: &'a str,
+    catalog: io::Result<C>,
+    script: &'a str,
+    input: io::Result<R>,
+    output: &mut W,
+    errors: &mut E,
+) -> Status {
+    let alloc = rt.alloc();
+    if next.is_empty() {
         let outcome = run_files(
             threads,
             alloc,
@@ -180,18 +265,34 @@ fn run_watched<
         );
         return exit(errors, &outcome);
     }
-    let input = fs::open(rt, script);
-    let outcome = run_files(
+    let Ok(sources) = open_next(rt, next) else {
+        return exit(errors, &Outcome::Stopped(ProgramFault::Memory));
+    };
+    let outcome = run_catalogs(
         threads,
         alloc,
         opener,
         manner,
         catalog_file,
         catalog,
+        sources,
         script,
         input,
         output,
         errors,
     );
     exit(errors, &outcome)
+}
+
+/// The files of the catalogues that come next, as far as they can be opened.
+fn open_next<'a>(rt: &HostRuntime, next: &[&'a str]) -> Result<Vec<Source<'a, File>>, AllocError> {
+    let mut sources = Vec::new(rt.alloc());
+    for file in next {
+        let catalog = fs::open(rt, *file);
+        sources.push(Source {
+            file: *file,
+            catalog,
+        })?;
+    }
+    Ok(sources)
 }

@@ -219,7 +219,7 @@ impl<D: DeskStore, S: SiteStore> Schedule<D, S> {
     /// A relation as the fragments rebuild it, unless the medium of a store refuses: then that is told. Nothing has
     /// changed by this.
     pub fn show(&mut self, alloc: Global, name: &Text) -> Result<String, Memory>
-        ensures shown { ShowsOf (world_over D.is_clean S.is_clean D.is_sound S.is_sound D.kept S.kept D.refused S.refused) name.now (λ catalogue whole entries text. IsShownRelation catalogue whole entries name.now text) (λ text. string_bytes text) self.old.world self.new.world result }
+        ensures shown { ShowsOf (world_over D.is_clean S.is_clean D.is_sound S.is_sound D.kept S.kept D.refused S.refused) name.now (λ sight text. IsShownRelation sight name.now text) (λ text. string_bytes text) self.old.world self.new.world result }
         ensures same { stage_of self.new ≡ stage_of self.old }
         ensures leaves { LeavesWorld (world_over D.is_clean S.is_clean D.is_sound S.is_sound D.kept S.kept D.refused S.refused) self.old.world self.new.world }
     {
@@ -232,7 +232,7 @@ impl<D: DeskStore, S: SiteStore> Schedule<D, S> {
     /// The parts that a leaf keeps, by the leaf's name, unless the medium of its store refuses: then that is told.
     /// Nothing has changed by this.
     pub fn leaf(&mut self, alloc: Global, name: &Text) -> Result<String, Memory>
-        ensures shown { ShowsOf (world_over D.is_clean S.is_clean D.is_sound S.is_sound D.kept S.kept D.refused S.refused) name.now (λ catalogue whole entries text. IsShownLeaf catalogue whole entries name.now text) (λ text. string_bytes text) self.old.world self.new.world result }
+        ensures shown { ShowsOf (world_over D.is_clean S.is_clean D.is_sound S.is_sound D.kept S.kept D.refused S.refused) name.now (λ sight text. IsShownLeaf sight name.now text) (λ text. string_bytes text) self.old.world self.new.world result }
         ensures same { stage_of self.new ≡ stage_of self.old }
         ensures leaves { LeavesWorld (world_over D.is_clean S.is_clean D.is_sound S.is_sound D.kept S.kept D.refused S.refused) self.old.world self.new.world }
     {
@@ -244,7 +244,7 @@ impl<D: DeskStore, S: SiteStore> Schedule<D, S> {
 
     /// The parts that this leaf keeps; `name` is how it was asked for.
     fn parts(&mut self, alloc: Global, leaf: &Leaf, name: &str) -> Result<String, Memory>
-        ensures shown { ShowsOf (world_over D.is_clean S.is_clean D.is_sound S.is_sound D.kept S.kept D.refused S.refused) name.now (λ catalogue whole entries text. IsShownParts catalogue whole entries name.now leaf.now text) (λ text. string_bytes text) self.old.world self.new.world result }
+        ensures shown { ShowsOf (world_over D.is_clean S.is_clean D.is_sound S.is_sound D.kept S.kept D.refused S.refused) name.now (λ sight text. IsShownParts sight name.now leaf.now text) (λ text. string_bytes text) self.old.world self.new.world result }
         ensures same { stage_of self.new ≡ stage_of self.old }
         ensures leaves { LeavesWorld (world_over D.is_clean S.is_clean D.is_sound S.is_sound D.kept S.kept D.refused S.refused) self.old.world self.new.world }
     {

@@ -7,7 +7,7 @@ ghost use Rattle.lines.specs.Script.{task_of};
 ghost use Rattle.commands.specs.Solo.{IsOfRead, IsOfRun, IsRun, IsUnrun, RunsFiles, RunsOrStops, RunsScript, Stretches, longest};
 
 use crate::database::Database;
-use crate::opener::Opens;
+use crate::opener::{Opens, open_alone};
 use catalog::catalogue::Catalog;
 use lines::catalog_file::{CatalogFault, read_catalog};
 use lines::fault::ProgramFault;
@@ -121,7 +121,7 @@ pub fn run<'a, B: Database + Drop, O: Opens<B>, W: Write>(
     ensures err { IfErr result IsOfRun }
 {
     moves_follow(&catalog);
-    let mut database = opener.open(alloc, &catalog)?;
+    let mut database = open_alone(alloc, opener, &catalog)?;
     run_items(alloc, mode, &mut database, items, output)
 }
 

@@ -1,16 +1,19 @@
-//! How the stores of a catalogue are opened, for a database whose sites work in threads.
+//! How the stores of a chain of catalogues are opened, for a database whose sites work in threads.
 
-ghost use Rattle.std.specs.Prelude.{◌≡◌, IfErr, IfOk, length};
+ghost use Rattle.std.specs.Prelude.{◌≡◌, ◌∷◌, IfErr, IfOk, List, length, map};
+ghost use Rattle.catalog.specs.Catalogue.{Catalogue};
 ghost use Rattle.catalog.specs.Relation.{catalogue_of};
 ghost use Rattle.wire.specs.Opening.{HaveLeaves};
-ghost use Rattle.commands.specs.Client.{IsOfClient};
+ghost use Rattle.world.specs.Chain.{sites_of};
+ghost use Rattle.commands.specs.CatalogFiles.{IsOfOpening};
 
+use crate::catalog_files::ChainFault;
 use crate::database::Database;
 use crate::folder::Standing;
 use crate::opener::{Folder, InMemory, Lists, Opens, open_files};
 use crate::sql_stores::{OpenStores, OpensFiles, memory_desk, memory_sites};
 use catalog::catalogue::Catalog;
-use lines::fault::ProgramFault;
+use catalog::chain::Chain;
 use sqlite::{Alter, MemStore};
 use sqlstore::desk::SqlDesk;
 use sqlstore::site::SqlSite;
@@ -20,28 +23,25 @@ use store::plain_desk::PlainDesk;
 use store::plain_site::PlainSite;
 use store::site_store::SiteStore;
 use terms::memory::Memory;
+use world::chain::first_of;
 use world::solo::Solo;
 
 /// Opens stores of some kind.
 pub trait OpensStores<D: DeskStore, S: SiteStore> {
-    /// Opens the stores of this catalogue. No transaction is in doubt in them, and none is decided that isn't done.
-    fn open<'a>(
-        &self,
-        alloc: Global,
-        catalog: &Catalog,
-    ) -> Result<OpenStores<D, S>, ProgramFault<'a>>
-        ensures one_each { IfOk result (λ stores. length stores.sites.items ≡ length catalog.now.0) }
-        ensures leaves { IfOk result (λ stores. HaveLeaves S.is_clean S.kept (catalogue_of catalog.now) stores.sites.items) }
-        ensures err { IfErr result IsOfClient };
+    /// Opens the stores of this chain. No transaction is in doubt in them, and none is decided that isn't done.
+    fn open<'a>(&self, alloc: Global, chain: &Chain) -> Result<OpenStores<D, S>, ChainFault<'a>>
+        ensures one_each { IfOk result (λ stores. length stores.sites.items ≡ length (sites_of chain.now)) }
+        ensures leaves { IfOk result (λ stores. (first : Catalogue) (rest : List Catalogue) → map catalogue_of chain.now ≡ first ∷ rest → HaveLeaves S.is_clean S.kept first stores.sites.items) }
+        ensures err { IfErr result IsOfOpening };
 }
 
 impl OpensStores<PlainDesk, PlainSite> for Lists {
     fn open<'a>(
         &self,
         alloc: Global,
-        catalog: &Catalog,
-    ) -> Result<OpenStores<PlainDesk, PlainSite>, ProgramFault<'a>> {
-        let sites = plain_sites(alloc, catalog)?;
+        chain: &Chain,
+    ) -> Result<OpenStores<PlainDesk, PlainSite>, ChainFault<'a>> {
+        let sites = plain_sites(alloc, first_of(chain))?;
         let desk = PlainDesk::new(alloc);
         Ok(OpenStores { sites, desk })
     }
@@ -62,9 +62,9 @@ impl OpensStores<SqlDesk<MemStore>, SqlSite<MemStore>> for InMemory {
     fn open<'a>(
         &self,
         alloc: Global,
-        catalog: &Catalog,
-    ) -> Result<OpenStores<SqlDesk<MemStore>, SqlSite<MemStore>>, ProgramFault<'a>> {
-        let sites = memory_sites(alloc, catalog)?;
+        chain: &Chain,
+    ) -> Result<OpenStores<SqlDesk<MemStore>, SqlSite<MemStore>>, ChainFault<'a>> {
+        let sites = memory_sites(alloc, first_of(chain))?;
         let desk = memory_desk(alloc)?;
         Ok(OpenStores { sites, desk })
     }
@@ -76,10 +76,10 @@ impl<M: Alter + Drop, F: OpensFiles<M>> OpensStores<SqlDesk<M>, SqlSite<M>> for 
     fn open<'a>(
         &self,
         alloc: Global,
-        catalog: &Catalog,
-    ) -> Result<OpenStores<SqlDesk<M>, SqlSite<M>>, ProgramFault<'a>> {
-        settle::<Solo<SqlDesk<M>, SqlSite<M>>, Self>(alloc, self, catalog)?;
-        open_files(alloc, self, catalog, Standing::Kept)
+        chain: &Chain,
+    ) -> Result<OpenStores<SqlDesk<M>, SqlSite<M>>, ChainFault<'a>> {
+        settle::<Solo<SqlDesk<M>, SqlSite<M>>, Self>(alloc, self, chain)?;
+        Ok(open_files(alloc, self, first_of(chain), Standing::Kept)?)
     }
 }
 
@@ -87,10 +87,10 @@ impl<M: Alter + Drop, F: OpensFiles<M>> OpensStores<SqlDesk<M>, SqlSite<M>> for 
 fn settle<'a, B: Database + Drop, O: Opens<B>>(
     alloc: Global,
     opener: &O,
-    catalog: &Catalog,
-) -> Result<(), ProgramFault<'a>>
-    ensures err { IfErr result IsOfClient }
+    chain: &Chain,
+) -> Result<(), ChainFault<'a>>
+    ensures err { IfErr result IsOfOpening }
 {
-    let _settled = opener.open(alloc, catalog)?;
+    let _settled = opener.open(alloc, chain)?;
     Ok(())
 }

@@ -1,16 +1,17 @@
-//! How the world of a catalogue is opened.
+//! How the world of a chain of catalogues is opened.
 
-ghost use Rattle.std.specs.Prelude.{⊤, IfErr, IfOk};
+ghost use Rattle.std.specs.Prelude.{⊤, ◌≡◌, ◌∷◌, [], List, IfErr, IfOk, map};
+ghost use Rattle.catalog.specs.Catalogue.{Catalogue};
 ghost use Rattle.catalog.specs.FragmentLeaf.{schemas_of};
 ghost use Rattle.catalog.specs.Relation.{catalogue_of};
 ghost use Rattle.meaning.specs.Whole.{FitsSchema};
 ghost use Rattle.store.specs.declared.fault.StoreFault.{StoreFault as StoreFaultNow};
 ghost use Rattle.commands.specs.Schedule.{world_over};
-ghost use Rattle.commands.specs.WorldOpener.{IsOpenedOver, StopsOpening};
+ghost use Rattle.commands.specs.WorldOpener.{IsChainOpened, IsOpenedOver, StopsOpening};
 
 use crate::opener::{InMemory, Lists, unopened};
 use crate::sql_stores::{memory_desk, memory_sites};
-use catalog::catalogue::Catalog;
+use catalog::chain::Chain;
 use lines::fault::ProgramFault;
 use meaning::whole::Whole;
 use sqlite::MemStore;
@@ -21,7 +22,7 @@ use store::desk_store::DeskStore;
 use store::plain_desk::PlainDesk;
 use store::plain_site::PlainSite;
 use store::site_store::SiteStore;
-use world::chain::alone;
+use world::chain::first_of;
 use world::world::{World, open, open_on};
 
 /// Opens worlds over stores of some kind.
@@ -29,15 +30,18 @@ pub trait OpensWorld<D: DeskStore, S: SiteStore> {
     /// Why a store may fail as a world is opened.
     ghost fails_for: { StoreFaultNow → Type 0 };
 
-    /// Opens a world of this catalogue, whose fragments rebuild these whole relations.
+    /// Opens a world of a chain of catalogues, whose fragments rebuild these whole relations. Over new stores the first one
+    /// is in force.
     fn open<'a>(
         &self,
         alloc: Global,
-        catalog: &Catalog,
+        chain: &Chain,
         whole: &Whole,
     ) -> Result<World<D, S>, ProgramFault<'a>>
-        requires { FitsSchema (schemas_of (catalogue_of catalog.now)) whole.now }
-        ensures ok { IfOk result (IsOpenedOver (world_over D.is_clean S.is_clean D.is_sound S.is_sound D.kept S.kept D.refused S.refused) (catalogue_of catalog.now) whole.now) }
+        requires { (first : Catalogue) (rest : List Catalogue) → map catalogue_of chain.now ≡ first ∷ rest → FitsSchema (schemas_of first) whole.now }
+        ensures none { IfOk result (λ world. world.entries.items ≡ []) }
+        ensures ok { (catalogue : Catalogue) → map catalogue_of chain.now ≡ catalogue ∷ [] → IfOk result (IsOpenedOver (world_over D.is_clean S.is_clean D.is_sound S.is_sound D.kept S.kept D.refused S.refused) catalogue whole.now) }
+        ensures lists { (first : Catalogue) (rest : List Catalogue) → map catalogue_of chain.now ≡ first ∷ rest → IfOk result (IsChainOpened (world_over D.is_clean S.is_clean D.is_sound S.is_sound D.kept S.kept D.refused S.refused) first rest whole.now) }
         ensures err { IfErr result (StopsOpening fails_for) };
 }
 
@@ -47,12 +51,11 @@ impl OpensWorld<PlainDesk, PlainSite> for Lists {
     fn open<'a>(
         &self,
         alloc: Global,
-        catalog: &Catalog,
+        chain: &Chain,
         whole: &Whole,
     ) -> Result<World<PlainDesk, PlainSite>, ProgramFault<'a>> {
         // Lists refuse for want of memory alone.
-        let chain = alone(alloc, catalog)?;
-        match open(alloc, &chain, whole) {
+        match open(alloc, chain, whole) {
             Ok(world) => Ok(world),
             Err(_) => Err(ProgramFault::Memory),
         }
@@ -65,13 +68,12 @@ impl OpensWorld<SqlDesk<MemStore>, SqlSite<MemStore>> for InMemory {
     fn open<'a>(
         &self,
         alloc: Global,
-        catalog: &Catalog,
+        chain: &Chain,
         whole: &Whole,
     ) -> Result<World<SqlDesk<MemStore>, SqlSite<MemStore>>, ProgramFault<'a>> {
-        let sites = memory_sites(alloc, catalog)?;
+        let sites = memory_sites(alloc, first_of(chain))?;
         let desk = memory_desk(alloc)?;
-        let chain = alone(alloc, catalog)?;
-        match open_on(alloc, &chain, whole, sites, desk) {
+        match open_on(alloc, chain, whole, sites, desk) {
             Ok(world) => Ok(world),
             Err(fault) => Err(unopened(fault)),
         }

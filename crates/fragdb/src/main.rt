@@ -4,25 +4,28 @@
 //! runs many sessions, each in a thread of its own.
 //!
 //! Here files are opened, and the crate `commands` is called. The contract that carries the program is that of its
-//! `perform::perform`: what is written and what comes of each request.
+//! `perform::perform`, and over several catalogues that of `perform_chain::perform_chain`: what is written and what comes
+//! of each request.
 #![tactic(auto)]
 
+mod explanation;
+mod task;
+
+use crate::explanation::explain;
+use crate::task::{Task, outcome_of, outcome_of_session};
 use commands::database::Database;
 use commands::dump_command::do_dump;
-use commands::folder_told::tell_folder;
 use commands::import_command::do_import;
 use commands::opener::{Folder, InMemory, Lists, Opens};
-use commands::perform::{perform, perform_session};
 use commands::sessions::do_run;
 use commands::solo::SCRIPT_LIMIT;
 use commands::sql_stores::{Files, OpensFiles};
 use commands::suggest_command::do_suggest;
 use commands::world_opener::OpensWorld;
 use lines::built_in::{BUILT_IN, BUILT_IN_NAME};
-use lines::explaining::explain_outcome;
 use lines::fault::ProgramFault;
 use lines::outcome::{Outcome, Status, exit};
-use lines::usage::{Asked, Request, Stores, read_words, show_usage, unreadable_words};
+use lines::usage::{Asked, Given, Request, Stores, read_words, show_usage, unreadable_words};
 use sqlite::Alter;
 use std::alloc::Global;
 use std::io::{BufWriter, IsTerminal, Read, Write};
@@ -57,26 +60,40 @@ fn do_words<H: Threads + Wait + Clock + Copy + Send + Sync + 'static>(
         }
     };
     match read_words(alloc, words.as_slice(), is_at_terminal(rt)) {
-        Ok(Asked::Alone(request)) => do_request(rt, request, &mut output, &mut errors),
-        Ok(Asked::Sessions(sessions)) => do_run(rt, threads, sessions, &mut output, &mut errors),
-        Ok(Asked::Dump(dump)) => do_dump(rt, dump, &mut output, &mut errors),
-        Ok(Asked::Import(import)) => do_import(rt, import, &mut output, &mut errors),
-        Ok(Asked::Suggest(asked)) => do_suggest(rt, asked, &mut output, &mut errors),
+        Ok(given) => do_asked(rt, threads, &given, &mut output, &mut errors),
         Err(error) => show_usage(&error, &mut output, &mut errors),
+    }
+}
+
+/// Does what the command line asks for.
+fn do_asked<H: Threads + Wait + Clock + Copy + Send + Sync + 'static, W: Write, E: Write>(
+    rt: &HostRuntime,
+    threads: &H,
+    given: &Given<'_>,
+    output: &mut W,
+    errors: &mut E,
+) -> Status {
+    let next = given.next.as_slice();
+    match given.asked {
+        Asked::Alone(request) => do_request(rt, Task { request, next }, output, errors),
+        Asked::Sessions(sessions) => do_run(rt, threads, sessions, next, output, errors),
+        Asked::Dump(dump) => do_dump(rt, dump, output, errors),
+        Asked::Import(import) => do_import(rt, import, output, errors),
+        Asked::Suggest(asked) => do_suggest(rt, asked, output, errors),
     }
 }
 
 /// Does what a request asks for, over the stores that it names, and tells what it came to.
 fn do_request<W: Write, E: Write>(
     rt: &HostRuntime,
-    request: Request<'_>,
+    task: Task<'_>,
     output: &mut W,
     errors: &mut E,
 ) -> Status {
-    match request.stores() {
-        Stores::Lists => do_request_over(rt, &Lists, &Lists, request, output, errors),
-        Stores::InMemory => do_request_over(rt, &InMemory, &InMemory, request, output, errors),
-        Stores::Folder(dir) => { do_request_in(rt, &Files::new(rt), dir, request, output, errors) }
+    match task.request.stores() {
+        Stores::Lists => do_request_over(rt, &Lists, &Lists, task, output, errors),
+        Stores::InMemory => do_request_over(rt, &InMemory, &InMemory, task, output, errors),
+        Stores::Folder(dir) => { do_request_in(rt, &Files::new(rt), dir, task, output, errors) }
     }
 }
 
@@ -85,12 +102,12 @@ fn do_request_in<M: Alter + Drop, F: OpensFiles<M>, W: Write, E: Write>(
     rt: &HostRuntime,
     files: &F,
     dir: &str,
-    request: Request<'_>,
+    task: Task<'_>,
     output: &mut W,
     errors: &mut E,
 ) -> Status {
-    let folder = Folder::new(rt, files, dir, request.catalog());
-    do_request_over(rt, &folder, &Lists, request, output, errors)
+    let folder = Folder::new(rt, files, dir, task.request.catalog());
+    do_request_over(rt, &folder, &Lists, task, output, errors)
 }
 
 /// Does what a request asks for, over the catalogue that it names or the built-in one, and tells what it came to.
@@ -106,16 +123,16 @@ fn do_request_over<
     rt: &HostRuntime,
     opener: &O,
     worlds: &P,
-    request: Request<'_>,
+    task: Task<'_>,
     output: &mut W,
     errors: &mut E,
 ) -> Status {
-    match request.catalog() {
+    match task.request.catalog() {
         Some(file) => perform_over(
             rt,
             opener,
             worlds,
-            request,
+            task,
             file,
             fs::open(rt, file),
             output,
@@ -127,7 +144,7 @@ fn do_request_over<
                 rt,
                 opener,
                 worlds,
-                request,
+                task,
                 BUILT_IN_NAME,
                 catalog,
                 output,
@@ -151,19 +168,19 @@ fn perform_over<
     rt: &HostRuntime,
     opener: &O,
     worlds: &P,
-    request: Request<'_>,
+    task: Task<'_>,
     catalog_file: &str,
     catalog: io::Result<C>,
     output: &mut W,
     errors: &mut E,
 ) -> Status {
-    if request.is_of_input() {
+    if task.request.is_of_input() {
         let input = Ok(rt.stdin());
         perform_on(
             rt,
             opener,
             worlds,
-            request,
+            task,
             catalog_file,
             catalog,
             input,
@@ -171,12 +188,12 @@ fn perform_over<
             errors,
         )
     } else {
-        let input = fs::open(rt, request.file());
+        let input = fs::open(rt, task.request.file());
         perform_on(
             rt,
             opener,
             worlds,
-            request,
+            task,
             catalog_file,
             catalog,
             input,
@@ -202,18 +219,18 @@ fn perform_on<
     rt: &HostRuntime,
     opener: &O,
     worlds: &P,
-    request: Request<'_>,
+    task: Task<'_>,
     catalog_file: &str,
     catalog: io::Result<C>,
     input: io::Result<R>,
     output: &mut W,
     errors: &mut E,
 ) -> Status {
-    if begins_session(rt, &request) {
+    if begins_session(rt, &task.request) {
         return have_session(
             rt,
             opener,
-            request,
+            task,
             catalog_file,
             catalog,
             input,
@@ -221,12 +238,12 @@ fn perform_on<
             errors,
         );
     }
-    if !is_explained(rt, &request) {
-        let outcome = perform(
-            rt.alloc(),
+    if !is_explained(rt, &task.request) {
+        let outcome = outcome_of(
+            rt,
             opener,
             worlds,
-            request,
+            task,
             catalog_file,
             catalog,
             input,
@@ -241,7 +258,7 @@ fn perform_on<
                 rt,
                 opener,
                 worlds,
-                request,
+                task,
                 catalog_file,
                 catalog,
                 Ok(bytes),
@@ -254,7 +271,7 @@ fn perform_on<
                 rt,
                 opener,
                 worlds,
-                request,
+                task,
                 catalog_file,
                 catalog,
                 Err(error),
@@ -281,7 +298,7 @@ fn is_at_terminal(rt: &HostRuntime) -> bool {
     rt.stdin().is_terminal() && rt.stdout().is_terminal()
 }
 
-/// Has a session, and explains why its catalogue is refused, if it is.
+/// Has a session, and explains why a catalogue of it is refused, if one is.
 fn have_session<
     B: Database + Drop,
     O: Opens<B>,
@@ -292,19 +309,17 @@ fn have_session<
 >(
     rt: &HostRuntime,
     opener: &O,
-    request: Request<'_>,
+    task: Task<'_>,
     catalog_file: &str,
     catalog: io::Result<C>,
     input: io::Result<R>,
     output: &mut W,
     errors: &mut E,
 ) -> Status {
-    let alloc = rt.alloc();
-    let outcome = perform_session(
-        alloc,
-        opener,
+    let outcome = outcome_of_session(
         rt,
-        request,
+        opener,
+        task,
         catalog_file,
         catalog,
         input,
@@ -312,7 +327,7 @@ fn have_session<
         errors,
     );
     let status = exit(errors, &outcome);
-    let _ = explain(rt, request, &outcome, &[], errors);
+    let _ = explain(rt, task, &outcome, &[], errors);
     status
 }
 
@@ -337,7 +352,7 @@ fn explain_performed<
     rt: &HostRuntime,
     opener: &O,
     worlds: &P,
-    request: Request<'_>,
+    task: Task<'_>,
     catalog_file: &str,
     catalog: io::Result<C>,
     input: io::Result<&[u8]>,
@@ -348,59 +363,17 @@ fn explain_performed<
         Ok(bytes) => bytes,
         Err(_) => &[],
     };
-    let outcome = perform(
-        rt.alloc(),
+    let outcome = outcome_of(
+        rt,
         opener,
         worlds,
-        request,
+        task,
         catalog_file,
         catalog,
         input,
         output,
     );
     let status = exit(errors, &outcome);
-    let _ = explain(rt, request, &outcome, bytes, errors);
+    let _ = explain(rt, task, &outcome, bytes, errors);
     status
-}
-
-/// Explains what was refused of a request, whose input had these bytes, or which store failed. The catalogue of a script is
-/// opened once more.
-fn explain<E: Write>(
-    rt: &HostRuntime,
-    request: Request<'_>,
-    outcome: &Outcome<'_>,
-    bytes: &[u8],
-    errors: &mut E,
-) -> io::Result<()> {
-    match (request, request.catalog()) {
-        (Request::Check { catalog, .. }, _) => {
-            explain_outcome(rt.alloc(), outcome, catalog, bytes, bytes, errors)
-        }
-        (_, Some(file)) => {
-            let catalog = fs::open(rt, file)?;
-            explain_over(rt, request, outcome, file, catalog, bytes, errors)
-        }
-        (_, None) => {
-            let catalog = BUILT_IN.as_bytes();
-            explain_over(rt, request, outcome, BUILT_IN_NAME, catalog, bytes, errors)
-        }
-    }
-}
-
-/// The same over a catalogue that was opened once more.
-fn explain_over<C: Read + Drop, E: Write>(
-    rt: &HostRuntime,
-    request: Request<'_>,
-    outcome: &Outcome<'_>,
-    file: &str,
-    catalog: C,
-    bytes: &[u8],
-    errors: &mut E,
-) -> io::Result<()> {
-    match (request.stores(), outcome) {
-        (Stores::Folder(dir), Outcome::Stopped(ProgramFault::Store { fault })) => {
-            tell_folder(rt, &Files::new(rt), dir, file, catalog, *fault, errors)
-        }
-        _ => explain_outcome(rt.alloc(), outcome, file, catalog, bytes, errors),
-    }
 }

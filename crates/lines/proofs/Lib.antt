@@ -1,5 +1,6 @@
 pub mod ScriptLemmas
 pub mod UsageLemmas
+pub mod NextFilesLemmas
 pub mod InputLemmas
 pub mod CatalogFileLemmas
 pub mod CheckLemmas

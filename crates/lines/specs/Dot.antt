@@ -28,8 +28,9 @@ telling_word text =
     if bytes_eq text (codes ".tables") then Some word.Tables
     else (if bytes_eq text (codes ".schema") then Some word.Schema
     else (if bytes_eq text (codes ".leaves") then Some word.Leaves
+    else (if bytes_eq text (codes ".catalog") then Some word.Catalog
     else (if bytes_eq text (codes ".stats") then Some word.Stats
-    else showing_word text)))
+    else showing_word text))))
 
 -- each word
 abbrev pub word_of : List ℕ → Option Word

@@ -6,7 +6,7 @@ use Rattle.clap.specs.Walk.{rule_of}
 use Rattle.clap.specs.declared.builder.arg.Arg.{Arg}
 use Rattle.clap.specs.declared.builder.command.Command.{Command}
 use Rattle.clap.specs.declared.builder.command.Command.TheViews.{out-Command}
-use Rattle.clap.specs.declared.builder.action.ArgAction.TheVariants.{SetTrue}
+use Rattle.clap.specs.declared.builder.action.ArgAction.TheVariants.{Append, SetTrue}
 
 -- an argument that must be given
 abbrev pub argument : Text → Rule
@@ -23,6 +23,10 @@ command_with_two name first second = with_rule (command_with name first) (argume
 -- an argument that may be given behind this word
 abbrev pub option_argument : Text → Text → Rule
 option_argument name word = record (new_rule name) { long = Some word }
+
+-- an argument that may be given behind this word, once or many times
+abbrev pub repeated_argument : Text → Text → Rule
+repeated_argument name word = record (option_argument name word) { action = Some Append }
 
 -- a command `NAME [--catalog FILE] SCRIPT`
 abbrev pub of_script : Text → App
@@ -91,6 +95,10 @@ stored app = in_folder (in_sqlite app)
 abbrev pub retried : App → App
 retried app = with_rule app (option_argument (codes "N") (codes "retry"))
 
+-- the command with an option that names the catalogues after the first
+abbrev pub chained : App → App
+chained app = with_rule app (repeated_argument (codes "NEXT") (codes "next"))
+
 -- the command line's grammar: `fragdb solo`, `fragdb check CATALOG`, both with flags, `fragdb plan CATALOG STATEMENT`, `fragdb play`, `fragdb run`, `fragdb dump`, `fragdb import` and `fragdb suggest`
 abbrev pub program : App
 program = record {
@@ -100,8 +108,8 @@ program = record {
 
 abbrev pub usage : App
 usage =
-    with_subcommand (with_subcommand (with_subcommand (with_subcommand (with_subcommand (with_subcommand (with_subcommand (with_subcommand program (stored (shown (held (explained (of_any_script (codes "solo")))))).top) (treed (explained (command_with (codes "check") (codes "CATALOG")))).top)
-    (treed (command_with_two (codes "plan") (codes "CATALOG") (codes "STATEMENT"))).top) (in_sqlite (of_script (codes "play"))).top) (retried (stored (of_script (codes "run")))).top) (shown (in_folder (of_relation (codes "dump")))).top) (counted (in_folder (of_file (codes "import")))).top) suggesting.top
+    with_subcommand (with_subcommand (with_subcommand (with_subcommand (with_subcommand (with_subcommand (with_subcommand (with_subcommand program (chained (stored (shown (held (explained (of_any_script (codes "solo"))))))).top) (treed (explained (command_with (codes "check") (codes "CATALOG")))).top)
+    (treed (command_with_two (codes "plan") (codes "CATALOG") (codes "STATEMENT"))).top) (chained (in_sqlite (of_script (codes "play")))).top) (chained (retried (stored (of_script (codes "run"))))).top) (shown (in_folder (of_relation (codes "dump")))).top) (counted (in_folder (of_file (codes "import")))).top) suggesting.top
 
 -- an argument of this rule, of its own command alone
 pub record IsRule (rule : Rule) (arg : Arg) : Type 0 where

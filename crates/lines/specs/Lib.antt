@@ -22,6 +22,7 @@ pub mod Dot
 pub mod Listing
 pub mod Grammar
 pub mod Usage
+pub mod NextFiles
 pub mod Request
 pub mod Explaining
 pub mod Outcome

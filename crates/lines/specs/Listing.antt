@@ -1,8 +1,13 @@
 -- What is told of a catalogue to a person who asks.
-use Rattle.std.specs.Prelude.{ℕ, ◌==◌, ◌||◌, Bool, List, [], ◌∷◌, ◌++◌, if◌then◌else◌, bytes_eq, flat_map, length}
+use Rattle.std.specs.Prelude.{ℕ, ◌==◌, ◌||◌, Bool, List, [], ◌∷◌, ◌++◌, if◌then◌else◌, bytes_eq, codes, flat_map, length}
+use Rattle.std.specs.Fmt.{decimal}
 use Rattle.catalog.specs.Catalogue.{Catalogue}
 use Rattle.catalog.specs.FragmentLeaf.{schemas_of}
 pub use Rattle.lines.specs.SchemaLine.{column_text, schema_line}
+
+-- which of so many catalogues is in force, and the name of its file
+abbrev pub catalog_text : (number count : ℕ) → List ℕ → List ℕ
+catalog_text number count name = codes "catalogue " ++ decimal number ++ codes " of " ++ decimal count ++ codes ", " ++ name ++ 10 ∷ []
 
 -- the name of each relation in a line
 abbrev pub tables_text : Catalogue → List ℕ

@@ -5,7 +5,7 @@ use Rattle.reader.specs.Refusal as reading
 use Rattle.lines.specs.declared.fault.ProgramFault.{ProgramFault}
 use Rattle.lines.specs.declared.fault.ProgramFault.TheVariants.{CannotRead, ScriptTooLong, Malformed, Memory, Store, CannotWrite}
 use Rattle.lines.specs.declared.outcome.Outcome.{Outcome}
-use Rattle.lines.specs.declared.outcome.Outcome.TheVariants.{Done, Lost, SomeRefused, Refused, RefusedStatement, Stopped}
+use Rattle.lines.specs.declared.outcome.Outcome.TheVariants.{Done, Lost, SomeRefused, Refused, Unchained, RefusedStatement, Stopped}
 use Rattle.lines.specs.declared.outcome.Status.{Status}
 use Rattle.lines.specs.declared.outcome.Status.TheVariants as status
 use Rattle.lines.specs.Fault.{fault_text}
@@ -30,6 +30,7 @@ abbrev pub status_of : Outcome → Status
 status_of Done = status.Done
 status_of SomeRefused = status.Refused
 status_of (Refused fault) = status.Refused
+status_of Unchained = status.Refused
 status_of (RefusedStatement fault) = status.Refused
 status_of (Stopped fault) = status_of_fault fault
 status_of Lost = status.Refused
@@ -52,6 +53,7 @@ abbrev pub told_text : Outcome → List ℕ
 told_text Done = []
 told_text SomeRefused = []
 told_text (Refused fault) = codes "refused " ++ refusal.fault_text fault ++ 10 ∷ []
+told_text Unchained = codes "fragdb: refused 11 Chain" ++ 10 ∷ []
 told_text (RefusedStatement fault) = codes "refused read " ++ reading.fault_text fault ++ 10 ∷ []
 told_text (Stopped fault) = stop_text fault
 told_text Lost = codes "fragdb: refused 9 Closed" ++ 10 ∷ []

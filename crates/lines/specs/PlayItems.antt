@@ -19,6 +19,7 @@ use Rattle.lines.specs.PlayScript.{reading_of}
 -- whether a client's line begins its transaction
 abbrev pub is_begin : Ask → Bool
 is_begin ask.Begin = true
+is_begin (ask.Refragment text) = true
 is_begin _ = false
 
 abbrev pub is_load : Item → Bool

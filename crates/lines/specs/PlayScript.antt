@@ -1,5 +1,5 @@
 -- What a script of schedules says, line by line.
-use Rattle.std.specs.Prelude.{ℕ, ◌^◌, ◌==◌, ◌&&◌, Bool, true, false, not, if◌then◌else◌, nat_lt, List, [], ◌∷◌, length, codes, bytes_eq, Option, Some, None}
+use Rattle.std.specs.Prelude.{ℕ, ◌^◌, ◌==◌, ◌&&◌, Bool, true, false, not, if◌then◌else◌, nat_lt, List, [], ◌∷◌, ◌++◌, length, codes, bytes_eq, Option, Some, None}
 use Rattle.std.specs.Char.{is_ascii_alphabetic, is_ascii_alphanumeric, is_ascii_digit}
 use Rattle.std.specs.List.{list_all, slice_get, slice_split}
 use Rattle.std.specs.Option.{option_and_then, option_map}
@@ -49,6 +49,15 @@ client_item name asked = if is_name name then Some (item.Client name asked) else
 abbrev pub statement_item : List ℕ → Option Item
 statement_item text = option_and_then (λ parts. client_item parts.0 (ask.State parts.1)) (cut 32 text)
 
+-- the statement that gives a relation another split
+abbrev pub refragment_text : List ℕ → List ℕ
+refragment_text relation = codes "REFRAGMENT " ++ relation
+
+-- the name of a transaction, a space and that of a relation
+abbrev pub refragment_item : Option (List ℕ × List ℕ) → Option Item
+refragment_item None = None
+refragment_item (Some parts) = if is_word parts.1 then client_item parts.0 (ask.Refragment (refragment_text parts.1)) else None
+
 -- the number of a letter, and perhaps a space and the word refuse
 abbrev pub delivery_of : Option (List ℕ × List ℕ) → List ℕ → Option Item
 delivery_of None text = option_map (λ number. item.Deliver number true) (number_of text)
@@ -81,10 +90,11 @@ abbrev pub call_verb : List ℕ → Option Verb
 call_verb word =
     if bytes_eq word (codes "load") then Some verb.Load
     else (if bytes_eq word (codes "begin") then Some verb.Begin
+    else (if bytes_eq word (codes "refragment") then Some verb.Refragment
     else (if bytes_eq word (codes "do") then Some verb.Do
     else (if bytes_eq word (codes "commit") then Some verb.Commit
     else (if bytes_eq word (codes "rollback") then Some verb.Rollback
-    else None))))
+    else None)))))
 
 abbrev pub event_verb : List ℕ → Option Verb
 event_verb word =
@@ -111,6 +121,7 @@ verb_of word = first_verb (call_verb word) (first_verb (event_verb word) (shown_
 abbrev pub item_of_verb : Verb → List ℕ → Option Item
 item_of_verb verb.Load rest = Some (item.Load rest)
 item_of_verb verb.Begin rest = client_item rest ask.Begin
+item_of_verb verb.Refragment rest = refragment_item (cut 32 rest)
 item_of_verb verb.Do rest = statement_item rest
 item_of_verb verb.Commit rest = client_item rest ask.Commit
 item_of_verb verb.Rollback rest = client_item rest ask.Rollback

@@ -17,6 +17,8 @@ pub enum Word {
     Schema,
     /// To list the leaves of a relation, or of each.
     Leaves,
+    /// To tell which catalogue is in force.
+    Catalog,
     /// To show a relation.
     Show,
     /// To show a leaf.
@@ -40,9 +42,9 @@ pub enum Word {
 }
 
 /// The words, in the order in which help tells them.
-pub const WORDS: [&str; 14] = [
-    ".help", ".tables", ".schema", ".leaves", ".show", ".leaf", ".plan", ".dump", ".read",
-    ".import", ".stats", ".timer", ".mode", ".quit",
+pub const WORDS: [&str; 15] = [
+    ".help", ".tables", ".schema", ".leaves", ".catalog", ".show", ".leaf", ".plan", ".dump",
+    ".read", ".import", ".stats", ".timer", ".mode", ".quit",
 ];
 
 /// The word of a line, if it is one of the shell's, and what stands behind it and its space.
@@ -81,6 +83,8 @@ fn telling_word(text: &str) -> Option<Word>
         Some(Word::Schema)
     } else if text == ".leaves" {
         Some(Word::Leaves)
+    } else if text == ".catalog" {
+        Some(Word::Catalog)
     } else if text == ".stats" {
         Some(Word::Stats)
     } else {

@@ -30,6 +30,7 @@ pub fn explain_outcome<C: Read + Drop, E: Write>(
     errors: &mut E,
 ) -> io::Result<()>
     ensures done { outcome.now ≡ Outcome.Done → Keeps (E.contents errors.old) (E.contents errors.new) }
+    ensures unchained { outcome.now ≡ Outcome.Unchained → Keeps (E.contents errors.old) (E.contents errors.new) }
     ensures stopped { (fault : _) → outcome.now ≡ Outcome.Stopped fault → Keeps (E.contents errors.old) (E.contents errors.new) }
 {
     match outcome {
@@ -43,7 +44,7 @@ pub fn explain_outcome<C: Read + Drop, E: Write>(
                 Err(_) => Ok(()),
             }
         }
-        Outcome::Done | Outcome::Lost => Ok(()),
+        Outcome::Done | Outcome::Unchained | Outcome::Lost => Ok(()),
         Outcome::RefusedStatement(_) | Outcome::Stopped(_) => Ok(()),
     }
 }

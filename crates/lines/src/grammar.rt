@@ -2,11 +2,11 @@
 
 ghost use Rattle.std.specs.Prelude.{◌≡◌, IfOk, codes};
 ghost use Rattle.clap.specs.Words.{App, Rule, app_of, new_app, new_rule, with_rule};
-ghost use Rattle.lines.specs.Grammar.{IsCommand, IsRule, argument, command_with, command_with_two, counted, explained, flag, held, in_folder, in_sqlite, of_any_script, of_file, of_relation, of_script, option_argument, retried, shown, stored, suggesting, treed, usage, wanted_argument};
+ghost use Rattle.lines.specs.Grammar.{IsCommand, IsRule, argument, chained, command_with, command_with_two, counted, explained, flag, held, in_folder, in_sqlite, of_any_script, of_file, of_relation, of_script, option_argument, repeated_argument, retried, shown, stored, suggesting, treed, usage, wanted_argument};
 
 use crate::help::{
     AFTER_HELP, AFTER_IMPORT, AFTER_PLAY, AFTER_RUN, AFTER_SOLO, CATALOG_HELP, DIR_HELP,
-    EVERY_HELP, KEY_HELP, NAME_HELP, RETRY_HELP, ROWS_HELP, SITES_HELP, SQLITE_HELP,
+    EVERY_HELP, KEY_HELP, NAME_HELP, NEXT_HELP, RETRY_HELP, ROWS_HELP, SITES_HELP, SQLITE_HELP,
 };
 use clap::{Arg, ArgAction, Command};
 use std::alloc::{AllocError, Global};
@@ -31,7 +31,7 @@ pub fn command<'a>(alloc: Global) -> Result<Command<'a>, AllocError>
 }
 
 fn solo_command<'a>(alloc: Global) -> Result<Command<'a>, AllocError>
-    ensures { IfOk result (IsCommand (stored (shown (held (explained (of_any_script (codes "solo"))))))) }
+    ensures { IfOk result (IsCommand (chained (stored (shown (held (explained (of_any_script (codes "solo")))))))) }
 {
     let solo = new_command(alloc, "solo", "Runs a script of statements, one at a time");
     let catalog = option(alloc, "CATALOG", "catalog", CATALOG_HELP);
@@ -57,7 +57,8 @@ fn solo_command<'a>(alloc: Global) -> Result<Command<'a>, AllocError>
     );
     let solo = with(solo, interactive)?;
     let solo = with_modes(alloc, with_notes(solo, AFTER_SOLO))?;
-    with_stores(alloc, solo)
+    let solo = with_stores(alloc, solo)?;
+    with_next(alloc, solo)
 }
 
 fn check_command<'a>(alloc: Global) -> Result<Command<'a>, AllocError>
@@ -100,7 +101,7 @@ fn plan_command<'a>(alloc: Global) -> Result<Command<'a>, AllocError>
 }
 
 fn play_command<'a>(alloc: Global) -> Result<Command<'a>, AllocError>
-    ensures { IfOk result (IsCommand (in_sqlite (of_script (codes "play")))) }
+    ensures { IfOk result (IsCommand (chained (in_sqlite (of_script (codes "play"))))) }
 {
     let play = new_command(alloc, "play", "Plays a script of schedules, event by event");
     let play = with_notes(play, AFTER_PLAY);
@@ -112,11 +113,12 @@ fn play_command<'a>(alloc: Global) -> Result<Command<'a>, AllocError>
         "A file with one item a line, or - for standard input",
     );
     let play = with(play, script)?;
-    with_sqlite(alloc, play)
+    let play = with_sqlite(alloc, play)?;
+    with_next(alloc, play)
 }
 
 fn run_command<'a>(alloc: Global) -> Result<Command<'a>, AllocError>
-    ensures { IfOk result (IsCommand (retried (stored (of_script (codes "run"))))) }
+    ensures { IfOk result (IsCommand (chained (retried (stored (of_script (codes "run")))))) }
 {
     let about = "Runs the sessions of a script, each in a thread of its own";
     let run = new_command(alloc, "run", about);
@@ -131,7 +133,8 @@ fn run_command<'a>(alloc: Global) -> Result<Command<'a>, AllocError>
     let run = with(run, script)?;
     let run = with_stores(alloc, run)?;
     let retry = option(alloc, "N", "retry", RETRY_HELP);
-    with(run, retry)
+    let run = with(run, retry)?;
+    with_next(alloc, run)
 }
 
 fn dump_command<'a>(alloc: Global) -> Result<Command<'a>, AllocError>
@@ -231,6 +234,16 @@ fn option<'a>(alloc: Global, name: &'a str, long: &'a str, help: &'a str) -> Arg
     Arg::new(alloc, name).long(long).help(help)
 }
 
+/// An argument that may be given behind this word, once or many times.
+fn repeated<'a>(alloc: Global, name: &'a str, long: &'a str, help: &'a str) -> Arg<'a>
+    ensures { IsRule (repeated_argument name.entry.now long.entry.now) result }
+{
+    Arg::new(alloc, name)
+        .long(long)
+        .action(ArgAction::Append)
+        .help(help)
+}
+
 /// An argument that must be given behind this word.
 fn wanted<'a>(alloc: Global, name: &'a str, long: &'a str, help: &'a str) -> Arg<'a>
     ensures { IsRule (wanted_argument name.entry.now long.entry.now) result }
@@ -246,6 +259,14 @@ fn flag<'a>(alloc: Global, name: &'a str, long: &'a str, help: &'a str) -> Arg<'
         .long(long)
         .action(ArgAction::SetTrue)
         .help(help)
+}
+
+/// The command with the catalogues that come after the first.
+fn with_next<'a>(alloc: Global, command: Command<'a>) -> Result<Command<'a>, AllocError>
+    ensures { (app : App) → IsCommand app command.entry → IfOk result (IsCommand (chained app)) }
+{
+    let next = repeated(alloc, "NEXT", "next", NEXT_HELP);
+    with(command, next)
 }
 
 /// The command with what says where stores are.

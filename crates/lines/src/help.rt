@@ -62,6 +62,7 @@ pub const AFTER_PLAY: &str =
     "A script has one item a line; empty lines and lines that begin with # are passed over:
   load INSERT INTO item VALUES (1, 3, 'a')    a row of the opening; such lines stand above all others
   begin T                                     a transaction begins, under a name of letters and digits
+  refragment T item                           the same, and it gives the relation its next split
   do T SELECT label FROM item                 a statement of the transaction
   commit T                                    its commit is asked for
   rollback T                                  it is rolled back
@@ -114,6 +115,13 @@ says no.";
 
 /// What is told of the catalogue of a script.
 pub const CATALOG_HELP: &str = "A file with a catalogue, in TOML, in place of the built-in one";
+
+/// What is told of the catalogues after the first.
+pub const NEXT_HELP: &str =
+    "A file with the catalogue that comes next; up to 15 of them, in their order";
+
+/// What is told where too many catalogues come after the first.
+pub const TOO_MANY_NEXT: &str = "at most 15 catalogues may come after the first";
 
 /// What is told of stores.
 pub const SQLITE_HELP: &str = "Keeps each site's fragments in a SQLite database, in memory";

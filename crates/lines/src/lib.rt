@@ -17,6 +17,7 @@ pub mod help;
 pub mod input;
 pub mod level;
 pub mod listing;
+pub mod next_files;
 pub mod outcome;
 pub mod plan_lines;
 pub mod plan_text;

@@ -1,4 +1,4 @@
-//! What is told of a catalogue to a person who asks: its relations and their columns.
+//! What is told of a catalogue to a person who asks: its place among others, its relations and their columns.
 
 ghost use Rattle.std.specs.Prelude.{◌≡◌, ◌++◌, codes, IfOk, OnOk, string_bytes};
 ghost use Rattle.catalog.specs.Catalogue.{kind_word};
@@ -13,6 +13,15 @@ use meaning::schema::{Column, RelationSchema};
 use std::alloc::Global;
 use terms::memory::Memory;
 use terms::value::Kind;
+
+/// Which of so many catalogues is in force, by its number, and what its file is called.
+pub fn catalog_text(alloc: Global, number: u64, count: u64, name: &str) -> Result<String, Memory>
+    ensures { IfOk result (λ text. string_bytes text ≡ spec.catalog_text number count name.now) }
+{
+    let mut text = String::new(alloc);
+    writeln!(text, "catalogue {number} of {count}, {name}")?;
+    Ok(text)
+}
 
 /// The name of each relation in a line.
 pub fn tables_text(alloc: Global, catalog: &Catalog) -> Result<String, Memory>

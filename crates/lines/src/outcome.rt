@@ -19,6 +19,9 @@ pub enum Outcome<'a> {
     SomeRefused,
     /// The catalogue was refused.
     Refused(CatFault),
+    /// The catalogues are no chain: one of them may not come next after the one before it, or the database's store
+    /// says that more of them were in force.
+    Unchained,
     /// The statement was refused.
     RefusedStatement(ReadFault),
     /// The command stopped before its end.
@@ -68,6 +71,7 @@ impl Outcome<'_> {
             Outcome::Stopped(ProgramFault::Store { .. }) => Status::Store,
             Outcome::SomeRefused
             | Outcome::Refused(_)
+            | Outcome::Unchained
             | Outcome::RefusedStatement(_)
             | Outcome::Stopped(_)
             | Outcome::Lost => Status::Refused,
@@ -82,6 +86,7 @@ pub fn tell<E: Write>(errors: &mut E, outcome: &Outcome<'_>) -> io::Result<()>
     match outcome {
         Outcome::Done | Outcome::SomeRefused => Ok(()),
         Outcome::Refused(fault) => writeln!(errors, "refused {fault}"),
+        Outcome::Unchained => writeln!(errors, "fragdb: refused 11 Chain"),
         Outcome::RefusedStatement(fault) => writeln!(errors, "refused read {fault}"),
         Outcome::Stopped(fault) => tell_stop(errors, fault),
         Outcome::Lost => writeln!(errors, "fragdb: refused 9 Closed"),

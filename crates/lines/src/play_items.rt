@@ -104,7 +104,7 @@ impl Reading {
     {
         match item {
             Item::Load(_) => self.loading,
-            Item::Client(name, Ask::Begin) => !self.begun.has(name),
+            Item::Client(name, ask) if is_begin(ask) => !self.begun.has(name),
             Item::Client(name, _) => self.begun.has(name),
             _ => true,
         }
@@ -116,13 +116,22 @@ impl Reading {
         ensures items { OnOk result (self.new.items.items ≡ self.old.items.items ++ (record { line = number; item = item }) ∷ []) }
         ensures kept { OnOk result (IsKept self.new) }
     {
-        if let Item::Client(name, Ask::Begin) = &item {
+        if let Item::Client(name, ask) = &item
+            && is_begin(ask)
+        {
             self.begun.add(name.copy()?, number)?;
         }
         self.loading = self.loading && matches!(item, Item::Load(_));
         self.items.push(Placed { line: number, item })?;
         Ok(())
     }
+}
+
+/// Whether a client's line begins its transaction.
+fn is_begin(ask: &Ask) -> bool
+    ensures { result ≡ spec.is_begin ask.now }
+{
+    matches!(ask, Ask::Begin | Ask::Refragment(_))
 }
 
 /// What a script asks for.

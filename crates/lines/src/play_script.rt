@@ -4,7 +4,7 @@ ghost use Rattle.std.specs.Prelude.{◌≡◌, ◌==◌, IfOk, map, option_map};
 ghost use Rattle.std.specs.Char.{is_ascii_alphanumeric, is_ascii_digit};
 ghost use Rattle.lines.specs.PlayScript as spec;
 ghost use Rattle.lines.specs.Cut as text;
-ghost use Rattle.lines.specs.PlayScript.{all_but_of, client_item, delivery_of, give_up_of, item_of, item_of_verb, item_of_words, number_of, numbers_of, reading_of, restart_item, shown_item, site_item, statement_item, ticket_of, verb_of};
+ghost use Rattle.lines.specs.PlayScript.{all_but_of, client_item, delivery_of, give_up_of, item_of, item_of_verb, item_of_words, number_of, numbers_of, reading_of, refragment_item, refragment_text, restart_item, shown_item, site_item, statement_item, ticket_of, verb_of};
 ghost use Rattle.std.specs.List.{list_all, slice_split};
 
 use crate::cut::{cut, pieces};
@@ -22,6 +22,8 @@ const NAME_LIMIT: usize = 16;
 #[derive(Drop)]
 pub enum Ask {
     Begin,
+    /// To begin, and to run this statement alone: it gives a relation the split that the next catalogue says.
+    Refragment(Text),
     /// To run a statement, by its text.
     State(Text),
     Commit,
@@ -74,6 +76,7 @@ pub enum Line {
 enum Verb {
     Load,
     Begin,
+    Refragment,
     Do,
     Commit,
     Rollback,
@@ -133,6 +136,7 @@ fn item_of_verb(alloc: Global, verb: Verb, rest: &str) -> Result<Option<Item>, M
     match verb {
         Verb::Load => Ok(Some(Item::Load(Text::copy_of(alloc, rest)?))),
         Verb::Begin => client(alloc, rest, Ask::Begin),
+        Verb::Refragment => refragment(alloc, rest),
         Verb::Do => statement(alloc, rest),
         Verb::Commit => client(alloc, rest, Ask::Commit),
         Verb::Rollback => client(alloc, rest, Ask::Rollback),
@@ -166,6 +170,8 @@ fn call_verb(word: &str) -> Option<Verb>
         Some(Verb::Load)
     } else if word == "begin" {
         Some(Verb::Begin)
+    } else if word == "refragment" {
+        Some(Verb::Refragment)
     } else if word == "do" {
         Some(Verb::Do)
     } else if word == "commit" {
@@ -224,6 +230,30 @@ fn statement(alloc: Global, rest: &str) -> Result<Option<Item>, Memory>
         Some((name, text)) => client(alloc, name, Ask::State(Text::copy_of(alloc, text)?)),
         None => Ok(None),
     }
+}
+
+fn refragment(alloc: Global, rest: &str) -> Result<Option<Item>, Memory>
+    ensures { IfOk result (λ item. item ≡ refragment_item (text.cut 32 rest.now)) }
+{
+    match cut(rest, ' ') {
+        Some((name, relation)) if is_word(relation) => {
+            client(
+                alloc,
+                name,
+                Ask::Refragment(refragment_text(alloc, relation)?),
+            )
+        }
+        _ => Ok(None),
+    }
+}
+
+/// The statement that gives a relation another split.
+fn refragment_text(alloc: Global, relation: &str) -> Result<Text, Memory>
+    ensures { IfOk result (λ statement. statement ≡ refragment_text relation.now) }
+{
+    let mut statement = String::new(alloc);
+    write!(statement, "REFRAGMENT {relation}")?;
+    Ok(Text::new(statement))
 }
 
 fn delivery(rest: &str) -> Option<Item>

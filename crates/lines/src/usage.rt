@@ -7,12 +7,14 @@ ghost use Rattle.std.specs.IoError.{error_kind};
 ghost use Rattle.clap.specs.Matches.{first_value};
 ghost use Rattle.clap.specs.Words.{Text, found_of, kind_of, subcommand_of, subcommand_rows_of};
 ghost use Rattle.lines.specs.Grammar.{usage};
+ghost use Rattle.lines.specs.NextFiles.{Gives};
 ghost use Rattle.lines.specs.Usage.{Asks, AsksFor, AsksForInput, IsMisuse, IsNoNumber, asked, asked_dump, asked_sessions, flags_of, flags_of_mode, is_columns, is_csv, is_interactive, is_json, mode_of_flags, retry_of, script_of, stores_in, usage_status};
 ghost use Rattle.lines.specs.Usage as spec;
 
 use crate::fault::ProgramFault;
 use crate::grammar::command;
 use crate::help::{NO_RELATION, NO_SCRIPT, TWO_MODES};
+use crate::next_files::next_given;
 use crate::outcome::{Outcome, Status, exit};
 use crate::play_script::number;
 use crate::transfer::{Dump, Import, Suggest, import_given, suggest_given};
@@ -26,6 +28,13 @@ use std::io::{ErrorKind as IoErrorKind, Write};
 
 /// How often a statement may be run again.
 const RETRY_LIMIT: u64 = 1_000_000;
+
+/// What the command line asks for, and the catalogues that come after the first: names of files, in their order, at most 15.
+#[derive(Drop)]
+pub struct Given<'a> {
+    pub asked: Asked<'a>,
+    pub next: Vec<&'a str>,
+}
 
 /// What the command line asks for.
 #[derive(Clone, Copy)]
@@ -137,20 +146,23 @@ pub fn read_words<'a, S: AsStr>(
     alloc: Global,
     words: &'a [S],
     is_at_terminal: bool,
-) -> Result<Asked<'a>, Error>
-    ensures alone { length words.entry.now ≤ 1 → IsOkAnd result AsksForInput }
-    ensures given { IfOk result (λ given. 1 < length words.entry.now → AsksFor (map S.text words.entry.now) is_at_terminal given) }
+) -> Result<Given<'a>, Error>
+    ensures alone { length words.entry.now ≤ 1 → IsOkAnd result (λ given. AsksForInput given.asked × (given.next.items ≡ [])) }
+    ensures given { IfOk result (λ given. 1 < length words.entry.now → Gives (map S.text words.entry.now) is_at_terminal given) }
 {
     if words.len() <= 1 {
-        return Ok(Asked::Alone(Request::Solo {
-            catalog: None,
-            script: "-",
-            explain: false,
-            interactive: false,
-            mode: Mode::Tabs,
-            sqlite: false,
-            dir: None,
-        }));
+        return Ok(Given {
+            asked: Asked::Alone(Request::Solo {
+                catalog: None,
+                script: "-",
+                explain: false,
+                interactive: false,
+                mode: Mode::Tabs,
+                sqlite: false,
+                dir: None,
+            }),
+            next: Vec::new(alloc),
+        });
     }
     read_given(alloc, words, is_at_terminal)
 }
@@ -160,26 +172,40 @@ fn read_given<'a, S: AsStr>(
     alloc: Global,
     words: &'a [S],
     is_at_terminal: bool,
-) -> Result<Asked<'a>, Error>
-    ensures { IfOk result (λ given. AsksFor (map S.text words.entry.now) is_at_terminal given) }
+) -> Result<Given<'a>, Error>
+    ensures { IfOk result (λ given. Gives (map S.text words.entry.now) is_at_terminal given) }
 {
     let mut command = command(alloc)?;
     let matches = command.try_get_matches_from_mut(words)?;
+    let next = next_given(alloc, &mut command, &matches)?;
+    let asked = asked_given(alloc, &mut command, &matches, is_at_terminal)?;
+    Ok(Given { asked, next })
+}
+
+/// What these matches ask for.
+fn asked_given<'a>(
+    alloc: Global,
+    command: &mut Command<'_>,
+    matches: &ArgMatches<'a>,
+    is_at_terminal: bool,
+) -> Result<Asked<'a>, Error>
+    ensures { (words : List Text) → subcommand_rows_of matches.entry.now ≡ subcommand_of usage words → IfOk result (λ asked. AsksFor words is_at_terminal asked) }
+{
     if let Some(("run", run)) = matches.subcommand()
         && let Some(script) = run.get_str("SCRIPT")
     {
-        let sessions = sessions_given(alloc, &mut command, run, script)?;
+        let sessions = sessions_given(alloc, command, run, script)?;
         return Ok(Asked::Sessions(sessions));
     }
     if let Some(("dump", dump)) = matches.subcommand() {
-        let dump = dump_given(&mut command, dump)?;
+        let dump = dump_given(command, dump)?;
         return Ok(Asked::Dump(dump));
     }
     if let Some(("import", import)) = matches.subcommand()
         && let Some(relation) = import.get_str("RELATION")
         && let Some(file) = import.get_str("FILE")
     {
-        let import = import_given(alloc, &mut command, import, relation, file)?;
+        let import = import_given(alloc, command, import, relation, file)?;
         return Ok(Asked::Import(import));
     }
     if let Some(("suggest", suggest)) = matches.subcommand()
@@ -187,10 +213,10 @@ fn read_given<'a, S: AsStr>(
         && let Some(key) = suggest.get_str("KEY")
         && let Some(rows) = suggest.get_str("COLUMN")
     {
-        let suggest = suggest_given(alloc, &mut command, suggest, file, key, rows)?;
+        let suggest = suggest_given(alloc, command, suggest, file, key, rows)?;
         return Ok(Asked::Suggest(suggest));
     }
-    let request = request_given(&mut command, &matches, is_at_terminal)?;
+    let request = request_given(command, matches, is_at_terminal)?;
     Ok(Asked::Alone(request))
 }
 

@@ -2,6 +2,7 @@ use Rattle.std.proofs.Common.{◌≡◌, ◌++◌, ◌∷◌, [], ◌+◌, ℕ, 
 use Rattle.std.specs.FinMap as finite
 use Rattle.std.specs.Io.KnownBytes.{Appends}
 use Rattle.std.proofs.lemmas.List.{take_more}
+use Rattle.desk.specs.CatalogueDatabase.{database}
 use Rattle.lines.specs.declared.play_items.Placed.{Placed}
 use Rattle.commands.specs.Play.{PlaysItems}
 use Rattle.commands.specs.Schedule.{HasRun, world_over}
@@ -12,8 +13,8 @@ use Rattle.commands.proofs.play.play_items.Goals as goal
 
 pub loop-placed-init : goal.loop-placed-init
 loop-placed-init g c = record {
-  played = record { told = []; said = search rules; plays = λ whole. (refl, refl) };
-  counted = c.requires.counted;
+  played = record { told = []; said = search rules; plays = λ db whole. (refl, refl) };
+  counted = c.requires;
   leaves = leaves_same (world_over g.D.DeskStore.is_clean g.S.SiteStore.is_clean g.D.DeskStore.is_sound g.S.SiteStore.is_sound g.D.DeskStore.kept g.S.SiteStore.kept g.D.DeskStore.refused g.S.SiteStore.refused) c.args.schedule.now.world;
 }
 
@@ -28,6 +29,7 @@ loop-placed-preserved g c =
     let after = c.play_item.new.schedule in
     let placed = c.placed-item.result in
     let told = string_bytes c.in_ok-told.told in
+    let db = database (seen.catalogue middle.world) in
     let first = g.W.Write.contents c.args.output.now in
     let second = g.W.Write.contents c.loop-placed.output in
     let third = g.W.Write.contents c.write_all.new.self in
@@ -37,8 +39,8 @@ loop-placed-preserved g c =
     let more : take (index + 1) items ≡ take index items ++ placed ∷ [] = take_more items index _ (omega arith) ∙ ap (λ (one : Placed). take index items ++ one ∷ []) (sym c.placed-item.is) in
     record {
       played = subst (λ (played : List Placed). PlaysItems seen played first third before after) (sym more)
-          (PlaysItems-more seen (take index items) placed first second third before middle after told so_far.played c.in_ok-told.ensures.plays said so_far.leaves c.play_item.ensures.leaves c.requires.single);
-      counted = Plays-counted seen (seen.is_clean after.world × HasRun seen finite.empty middle.world) (seen.catalogue middle.world) finite.empty placed.item middle after told (c.in_ok-told.ensures.plays finite.empty) so_far.counted;
+          (PlaysItems-more seen (take index items) placed first second third before middle after told so_far.played c.in_ok-told.ensures.plays said so_far.leaves c.play_item.ensures.leaves);
+      counted = Plays-counted seen (seen.is_clean after.world × HasRun seen db finite.empty middle.world) db finite.empty placed.item middle after told (c.in_ok-told.ensures.plays db finite.empty) so_far.counted;
       leaves = leaves_then seen before.world middle.world after.world so_far.leaves c.play_item.ensures.leaves;
     }
 
@@ -47,6 +49,3 @@ returns-in_err-told-clause-leaves g c = leaves_then (world_over g.D.DeskStore.is
 
 pub returns-in_err-map_err-clause-leaves : goal.returns-in_err-map_err-clause-leaves
 returns-in_err-map_err-clause-leaves g c = leaves_then (world_over g.D.DeskStore.is_clean g.S.SiteStore.is_clean g.D.DeskStore.is_sound g.S.SiteStore.is_sound g.D.DeskStore.kept g.S.SiteStore.kept g.D.DeskStore.refused g.S.SiteStore.refused) c.args.schedule.now.world c.loop-placed.schedule.world c.play_item.new.schedule.world c.loop-placed.invariant.leaves c.play_item.ensures.leaves
-
-pub play_item-requires : goal.play_item-requires
-play_item-requires g c = record { counted = c.loop-placed.invariant.counted; single = (c.loop-placed.invariant.leaves.catalogs c.requires.single).1 }

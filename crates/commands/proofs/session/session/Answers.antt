@@ -1,8 +1,14 @@
+use Rattle.std.proofs.Common.{map, rules, subst}
+use Rattle.catalog.specs.Catalogue.{Catalogue}
 use Rattle.catalog.specs.Relation.{catalogue_of}
-use Rattle.commands.proofs.SessionLemmas.{held_from}
+use Rattle.desk.specs.CatalogueDatabase.{database}
+use Rattle.world.specs.Commands.{MovesFollow}
+use Rattle.commands.proofs.SessionChainLemmas.{talked_over, told_unopened}
 use Rattle.commands.proofs.session.session.Goals as goal
 
-pub returns-clause-ok : goal.returns-clause-ok
-returns-clause-ok g c =
-    held_from g.B.Database.seen g.O.Opens.origin (g.W.Write.contents c.args.output.now) (g.W.Write.contents c.talk.new.output) (catalogue_of c.args.catalog.now) c.in_ok-database.database c.talk.new.database c.talk.result
-    c.in_ok-database.ensures.ok c.moves_follow.ensures c.talk.ensures.ok
+pub returns-in_err-database : goal.returns-in_err-database
+returns-in_err-database g c = told_unopened g.B.Database.seen g.O.Opens.origin c.args.file (g.W.Write.contents c.args.output.now) (map catalogue_of c.args.chain.now) c.in_err-database.field-0.0 _ (search rules) c.in_err-database.ensures.err
+
+pub returns : goal.returns
+returns g c = talked_over g.B.Database.seen g.O.Opens.origin (g.W.Write.contents c.args.output.now) (g.W.Write.contents c.talk.new.output) (map catalogue_of c.args.chain.now) c.in_ok-database.database c.talk.new.database c.in_ok-database.ensures.ok
+    (subst (λ (own : Catalogue). MovesFollow (database own)) c.catalog.ensures c.moves_follow.ensures) c.in_ok-talk.ensures.ok

@@ -2,12 +2,12 @@ use Rattle.std.proofs.Common.{◌≡◌, ap, ap₂, codes, true, ◌∙◌}
 use Rattle.std.proofs.lemmas.Result.{IfOk-weaker}
 use Rattle.clap.specs.Words.{App, app_of, with_subcommand}
 use Rattle.clap.specs.Simple.{app_of_fields, on_top}
-use Rattle.lines.specs.Grammar.{command_with, command_with_two, counted, explained, held, in_folder, in_sqlite, of_any_script, of_file, of_relation, of_script, program, retried, shown, stored, suggesting, treed}
+use Rattle.lines.specs.Grammar.{chained, command_with, command_with_two, counted, explained, held, in_folder, in_sqlite, of_any_script, of_file, of_relation, of_script, program, retried, shown, stored, treed}
 use Rattle.lines.proofs.grammar.command.Goals as goal
 
 -- the program with more and more of its commands
 abbrev one : App
-one = with_subcommand program (stored (shown (held (explained (of_any_script (codes "solo")))))).top
+one = with_subcommand program (chained (stored (shown (held (explained (of_any_script (codes "solo"))))))).top
 
 abbrev two : App
 two = with_subcommand one (treed (explained (command_with (codes "check") (codes "CATALOG")))).top
@@ -16,10 +16,10 @@ abbrev three : App
 three = with_subcommand two (treed (command_with_two (codes "plan") (codes "CATALOG") (codes "STATEMENT"))).top
 
 abbrev four : App
-four = with_subcommand three (in_sqlite (of_script (codes "play"))).top
+four = with_subcommand three (chained (in_sqlite (of_script (codes "play")))).top
 
 abbrev five : App
-five = with_subcommand four (retried (stored (of_script (codes "run")))).top
+five = with_subcommand four (chained (retried (stored (of_script (codes "run"))))).top
 
 abbrev six : App
 six = with_subcommand five (shown (in_folder (of_relation (codes "dump")))).top

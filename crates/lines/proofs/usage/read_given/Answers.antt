@@ -1,43 +1,15 @@
-use Rattle.std.proofs.Common.{◌≡◌, ℕ, List, Some, ap, map, sym, ◌∙◌}
-use Rattle.clap.specs.Words.{app_of, found_of, is_simple, subcommand_of}
+use Rattle.std.proofs.Common.{◌≡◌, ap, map, ◌∙◌}
+use Rattle.clap.specs.Words.{app_of, is_simple, subcommand_of}
 use Rattle.lines.specs.Grammar.{usage}
-use Rattle.lines.proofs.UsageLemmas.{dump_asked, import_asked, sessions_asked, suggest_asked, subcommand_name_of-rows}
+use Rattle.lines.specs.NextFiles.{files_of}
 use Rattle.lines.proofs.usage.read_given.Goals as goal
 
 pub returns : goal.returns
 returns g c =
     let usage_is : app_of c.in_ok-command.command ≡ usage = c.in_ok-command.ensures in
     let entered = (c.in_ok-matches.ensures.ok.2 (ap is_simple usage_is)).1 ∙ ap (λ a. subcommand_of a (map g.S.AsStr.text c.args.words.now)) usage_is in
-    let name = c.in-Some-run-default.ensures.name ∙ subcommand_name_of-rows c.in_ok-matches.matches in
-    sessions_asked (map g.S.AsStr.text c.args.words.now) _ (found_of c.in-Some-run-default.run'.now) c.in-Some.script.now entered (ap (λ (t : List ℕ). Some t) (sym c.in-Some-run-default.is-run) ∙ name) c.in-Some-run-default.ensures.rows
-    c.in-Some.ensures c.in_ok-sessions.sessions c.in_ok-sessions.ensures.asks c.in_ok-sessions.ensures.sqlite c.in_ok-sessions.ensures.retry
-
-pub returns-in-Some-dump-default : goal.returns-in-Some-dump-default
-returns-in-Some-dump-default g c =
-    let usage_is : app_of c.in_ok-command.command ≡ usage = c.in_ok-command.ensures in
-    let entered = (c.in_ok-matches.ensures.ok.2 (ap is_simple usage_is)).1 ∙ ap (λ a. subcommand_of a (map g.S.AsStr.text c.args.words.now)) usage_is in
-    let name = c.in-Some-dump-default.ensures.name ∙ subcommand_name_of-rows c.in_ok-matches.matches in
-    dump_asked (map g.S.AsStr.text c.args.words.now) _ (found_of c.in-Some-dump-default.dump.now) entered (ap (λ (t : List ℕ). Some t) (sym c.in-Some-dump-default.is-dump) ∙ name) c.in-Some-dump-default.ensures.rows
-    c.in_ok-dump.dump c.in_ok-dump.ensures.asks c.in_ok-dump.ensures.flags c.in_ok-dump.ensures.named
-
-pub returns-2 : goal.returns-2
-returns-2 g c =
-    let usage_is : app_of c.in_ok-command.command ≡ usage = c.in_ok-command.ensures in
-    let entered = (c.in_ok-matches.ensures.ok.2 (ap is_simple usage_is)).1 ∙ ap (λ a. subcommand_of a (map g.S.AsStr.text c.args.words.now)) usage_is in
-    let name = c.in-Some-import-default.ensures.name ∙ subcommand_name_of-rows c.in_ok-matches.matches in
-    import_asked (map g.S.AsStr.text c.args.words.now) _ (found_of c.in-Some-import-default.import.now) c.in-Some-get_str.relation.now c.in-Some-get_str-2.file.now entered (ap (λ (t : List ℕ). Some t) (sym c.in-Some-import-default.is-import) ∙ name) c.in-Some-import-default.ensures.rows
-    c.in-Some-get_str.ensures c.in-Some-get_str-2.ensures c.in_ok-import.import c.in_ok-import.ensures.asks c.in_ok-import.ensures.every
-
-pub returns-3 : goal.returns-3
-returns-3 g c =
-    let usage_is : app_of c.in_ok-command.command ≡ usage = c.in_ok-command.ensures in
-    let entered = (c.in_ok-matches.ensures.ok.2 (ap is_simple usage_is)).1 ∙ ap (λ a. subcommand_of a (map g.S.AsStr.text c.args.words.now)) usage_is in
-    let name = c.in-Some-suggest-default.ensures.name ∙ subcommand_name_of-rows c.in_ok-matches.matches in
-    suggest_asked (map g.S.AsStr.text c.args.words.now) _ (found_of c.in-Some-suggest-default.suggest.now) c.in-Some-get_str-3.file.now c.in-Some-get_str-4.key.now c.in-Some-get_str-5.rows.now entered (ap (λ (t : List ℕ). Some t) (sym c.in-Some-suggest-default.is-suggest) ∙ name) c.in-Some-suggest-default.ensures.rows
-    c.in-Some-get_str-3.ensures c.in-Some-get_str-4.ensures c.in-Some-get_str-5.ensures c.in_ok-suggest.suggest c.in_ok-suggest.ensures.asks c.in_ok-suggest.ensures.sites
-
-pub returns-4 : goal.returns-4
-returns-4 g c =
-    let usage_is : app_of c.in_ok-command.command ≡ usage = c.in_ok-command.ensures in
-    let entered = (c.in_ok-matches.ensures.ok.2 (ap is_simple usage_is)).1 ∙ ap (λ a. subcommand_of a (map g.S.AsStr.text c.args.words.now)) usage_is in
-    c.in_ok-request.ensures (map g.S.AsStr.text c.args.words.now) entered
+    record {
+      asked = c.in_ok-asked.ensures (map g.S.AsStr.text c.args.words.now) entered;
+      next = c.in_ok-next.ensures.files ∙ ap files_of entered;
+      few = c.in_ok-next.ensures.few;
+    }

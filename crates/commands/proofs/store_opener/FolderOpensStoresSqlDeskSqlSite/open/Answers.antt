@@ -1,7 +1,15 @@
-use Rattle.catalog.specs.Relation.{catalogue_of}
-use Rattle.commands.proofs.RunLemmas.{given}
+use Rattle.std.proofs.Common.{subst, ◌∙◌}
+use Rattle.catalog.specs.Catalogue.{Catalogue}
+use Rattle.commands.specs.SqlStores.{AreOfLeaves}
+use Rattle.commands.proofs.PlayLemmas.{first_is, sites_there}
 use Rattle.commands.proofs.SqlStoresLemmas.{sql_have}
 use Rattle.commands.proofs.store_opener.FolderOpensStoresSqlDeskSqlSite.open.Goals as goal
 
+pub returns-clause-one_each : goal.returns-clause-one_each
+returns-clause-one_each g c = c.in_ok-open_files.ensures.all ∙ sites_there c.args.chain.now c.first_of.result.now c.first_of.ensures.0 c.first_of.ensures.1
+
 pub returns-clause-leaves : goal.returns-clause-leaves
-returns-clause-leaves g c = given c.open_files.result c.open_files.ensures.leaves (λ stores have. sql_have _ (catalogue_of c.args.catalog.now) stores.sites.items have)
+returns-clause-leaves g c = λ first rest is.
+    let sites = c.in_ok-open_files.field-0.sites.items in
+    let here = first_is c.args.chain.now c.first_of.result.now c.first_of.ensures.0 first rest c.first_of.ensures.1 is in
+    sql_have _ first sites (subst (λ (catalogue : Catalogue). AreOfLeaves catalogue sites) here c.in_ok-open_files.ensures.leaves)

@@ -1,0 +1,33 @@
+-- Lemmas on databases that are opened.
+use Rattle.std.proofs.Common.{◌≡◌, ◌∷◌, ℕ, List, [], ap, inl, inr, map, refl, sym, ◌∙◌}
+use Rattle.catalog.specs.declared.relation.SplitRelation.{SplitRelation}
+use Rattle.catalog.specs.Catalogue.{Catalogue}
+use Rattle.catalog.specs.Relation.{catalogue_of}
+use Rattle.store.specs.declared.fault.StoreFault.TheVariants.{Damaged}
+use Rattle.commands.specs.declared.catalog_files.ChainFault.{ChainFault}
+use Rattle.commands.specs.declared.catalog_files.ChainFault.TheVariants.{Program, Refused, Unchained}
+use Rattle.commands.specs.CatalogFiles.{IsOfOpening, fault_alone}
+use Rattle.commands.specs.Client.{IsOfClient, Seen}
+use Rattle.commands.specs.Origin.{Begins, BeginsOver, IsLastOf, Kept, New, Origin}
+
+-- the first of a chain of one catalogue is this one
+pub first_one : (chain : List (List (List ℕ) × List SplitRelation)) (first : List (List ℕ) × List SplitRelation) (rest : List (List (List ℕ) × List SplitRelation)) (catalogue : Catalogue) → chain ≡ first ∷ rest → map catalogue_of chain ≡ catalogue ∷ [] → catalogue_of first ≡ catalogue
+first_one chain first rest catalogue is one =
+    let both : catalogue_of first ∷ map catalogue_of rest ≡ catalogue ∷ [] = ap (map catalogue_of) (sym is) ∙ one in
+    let same : catalogue_of first ≡ catalogue = cc in
+    same
+
+-- a fault of a database of one catalogue
+pub alone_of_client : (fault : ChainFault) → IsOfOpening fault → IsOfClient (fault_alone fault)
+alone_of_client (Program fault) why = why
+alone_of_client (Refused fault) why = absurd why
+alone_of_client Unchained why = inr (Damaged, refl)
+
+-- the only catalogue is the last one
+pub last_alone : (catalogues : List Catalogue) (origin : Origin) (catalogue : Catalogue) → catalogues ≡ catalogue ∷ [] → IsLastOf catalogues origin catalogue
+last_alone catalogues New catalogue one = one
+last_alone catalogues (Kept found) catalogue one = inl one
+
+-- a database of one catalogue that was opened
+pub begins_alone : {B : Type 0} (seen : Seen B) (IsOrigin : Origin → Type 0) (catalogues : List Catalogue) (catalogue : Catalogue) (base : B) → catalogues ≡ catalogue ∷ [] → BeginsOver seen IsOrigin catalogues base → Begins seen IsOrigin catalogue base
+begins_alone seen IsOrigin catalogues catalogue base one begun = (begun.0, begun.1, begun.2 catalogue (last_alone catalogues begun.0 catalogue one))

@@ -1,0 +1,25 @@
+use Rattle.std.proofs.Common.{IfErr, IfOk, IfSome, subst, sym}
+use Rattle.commands.specs.CatalogFiles.{DoesOver, IsUnopened}
+use Rattle.commands.specs.Perform.{ComesTo}
+use Rattle.commands.specs.PerformChain.{outcome_of_run}
+use Rattle.commands.specs.SoloChain.{RunsOver}
+use Rattle.commands.proofs.PerformLemmas.{came_idle, came_to, on_err}
+use Rattle.commands.proofs.PerformChainLemmas.{stopped_run}
+use Rattle.commands.proofs.perform_chain.perform_solo.Goals as goal
+
+pub returns-in-Ok-clause-ran : goal.returns-in-Ok-clause-ran
+returns-in-Ok-clause-ran g c =
+    let old = g.W.Write.contents c.args.output.now in
+    let new = g.W.Write.contents c.solo_catalogs.new.output in
+    subst (λ catalog. IfOk catalog (λ opened. IfSome (g.C.Read.remaining opened) (λ bytes. IfOk c.args.input (λ reader. IfSome (g.R.Read.remaining reader) (λ text. ComesTo outcome_of_run (DoesOver g.N.Read.remaining c.args.file bytes c.args.next.items old new (RunsOver g.B.Database.seen g.O.Opens.origin c.args.mode c.args.script text old new)) c.of_run.result))))) (sym c.in-Ok.is)
+    (came_to (g.C.Read.remaining c.in-Ok.catalog) c.args.input g.R.Read.remaining outcome_of_run (λ bytes text. DoesOver g.N.Read.remaining c.args.file bytes c.args.next.items old new (RunsOver g.B.Database.seen g.O.Opens.origin c.args.mode c.args.script text old new)) c.solo_catalogs.result c.of_run.result c.of_run.ensures c.solo_catalogs.ensures.opened)
+
+pub returns-in-Ok-clause-idle : goal.returns-in-Ok-clause-idle
+returns-in-Ok-clause-idle g c =
+    let old = g.W.Write.contents c.args.output.now in
+    let new = g.W.Write.contents c.solo_catalogs.new.output in
+    subst (λ catalog. IfOk catalog (λ opened. IfSome (g.C.Read.remaining opened) (λ bytes. IfErr c.args.input (λ error. ComesTo outcome_of_run (DoesOver g.N.Read.remaining c.args.file bytes c.args.next.items old new (λ catalogues. IsUnopened c.args.script)) c.of_run.result)))) (sym c.in-Ok.is)
+    (came_idle (g.C.Read.remaining c.in-Ok.catalog) c.args.input outcome_of_run (λ bytes. DoesOver g.N.Read.remaining c.args.file bytes c.args.next.items old new (λ catalogues. IsUnopened c.args.script)) c.solo_catalogs.result c.of_run.result c.of_run.ensures c.solo_catalogs.ensures.unread)
+
+pub returns-in-Ok-clause-unread : goal.returns-in-Ok-clause-unread
+returns-in-Ok-clause-unread g c = on_err _ _ _ c.args.input (stopped_run c.solo_catalogs.result c.of_run.result c.of_run.ensures) c.solo_catalogs.ensures.idle

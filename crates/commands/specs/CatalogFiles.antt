@@ -1,0 +1,93 @@
+-- What the files of several catalogues give, one after another.
+use Rattle.std.specs.Prelude.{◌≡◌, ◌⊎◌, ℕ, List, [], ◌∷◌, ◌++◌, map, IfErr, IfOk, IfSome, Option, Result, Ok, Err}
+use Rattle.std.specs.Borrow.{Bor}
+use Rattle.std.specs.Io.KnownBytes.{Keeps}
+use Rattle.catalog.specs.declared.relation.SplitRelation.{SplitRelation}
+use Rattle.catalog.specs.Catalogue.{Catalogue, IsValidCatalogue}
+use Rattle.catalog.specs.Chain.{IsChain}
+use Rattle.catalog.specs.Relation.{catalogue_of}
+use Rattle.store.specs.declared.fault.StoreFault.TheVariants.{Damaged}
+use Rattle.lines.specs.declared.catalog_file.CatalogFault.{CatalogFault}
+use Rattle.lines.specs.declared.catalog_file.CatalogFault.TheVariants as catalog
+use Rattle.lines.specs.declared.fault.ProgramFault.{ProgramFault}
+use Rattle.lines.specs.declared.fault.ProgramFault.TheVariants.{Memory, Store}
+use Rattle.lines.specs.CatalogFile.{IsCatalogueFile, RefusesFile}
+use Rattle.lines.specs.Input.{IsOfInput}
+use Rattle.commands.specs.Client.{IsOfClient}
+use Rattle.commands.specs.declared.catalog_files.ChainFault.{ChainFault}
+use Rattle.commands.specs.declared.catalog_files.ChainFault.TheVariants.{Program, Refused, Unchained}
+use Rattle.commands.specs.declared.catalog_files.Source.{Source}
+
+-- the fault of a file that gives no catalogue, as one of several
+abbrev pub fault_of_catalogue : CatalogFault → ChainFault
+fault_of_catalogue (catalog.Program fault) = Program fault
+fault_of_catalogue (catalog.Refused fault) = Refused fault
+
+-- why a database of a chain isn't opened: a fault may stop the program, or a store keeps the number of no catalogue
+abbrev pub IsOfOpening : ChainFault → Type 0
+IsOfOpening (Program fault) = IsOfClient fault
+IsOfOpening (Refused fault) = ⊥
+IsOfOpening Unchained = Unit {0}
+
+-- what stops the program where it is of one catalogue: another number than its own is damage
+abbrev pub fault_alone : ChainFault → ProgramFault
+fault_alone (Program fault) = fault
+fault_alone (Refused fault) = Store Damaged
+fault_alone Unchained = Store Damaged
+
+-- remaining: the bytes that a reader of a catalogue still gives, where they are known
+module _ {C : Type 0} (remaining : C → Option (List ℕ)) where
+  -- a source gives this catalogue
+  pub record IsSourceOf (source : Source C) (catalogue : Catalogue) : Type 0 where
+    pub reader : C
+    pub opened : source.catalog ≡ Ok reader
+    pub text : IfSome (remaining reader) (λ bytes. IsCatalogueFile bytes catalogue)
+    pub valid : IsValidCatalogue catalogue
+
+  -- the file of a source can't be opened or not be read
+  abbrev pub IsUnread : Source C → ProgramFault → Type 0
+  IsUnread source fault = IfOk source.catalog (λ reader. IfSome (remaining reader) (λ bytes. IsOfInput source.file fault)) × IfErr source.catalog (λ error. IsOfInput source.file fault)
+
+  -- a source gives none: that, or its text is refused
+  abbrev pub IsFaultOf : Source C → ChainFault → Type 0
+  IsFaultOf source (Program fault) = IsUnread source fault
+  IsFaultOf source (Refused fault) = (reader : C) × (source.catalog ≡ Ok reader) × IfSome (remaining reader) (λ bytes. RefusesFile bytes fault.relation fault.rule)
+  IsFaultOf source Unchained = ⊥
+
+  -- that ends it
+  abbrev pub StopsAt : {T : Type 0} → Source C → Result T ChainFault → Type 0
+  StopsAt source (Ok chain) = ⊥
+  StopsAt source (Err fault) = IsFaultOf source fault
+
+  -- What sources come to behind the catalogues that were read: the first one at fault ends it. Without one there is a chain, where they are one.
+  abbrev pub GivesChain : List Catalogue → List (Source C) → Result (List (List (List ℕ) × List SplitRelation)) ChainFault → Type 0
+  GivesChain read [] (Ok chain) = map catalogue_of chain ≡ read
+  GivesChain read [] (Err (Program fault)) = fault ≡ Memory
+  GivesChain read [] (Err (Refused fault)) = ⊥
+  GivesChain read [] (Err Unchained) = ¬ (IsChain read)
+  GivesChain read (source ∷ sources) result = StopsAt source result ⊎ ((catalogue : Catalogue) × IsSourceOf source catalogue × GivesChain (read ++ catalogue ∷ []) sources result)
+
+  -- the first one, of these bytes, is none
+  abbrev pub StopsAtFirst : {T : Type 0} → Bor (List ℕ) → List ℕ → Result T ChainFault → Type 0
+  StopsAtFirst file bytes (Ok chain) = ⊥
+  StopsAtFirst file bytes (Err (Program fault)) = IsOfInput file fault
+  StopsAtFirst file bytes (Err (Refused fault)) = RefusesFile bytes fault.relation fault.rule
+  StopsAtFirst file bytes (Err Unchained) = ⊥
+
+  -- what a first catalogue, of these bytes, and sources come to
+  abbrev pub GivesCatalogues : Bor (List ℕ) → List ℕ → List (Source C) → Result (List (List (List ℕ) × List SplitRelation)) ChainFault → Type 0
+  GivesCatalogues file bytes sources result =
+      StopsAtFirst file bytes result ⊎ ((catalogue : Catalogue) × IsCatalogueFile bytes catalogue × IsValidCatalogue catalogue × GivesChain (catalogue ∷ []) sources result)
+
+  -- Something is done over the catalogues of files: they are looked at first, and where they are no chain nothing is written
+  abbrev pub DoesOver : {T : Type 0} → Bor (List ℕ) → List ℕ → List (Source C) → (old new : Option (List ℕ)) → (List Catalogue → Result T ChainFault → Type 0) → Result T ChainFault → Type 0
+  DoesOver file bytes sources old new Does (Ok done) = (chain : List (List (List ℕ) × List SplitRelation)) × GivesCatalogues file bytes sources (Ok chain) × Does (map catalogue_of chain) (Ok done)
+  DoesOver file bytes sources old new Does (Err fault) =
+      (GivesCatalogues file bytes sources (Err fault) × Keeps old new) ⊎ ((chain : List (List (List ℕ) × List SplitRelation)) × GivesCatalogues file bytes sources (Ok chain) × Does (map catalogue_of chain) (Err fault))
+
+-- the file of a script can't be opened
+abbrev pub IsUnopened : {T : Type 0} → Bor (List ℕ) → Result T ChainFault → Type 0
+IsUnopened file (Ok done) = ⊥
+IsUnopened file (Err (Program fault)) = IsOfInput file fault
+IsUnopened file (Err (Refused fault)) = ⊥
+IsUnopened file (Err Unchained) = ⊥

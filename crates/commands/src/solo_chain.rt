@@ -1,0 +1,110 @@
+//! The command `solo` over a chain of catalogues.
+
+ghost use Rattle.std.specs.Prelude.{◌≡◌, ◌≤◌, true, IfErr, IfOk, IfSome, is_err, length, map};
+ghost use Rattle.std.specs.Io.KnownBytes.{Keeps};
+ghost use Rattle.catalog.specs.Relation.{catalogue_of};
+ghost use Rattle.lines.specs.Script.{task_of};
+ghost use Rattle.commands.specs.CatalogFiles.{DoesOver, IsUnopened};
+ghost use Rattle.commands.specs.Solo.{longest};
+ghost use Rattle.commands.specs.SoloChain.{IsOfRunOver, IsRunOver, RunsOrStopsOver, RunsOver};
+
+use crate::catalog_files::{ChainFault, Source, read_catalogs};
+use crate::database::Database;
+use crate::opener::Opens;
+use crate::solo::{read_script, run_items};
+use catalog::chain::Chain;
+use lines::fault::ProgramFault;
+use lines::script::{Item, items};
+use shell::mode::Mode;
+use std::alloc::Global;
+use std::io;
+use std::io::{Read, Write};
+use world::laws::moves_follow;
+
+/// Runs the script that `input` gives, which `file` names in a fault, over the catalogue that `catalog` gives, which
+/// `catalog_file` names, and those that come next. The catalogues are read first.
+pub fn solo_catalogs<
+    'a,
+    B: Database + Drop,
+    O: Opens<B>,
+    C: Read + Drop,
+    N: Read + Drop,
+    R: Read + Drop,
+    W: Write,
+>(
+    alloc: Global,
+    opener: &O,
+    mode: Mode,
+    catalog_file: &'a str,
+    catalog: C,
+    next: Vec<Source<'a, N>>,
+    file: &'a str,
+    input: io::Result<R>,
+    output: &mut W,
+) -> Result<bool, ChainFault<'a>>
+    ensures opened { IfSome (C.remaining catalog) (λ bytes. IfOk input (λ reader. IfSome (R.remaining reader) (λ script. DoesOver N.remaining catalog_file.entry bytes next.entry.items (W.contents output.old) (W.contents output.new) (RunsOver B.seen O.origin mode file.entry script (W.contents output.old) (W.contents output.new)) result))) }
+    ensures unread { IfErr input (λ error. IfSome (C.remaining catalog) (λ bytes. DoesOver N.remaining catalog_file.entry bytes next.entry.items (W.contents output.old) (W.contents output.new) (λ catalogues. IsUnopened file.entry) result)) }
+    ensures idle { IfErr input (λ error. (is_err result ≡ true) × Keeps (W.contents output.old) (W.contents output.new)) }
+{
+    let chain = read_catalogs(alloc, catalog_file, catalog, next)?;
+    match input {
+        Ok(input) => solo_chain(alloc, opener, mode, &chain, file, input, output),
+        Err(error) => Err(ChainFault::Program(ProgramFault::reading(file, &error))),
+    }
+}
+
+/// Runs the script that `input` gives, which `file` names in a fault, over a new database of this chain: the whole script or
+/// none of it. Writes the answers to `output`, and answers whether a line was refused, as `solo` does.
+pub fn solo_chain<'a, B: Database + Drop, O: Opens<B>, R: Read + Drop, W: Write>(
+    alloc: Global,
+    opener: &O,
+    mode: Mode,
+    chain: &Chain,
+    file: &'a str,
+    input: R,
+    output: &mut W,
+) -> Result<bool, ChainFault<'a>>
+    ensures { IfSome (R.remaining input) (λ script. RunsOver B.seen O.origin mode file.entry script (W.contents output.old) (W.contents output.new) (map catalogue_of chain.now) result) }
+{
+    let script = read_script(alloc, file, input)?;
+    run_script(alloc, opener, mode, chain, script.as_slice(), output)
+}
+
+/// Runs a script of which all bytes were read.
+fn run_script<'a, B: Database + Drop, O: Opens<B>, W: Write>(
+    alloc: Global,
+    opener: &O,
+    mode: Mode,
+    chain: &Chain,
+    script: &[u8],
+    output: &mut W,
+) -> Result<bool, ChainFault<'a>>
+    requires { length script.now ≤ longest }
+    ensures { RunsOrStopsOver B.seen O.origin mode (map catalogue_of chain.now) script.now (W.contents output.old) (W.contents output.new) result }
+{
+    let items = items(alloc, script)?;
+    let outcome = run(alloc, opener, mode, chain, items.as_slice(), output);
+    // What was answered before a fault goes out too.
+    let flushed = output.flush();
+    let any_refused = outcome?;
+    flushed.map_err(|error| ProgramFault::writing(&error))?;
+    Ok(any_refused)
+}
+
+/// Runs the items in order over a new database, and writes each answer. Answers whether a line was refused.
+fn run<'a, B: Database + Drop, O: Opens<B>, W: Write>(
+    alloc: Global,
+    opener: &O,
+    mode: Mode,
+    chain: &Chain,
+    items: &[Item<'_>],
+    output: &mut W,
+) -> Result<bool, ChainFault<'a>>
+    ensures ok { IfOk result (IsRunOver B.seen O.origin mode (map catalogue_of chain.now) (map task_of items.now) (W.contents output.old) (W.contents output.new)) }
+    ensures err { IfErr result IsOfRunOver }
+    ensures unchained { result ≡ Err ChainFault.Unchained → W.contents output.new ≡ W.contents output.old }
+{
+    let mut database = opener.open(alloc, chain)?;
+    moves_follow(database.catalog());
+    Ok(run_items(alloc, mode, &mut database, items, output)?)
+}
