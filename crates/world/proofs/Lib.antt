@@ -75,4 +75,5 @@ pub mod Texts
 pub mod ListRunning
 pub mod ListDelivering
 pub mod ListCalls
+pub mod ListSolo
 pub mod ListIsBase
