@@ -253,9 +253,11 @@ module _ {D S : Type 0} (IsClean IsSound : code.Machines D S → Type 0) (view :
         lists = λ db whole past listed stands fresh firm served. ⊎_elim
             (λ last. (here last).lists db whole past listed stands fresh firm served)
             (λ more.
-            let made = lists more db whole past listed stands fresh firm served in
-            (makes_as db whole (view new) past result (λ done moves. IsRefragmented text moves (heard_in items done)) (λ done moves. IsTextOf db.schemas text (Run statement) → IsCommand db.schemas text current current moves (heard_in items done))
-            (λ moves so spelled. refragments refragment.0 (subst (λ (s : Statement). IsTextOf db.schemas text (Run s)) refragment.1 spelled) none none so) made.0, made.1))
+            let made = lists more db whole past listed stands fresh firm served in (
+              makes_as db whole (view new) past result (λ done moves. IsRefragmented text moves (heard_in items done)) (λ done moves. IsTextOf db.schemas text (Run statement) → IsCommand db.schemas text current current moves (heard_in items done))
+                  (λ moves so spelled. refragments refragment.0 (subst (λ (s : Statement). IsTextOf db.schemas text (Run s)) refragment.1 spelled) none none so) made.0,
+              made.1,
+            ))
             (none_or_some (view old).later);
       }
 

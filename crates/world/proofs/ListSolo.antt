@@ -11,7 +11,7 @@ use Rattle.world.specs.Listed.{FitsList, IsListed}
 use Rattle.world.specs.ListServed.{IsListServed, IsListServedOn}
 use Rattle.world.specs.Machines.{Machines, world_of}
 use Rattle.world.specs.Settled.{AreThoseOf, after_committed}
-use Rattle.world.specs.Start.{ListOpens}
+use Rattle.world.specs.Placed.{ListOpens}
 use Rattle.world.proofs.Counting.{with_counts}
 use Rattle.world.proofs.ListDelivering.{list_reached, list_served_serial}
 
@@ -28,7 +28,7 @@ pub fits_without : (db : Database) (machines : Machines) (counts : List ℕ) →
 fits_without db machines counts fit = record { names = fit.names; leaves = fit.leaves; desk = fit.desk; within = fit.within; sites = fit.sites; still = fit.still }
 
 module _ (db : Database) (listed : IsListed db) (whole : Relations) (machines : Machines) (past : List (Deed (language db))) (served : IsListServed db whole machines past) where
-  opened : (language db).Whole
+  abbrev opened : (language db).Whole
   opened = (served.version, whole)
 
   -- the committed transactions make whole relations

@@ -30,9 +30,9 @@ ghost use Rattle.world.specs.Chain.{IsLast, StandsAt, StandsLast, sites_of};
 ghost use Rattle.world.specs.Contents.{OfGiven, OfStores, counted, held, unrefused};
 ghost use Rattle.world.specs.Machines.{AreFit};
 ghost use Rattle.world.specs.Executed.{Stands};
-ghost use Rattle.world.specs.Client.{IsServed, still_open};
+ghost use Rattle.world.specs.Client.{IsServed};
 ghost use Rattle.world.specs.Settled.{AreThoseOf, after_committed, parts_kept, rows_shown};
-ghost use Rattle.world.specs.Stopping.{StopsFor, is_stop, stopped_by};
+ghost use Rattle.world.specs.Stopping.{StopsFor, is_stop};
 ghost use Rattle.world.specs.Recovery.{BeginsAnewOver, GoesOnOver, StopsOpening};
 ghost use Rattle.world.specs.Replies.{Tells};
 ghost use Rattle.world.specs.Start.{AreNew, BeginsWithoutRows};
@@ -40,11 +40,11 @@ ghost use Rattle.world.specs.declared.event.Entry.{Entry as EntryNow};
 ghost use Rattle.world.specs.declared.transaction.Stop.{Stop as StopNow};
 ghost use Rattle.world.specs.declared.transaction.Unfinished.TheVariants.{Stopped, Unstarted};
 
-use crate::autocommit::{is_stop, run_autocommit, tells_end};
+use crate::autocommit::run_autocommit;
 use crate::batch::run_all;
 use crate::chain::first_of;
 use crate::client::{begin, commit, roll_back, state};
-use crate::command::command_of;
+use crate::command::{command_of, still_open, stopped_by};
 use crate::fault::Fault;
 use crate::laws::{
     begins_anew, commands_follow, database_is_of_catalogue, grows_quiet, machines_come_up,
@@ -149,29 +149,6 @@ pub fn open_on<D: DeskStore + Drop, S: SiteStore + Drop>(
         current: None,
         stopped: None,
     })
-}
-
-/// What has stopped a client's database after a command.
-fn stopped_by<T>(done: &Result<T, Refusal>) -> Option<Refusal>
-    ensures { result ≡ stopped_by done.now }
-{
-    match done {
-        Ok(_) => None,
-        Err(refusal) => {
-            if is_stop(refusal) {
-                Some(*refusal)
-            } else {
-                None
-            }
-        }
-    }
-}
-
-/// The transaction that is open after these notices, if this one was.
-fn still_open(txn: Txn, heard: &[Notice]) -> Option<Txn>
-    ensures { result ≡ still_open (Some txn) heard.now }
-{
-    if tells_end(heard) { None } else { Some(txn) }
 }
 
 impl<D: DeskStore + Drop, S: SiteStore + Drop> Solo<D, S> {

@@ -105,7 +105,8 @@ returns-in-Err-clause-lists g c = λ txn.
     lists_counted g.D.DeskStore.is_clean g.S.SiteStore.is_clean g.D.DeskStore.is_sound g.S.SiteStore.is_sound g.D.DeskStore.kept g.S.SiteStore.kept g.D.DeskStore.refused g.S.SiteStore.refused c.args.machines.now c.begin.new.self (Err c.in-Err.refusal) (λ db. (λ done moves. IsOne (λ heard. Begins txn heard.items) call.Begin done moves × IfOk done (λ heard. heard.items ≢ [])))
     (λ db whole past listed stands clean sound served.
     let hold = held g.D.DeskStore.kept g.S.SiteStore.kept in
-    let stays = stays_held hold (Err c.in-Err.refusal) c.args.machines.now c.begin.new.self (λ m. refl) c.in-Err.ensures.err c.begin.ensures.leaves.catalog c.begin.ensures.leaves.later in
-    (makes_as db whole (hold c.begin.new.self) past (Err c.in-Err.refusal) (IsOne (λ heard. Begins txn heard.items) call.Begin) (λ done moves. IsOne (λ heard. Begins txn heard.items) call.Begin done moves × IfOk done (λ heard. heard.items ≢ [])) (λ moves is. (is, tt))
-    (refused_makes db whole (λ heard. Begins txn heard.items) call.Begin c.in-Err.refusal (hold c.args.machines.now) (hold c.begin.new.self) past c.in-Err.ensures.err served),
-    stands_as db c.args.machines.now.desk c.begin.new.self.desk stays.version stays.catalog stays.later stands))
+    let stays = stays_held hold (Err c.in-Err.refusal) c.args.machines.now c.begin.new.self (λ m. refl) c.in-Err.ensures.err c.begin.ensures.leaves.catalog c.begin.ensures.leaves.later in (
+      makes_as db whole (hold c.begin.new.self) past (Err c.in-Err.refusal) (IsOne (λ heard. Begins txn heard.items) call.Begin) (λ done moves. IsOne (λ heard. Begins txn heard.items) call.Begin done moves × IfOk done (λ heard. heard.items ≢ [])) (λ moves is. (is, tt))
+          (refused_makes db whole (λ heard. Begins txn heard.items) call.Begin c.in-Err.refusal (hold c.args.machines.now) (hold c.begin.new.self) past c.in-Err.ensures.err served),
+      stands_as db c.args.machines.now.desk c.begin.new.self.desk stays.version stays.catalog stays.later stands,
+    ))

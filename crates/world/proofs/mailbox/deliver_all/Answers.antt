@@ -29,9 +29,11 @@ loop-init g c =
       ranks = λ db of is clean sound fit. all_nine db (scene m c.of-post.result);
       lists = λ db whole past listed stands clean sound waits.
           let here = held g.D.DeskStore.kept g.S.SiteStore.kept c.args.machines.now in
-          let out = c.args.out in
-          (subst (λ (left : List Letter). ListGoes db whole here left past out.replies c.of-post.result.heard.items) (sym c.of-post.ensures.waiting)
-          (subst (λ (heard : List Notice). ListGoes db whole here out.letters past out.replies heard) (sym c.of-post.ensures.heard) (nothing_goes_list db whole here out.letters past out.replies waits)), stands);
+          let out = c.args.out in (
+            subst (λ (left : List Letter). ListGoes db whole here left past out.replies c.of-post.result.heard.items) (sym c.of-post.ensures.waiting)
+                (subst (λ (heard : List Notice). ListGoes db whole here out.letters past out.replies heard) (sym c.of-post.ensures.heard) (nothing_goes_list db whole here out.letters past out.replies waits)),
+            stands,
+          );
     }
 
 pub loop-preserved : goal.loop-preserved

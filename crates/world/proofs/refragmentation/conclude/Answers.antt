@@ -28,9 +28,11 @@ pub returns-in-Ok-clause-lists : goal.returns-in-Ok-clause-lists
 returns-in-Ok-clause-lists g c = λ some db whole past listed stands clean sound served.
     let after = counted g.D.DeskStore.kept g.S.SiteStore.kept g.D.DeskStore.refused g.S.SiteStore.refused c.decide.new.machines in
     let begun = c.in-Ok.begun in
-    let made = c.decide.ensures.lists db whole past listed stands clean sound served in
-    (makes_as db whole after past c.decide.result (λ done moves. IsDecided begun.txn begun.heard.items moves (heard_in (λ heard. heard.items) done)) (λ done moves. (txn : Txn) × (option_map (λ notice. notice.txn) (slice_get c.args.heard.items 0) ≡ Some txn) × IsDecided txn c.args.heard.items moves (heard_in (λ heard. heard.items) done))
-    (λ moves decided. (begun.txn, c.in-Ok.ensures.first, subst (λ (heard : List Notice). IsDecided begun.txn heard moves (heard_in (λ heard. heard.items) c.decide.result)) c.in-Ok.ensures.same decided)) made.0, made.1)
+    let made = c.decide.ensures.lists db whole past listed stands clean sound served in (
+      makes_as db whole after past c.decide.result (λ done moves. IsDecided begun.txn begun.heard.items moves (heard_in (λ heard. heard.items) done)) (λ done moves. (txn : Txn) × (option_map (λ notice. notice.txn) (slice_get c.args.heard.items 0) ≡ Some txn) × IsDecided txn c.args.heard.items moves (heard_in (λ heard. heard.items) done))
+          (λ moves decided. (begun.txn, c.in-Ok.ensures.first, subst (λ (heard : List Notice). IsDecided begun.txn heard moves (heard_in (λ heard. heard.items) c.decide.result)) c.in-Ok.ensures.same decided)) made.0,
+      made.1,
+    )
 
 pub returns-in-Err-clause-lists : goal.returns-in-Err-clause-lists
 returns-in-Err-clause-lists g c = λ some. absurd (some c.in-Err.ensures.none)

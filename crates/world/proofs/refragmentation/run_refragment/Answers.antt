@@ -28,13 +28,17 @@ returns-in-Ok-clause-lists g c = λ some db whole past listed stands clean sound
     let new = c.conclude.new.machines in
     let clean_mid = c.conclude.ensures.leaves.clean clean in
     let said = c.in-Ok.ensures.lists db whole past listed stands clean_mid sound served in
-    let more = c.conclude.ensures.lists said.0.is.1 db whole (past ++ said.0.deeds) listed said.1 clean (c.announce.ensures.leaves.sound clean_mid sound) said.0.served in
-    (makes_then db whole (view mid) (view new) past c.conclude.result (λ moves. (moves ≡ Refragments c.args.text.now (Ok c.in-Ok.heard.items) ∷ []) × (c.in-Ok.heard.items ≢ [])) (λ done moves. (txn : Txn) × (option_map (λ notice. notice.txn) (slice_get c.in-Ok.heard.items 0) ≡ Some txn) × IsDecided txn c.in-Ok.heard.items moves (heard_in (λ heard. heard.items) done)) (λ done moves. IsRefragmented c.args.text.now moves (heard_in (λ heard. heard.items) done))
-    (λ one two is decided. subst (λ ms. IsRefragmented c.args.text.now (ms ++ two) (heard_in (λ heard. heard.items) c.conclude.result)) (sym is.0) (refl, decided)) said.0 more.0, more.1)
+    let more = c.conclude.ensures.lists said.0.is.1 db whole (past ++ said.0.deeds) listed said.1 clean (c.announce.ensures.leaves.sound clean_mid sound) said.0.served in (
+      makes_then db whole (view mid) (view new) past c.conclude.result (λ moves. (moves ≡ Refragments c.args.text.now (Ok c.in-Ok.heard.items) ∷ []) × (c.in-Ok.heard.items ≢ [])) (λ done moves. (txn : Txn) × (option_map (λ notice. notice.txn) (slice_get c.in-Ok.heard.items 0) ≡ Some txn) × IsDecided txn c.in-Ok.heard.items moves (heard_in (λ heard. heard.items) done)) (λ done moves. IsRefragmented c.args.text.now moves (heard_in (λ heard. heard.items) done))
+          (λ one two is decided. subst (λ ms. IsRefragmented c.args.text.now (ms ++ two) (heard_in (λ heard. heard.items) c.conclude.result)) (sym is.0) (refl, decided)) said.0 more.0,
+      more.1,
+    )
 
 pub returns-in-Err-clause-lists : goal.returns-in-Err-clause-lists
 returns-in-Err-clause-lists g c = λ some db whole past listed stands clean sound served.
     let view = counted g.D.DeskStore.kept g.S.SiteStore.kept g.D.DeskStore.refused g.S.SiteStore.refused in
-    let said = c.in-Err.ensures.lists db whole past listed stands clean sound served in
-    (makes_as db whole (view c.announce.new.machines) past (Err c.in-Err.refusal) (λ done moves. (moves ≡ Refragments c.args.text.now (heard_in (λ heard. heard.items) done) ∷ []) × IfOk done (λ heard. heard.items ≢ [])) (λ done moves. IsRefragmented c.args.text.now moves (heard_in (λ heard. heard.items) done))
-    (λ moves is. subst (λ ms. IsRefragmented c.args.text.now ms (Err c.in-Err.refusal)) (sym is.0) (refl, refl)) said.0, said.1)
+    let said = c.in-Err.ensures.lists db whole past listed stands clean sound served in (
+      makes_as db whole (view c.announce.new.machines) past (Err c.in-Err.refusal) (λ done moves. (moves ≡ Refragments c.args.text.now (heard_in (λ heard. heard.items) done) ∷ []) × IfOk done (λ heard. heard.items ≢ [])) (λ done moves. IsRefragmented c.args.text.now moves (heard_in (λ heard. heard.items) done))
+          (λ moves is. subst (λ ms. IsRefragmented c.args.text.now ms (Err c.in-Err.refusal)) (sym is.0) (refl, refl)) said.0,
+      said.1,
+    )

@@ -73,8 +73,7 @@ returns-clause-lists g c = λ db whole past listed stands clean sound served.
     let schemas = of.schemas before.table.version ∙ ap schemas_of stands.here in
     let fits_here = subst (λ all. FitsSchema all after) schemas fits in
     let sites = sites_of_list db catalogue before of stands.here (fits_without db before count served.fit) in
-    let settles = settles_to db catalogue before after of base.of_catalogue stands.here fits (list_served_rebuilds db listed whole machines past served) in
-    (
+    let settles = settles_to db catalogue before after of base.of_catalogue stands.here fits (list_served_rebuilds db listed whole machines past served) in (
       rows_so db (schemas_of catalogue) c.rebuilt.result (λ shown. option_map (λ rows. rows.items) shown) after c.args.relation.now schemas (c.rebuilt.ensures.rows after clean sound sites settles fits_here),
       c.rebuilt.ensures.fails after clean sound sites settles fits_here,
     )
