@@ -49,7 +49,7 @@ as_refragment (statements.Delete delete) is = absurd (cc)
 -- a list has nothing or something
 none_or_some : {A : Type 0} (xs : List A) → (xs ≡ []) ⊎ (xs ≢ [])
 none_or_some [] = inl refl
-none_or_some (x ∷ xs) = inr (λ e. absurd (cc))
+none_or_some (x ∷ xs) = inr (λ e. cc)
 
 -- what doesn't stop the database needs no reason
 pub goes_for_any : (before after : List ℕ) (told : Refusal) → is_stop told ≡ false → StopsFor before after told

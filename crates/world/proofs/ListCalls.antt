@@ -163,7 +163,7 @@ module _ (db : Database) (whole : Relations) where
 
   -- a transaction begins, of which its client hears
   some_heard : (t : Name) (rest more : List (Name × Reply)) (heard : List Notice) → map notice_of heard ≡ ((t, Begun) ∷ rest) ++ more → heard ≢ []
-  some_heard t rest more heard is none = let e : (t, Begun) ∷ (rest ++ more) ≡ [] = sym is ∙ ap (map notice_of) none in absurd (cc)
+  some_heard t rest more heard is none = let e : (t, Begun) ∷ (rest ++ more) ≡ [] = sym is ∙ ap (map notice_of) none in cc
 
   pub begun_deeds : (before mid : Machines) (out : List letters.Letter) (notices : List Notice) → (began : ListBegun db before mid out notices) → began.leads.deeds ≡ Began (next_txn (desk_of db before.table)) ∷ []
   begun_deeds before mid out notices began =

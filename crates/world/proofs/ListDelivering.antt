@@ -36,15 +36,15 @@ use Rattle.world.proofs.Shown.{IsSilent, give_up_silent}
 use Rattle.world.proofs.Told.{comes_silent}
 
 -- ---- whatever a call answers
-pub both_ways : {T E Q R : Type 0} {P : T → Type 0} (result : Result T E) → IfOk result (λ x. P x × R) → OnErr result (Q × R) → IfOk result P × OnErr result Q × R
-both_ways (Ok x) went failed = (went.0, tt, went.1)
-both_ways (Err e) went failed = (tt, failed.0, failed.1)
+pub both_ways : {T E R : Type 0} (P : T → Type 0) (Q : Type 0) (result : Result T E) → IfOk result (λ x. P x × R) → OnErr result (Q × R) → IfOk result P × OnErr result Q × R
+both_ways P Q (Ok x) went failed = (went.0, tt, went.1)
+both_ways P Q (Err e) went failed = (tt, failed.0, failed.1)
 
-pub only_fails : {T E Q R : Type 0} {P : T → Type 0} {W : E → Type 0} (result : Result T E) → IsErrAnd result W → Q → R → IfOk result P × OnErr result Q × R
-only_fails (Ok x) none q r = absurd none
-only_fails (Err e) is q r = (tt, q, r)
+pub only_fails : {T E Q R : Type 0} (P : T → Type 0) (W : E → Type 0) (result : Result T E) → IsErrAnd result W → Q → R → IfOk result P × OnErr result Q × R
+only_fails P W (Ok x) none q r = absurd none
+only_fails P W (Err e) is q r = (tt, q, r)
 
-pub either_way : {E P Q R A B : Type 0} (result : Result (Unit {0}) E) → (A → B → P) → Q → R → OnOk result A → OnOk result B → IfOk result (λ x. P) × OnErr result Q × R
+pub either_way : {T E P Q R A B : Type 0} (result : Result T E) → (A → B → P) → Q → R → OnOk result A → OnOk result B → IfOk result (λ x. P) × OnErr result Q × R
 either_way (Ok x) went failed r a b = (went a b, tt, r)
 either_way (Err e) went failed r a b = (tt, failed, r)
 

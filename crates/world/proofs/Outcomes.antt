@@ -59,7 +59,7 @@ module _ (db : Database) (told : refusals.Refusal) (reply : Result (List Notice)
   moved_none text = refragmented_cases text reply (CommitsNone db) (λ came moves so. after came moves so)
     where
       after : (came : Result (List Notice) refusals.Refusal) (moves : List Move) → IsRefragmented text (Refragments text came ∷ moves) reply → CommitsNone db moves
-      after (Ok answered) moves so = decided_cases so.1.0 answered reply (CommitsNone db) (λ ended says. not_heard (autocommit_reply answered) says) (λ decided goes says. not_heard (autocommit_reply (answered ++ decided)) says) (λ why back goes taken says. back_none so.1.0 back taken) moves so.1.1.1
+      after (Ok answered) moves so = decided_cases so.1.0 answered reply (CommitsNone db) (λ ended says. not_heard (autocommit_reply answered) says) (λ decided goes says. not_heard (autocommit_reply (answered ++ decided)) says) (λ why back goes taken says. back_none so.1.0 back taken) moves so.1.2
       after (Err why) [] so = tt
       after (Err why) (move ∷ moves) none = absurd none
 

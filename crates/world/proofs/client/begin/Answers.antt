@@ -11,6 +11,7 @@ use Rattle.world.proofs.Calls.{one_call}
 use Rattle.world.specs.Counted.{counts}
 use Rattle.world.proofs.Refusing.{if_err}
 use Rattle.world.proofs.Stops.{limit_stops}
+use Rattle.store.specs.declared.name.Txn.{Txn}
 use Rattle.world.proofs.ListCalls.{named_makes, unnamed_makes}
 use Rattle.world.proofs.client.begin.Goals as goal
 
@@ -29,12 +30,13 @@ returns-in-Ok g c = one_call g.D.DeskStore.is_clean g.S.SiteStore.is_clean g.D.D
     c.named.ensures.full c.named.ensures.none)
     (λ db whole past listed stands clean sound served.
     let after = counted g.D.DeskStore.kept g.S.SiteStore.kept g.D.DeskStore.refused g.S.SiteStore.refused c.greet.new.machines in
-    let lists = λ txn. c.in-Ok.ensures.lists txn db whole past listed stands clean sound served in
-    (named_makes db whole (λ begun. begun.txn) (λ begun. begun.heard.items) after c.in-Ok.heard.items past c.named.result (λ txn. (lists txn).0) c.named.ensures.same c.named.ensures.none, (lists (record { life = 0; number = 0 })).1))
+    let none : Txn = record { life = 0; number = 0 } in
+    (named_makes db whole (λ begun. begun.txn) (λ begun. begun.heard.items) after c.in-Ok.heard.items past c.named.result (λ txn. (c.in-Ok.ensures.lists txn db whole past listed stands clean sound served).0) c.named.ensures.same c.named.ensures.none, (c.in-Ok.ensures.lists none db whole past listed stands clean sound served).1))
 
 pub returns-in-Err : goal.returns-in-Err
 returns-in-Err g c = one_call g.D.DeskStore.is_clean g.S.SiteStore.is_clean g.D.DeskStore.is_sound g.S.SiteStore.is_sound g.D.DeskStore.kept g.S.SiteStore.kept g.D.DeskStore.refused g.S.SiteStore.refused (λ begun. Begins begun.txn begun.heard.items) call.Begin c.args.machines.now c.greet.new.machines (Err c.in-Err.refusal) c.greet.ensures.leaves c.in-Err.ensures.blames c.greet.ensures.served (λ db of is clean sound fit. tt) c.in-Err.ensures.denied
     (λ db whole past listed stands clean sound served.
     let after = counted g.D.DeskStore.kept g.S.SiteStore.kept g.D.DeskStore.refused g.S.SiteStore.refused c.greet.new.machines in
-    let lists = c.in-Err.ensures.lists (record { life = 0; number = 0 }) db whole past listed stands clean sound served in
-    (unnamed_makes db whole (λ heard. Begins (record { life = 0; number = 0 }) heard.items) (λ begun. Begins begun.txn begun.heard.items) (λ heard. heard.items) after c.in-Err.refusal past lists.0, lists.1))
+    let none : Txn = record { life = 0; number = 0 } in
+    let lists = c.in-Err.ensures.lists none db whole past listed stands clean sound served in
+    (unnamed_makes db whole (λ heard. Begins none heard.items) (λ begun. Begins begun.txn begun.heard.items) (λ heard. heard.items) after c.in-Err.refusal past lists.0, lists.1))

@@ -101,4 +101,4 @@ pub returns-in_err-deliver_round-clause-lists : goal.returns-in_err-deliver_roun
 returns-in_err-deliver_round-clause-lists g c = λ db whole past listed stands clean sound waits.
     let so_far = c.loop.invariant.lists db whole past listed stands (c.deliver_round.ensures.leaves.clean clean) sound waits in
     let more = c.in_err-deliver_round.ensures.lists db whole (past ++ so_far.0.deeds) listed so_far.1 clean (c.loop.invariant.sound (c.deliver_round.ensures.leaves.clean clean) sound) so_far.0.served in
-    only_fails c.from_residual.result c.from_residual.ensures.1 (on_then db whole (held g.D.DeskStore.kept g.S.SiteStore.kept c.deliver_round.new.machines) past so_far.0.deeds more.1) more.2
+    only_fails _ _ c.from_residual.result c.from_residual.ensures.1 (on_then db whole (held g.D.DeskStore.kept g.S.SiteStore.kept c.deliver_round.new.machines) past so_far.0.deeds more.1) more.2

@@ -83,7 +83,7 @@ returns-in-None-clause-lists g c = λ rest db whole past listed stands clean sou
     let same = c.in-Err.ensures.err (c.give_up.ensures.leaves.clean clean) sound in
     let stands_mid = stands_as db c.args.machines.now.desk c.take.new.machines.desk stays.version stays.catalog stays.later stands in
     let fits_mid = subst (FitsList db) (sym same) waits.fit in
-    both_ways c.give_up.result
+    both_ways _ _ c.give_up.result
     (if_ok c.give_up.result (λ out asked. (turned_goes db whole listed c.args.letter (no_choice db) before mid after rest out.letters out.replies past same waits asked.0, asked.1)) (c.give_up.ensures.lists db (no_choice db) listed.base.of_catalogue stands_mid fits_mid))
     (on_err c.give_up.result (λ again still. (let_go db whole listed after (c.args.letter ∷ rest) past (waits_same db whole before after (c.args.letter ∷ rest) past (again ∙ same) waits), stands_as db c.take.new.machines.desk c.give_up.new.self.desk still.version still.catalog still.later stands_mid))
     c.give_up.ensures.err (stays_held hold c.give_up.result c.take.new.machines c.give_up.new.self (λ m. refl) c.give_up.ensures.err c.give_up.ensures.leaves.catalog c.give_up.ensures.leaves.later))

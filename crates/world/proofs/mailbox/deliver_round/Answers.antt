@@ -89,4 +89,4 @@ pub returns-in_err-deliver_next-clause-lists : goal.returns-in_err-deliver_next-
 returns-in_err-deliver_next-clause-lists g c = λ db whole past listed stands clean sound waits.
     let so_far = c.loop.invariant.lists db whole past listed stands (c.deliver_next.ensures.leaves.clean clean) sound waits in
     let more = c.in_err-deliver_next.ensures.lists db whole (past ++ so_far.0.deeds) listed so_far.1 clean (c.loop.invariant.sound (c.deliver_next.ensures.leaves.clean clean) sound) so_far.0.served in
-    only_fails c.from_residual.result c.from_residual.ensures.1 (on_then db whole (held g.D.DeskStore.kept g.S.SiteStore.kept c.deliver_next.new.machines) past so_far.0.deeds more.1) more.2
+    only_fails _ _ c.from_residual.result c.from_residual.ensures.1 (on_then db whole (held g.D.DeskStore.kept g.S.SiteStore.kept c.deliver_next.new.machines) past so_far.0.deeds more.1) more.2
