@@ -1,5 +1,5 @@
 -- Calls of one client over a list of catalogues: what was asked for and heard tells what has happened.
-use Rattle.std.proofs.Common.{◌≡◌, ◌≢◌, refl, sym, ap, ap₂, ◌∙◌, subst, ℕ, Bool, true, List, [], ◌∷◌, ◌++◌, append_assoc, map, if◌then◌else◌, inl, inr, Result, Ok, Err, IfErr, IfOk, OnErr}
+use Rattle.std.proofs.Common.{◌≡◌, ◌≢◌, refl, sym, ap, ap₂, ◌∙◌, subst, ℕ, Bool, false, true, List, [], ◌∷◌, ◌++◌, append_assoc, map, if◌then◌else◌, inl, inr, Result, Ok, Err, IfErr, IfOk, OnErr}
 use Rattle.std.proofs.lemmas.List.{append-nil}
 use Rattle.std.proofs.lemmas.List.Elements.{filter_map-append}
 use Rattle.std.proofs.lemmas.Grind.{flat_map-append}
@@ -42,6 +42,7 @@ use Rattle.world.specs.Replies.{AreStated, Shows, Tells, phased_by, text_by}
 use Rattle.world.specs.Stopping.{is_stop}
 use Rattle.world.proofs.Counting.{with_counts}
 use Rattle.world.proofs.Heard.{serial_run}
+use Rattle.world.proofs.Listing.{stands_as}
 use Rattle.world.proofs.ListDelivering.{list_served_serial, on_then}
 use Rattle.world.proofs.Shown.{commit_shows, rollback_silent, state_shows}
 use Rattle.world.proofs.Told.{tells_more}
@@ -273,3 +274,25 @@ module _ {D S : Type 0} (desk_is_clean : D → Type 0) (site_is_clean : S → Ty
   lists_counted old new result kind lists db whole past listed stands clean sound served =
       let made = lists db whole past listed stands clean sound (served_without db whole (hold old) (view old).refused past served) in
       (makes_with db whole (hold new) (view new).refused past result (kind db) made.0, made.1)
+
+  -- a call is refused, and nothing has changed
+  stands_still : (db : Database) (old new : code.Machines D S) → hold new ≡ hold old → new.desk.catalog ≡ old.desk.catalog → new.desk.later.items ≡ old.desk.later.items → StandsIn db old.desk → StandsIn db new.desk
+  stands_still db old new same catalog later stands = stands_as db old.desk new.desk (ap (λ (m : Machines). m.table.version) same) catalog later stands
+
+  pub refused_lists : {T : Type 0} (move : T → Move) (asked : calls.Call) (why : Refusal) (old new : code.Machines D S) → hold new ≡ hold old → new.desk.catalog ≡ old.desk.catalog → new.desk.later.items ≡ old.desk.later.items →
+      OverLists IsClean IsSound view old new (λ db whole past. ListMakes {T = T} db whole (view new) past (Err why) (IsOne move asked))
+  refused_lists {T} move asked why old new same catalog later = lists_counted {T = T} old new (Err why) (λ db. IsOne move asked)
+      (λ db whole past listed stands clean sound served. (refused_makes db whole move asked why (hold old) (hold new) past same served, stands_still db old new same catalog later stands))
+
+  pub unbegun_lists : {T : Type 0} (move : T → Move) (items : T → List Notice) (why : Refusal) (old new : code.Machines D S) → hold new ≡ hold old → new.desk.catalog ≡ old.desk.catalog → new.desk.later.items ≡ old.desk.later.items →
+      OverLists IsClean IsSound view old new (λ db whole past. ListMakes {T = T} db whole (view new) past (Err why) (λ done moves. IsOne move call.Begin done moves × IfOk done (λ x. items x ≢ [])))
+  unbegun_lists {T} move items why old new same catalog later = lists_counted {T = T} old new (Err why) (λ db done moves. IsOne move call.Begin done moves × IfOk done (λ x. items x ≢ []))
+      (λ db whole past listed stands clean sound served. (
+        makes_as db whole (hold new) past (Err why) (IsOne move call.Begin) (λ done moves. IsOne move call.Begin done moves × IfOk done (λ x. items x ≢ [])) (λ moves is. (is, tt)) (refused_makes db whole move call.Begin why (hold old) (hold new) past same served),
+        stands_still db old new same catalog later stands,
+      ))
+
+  pub unmoved_lists : {T : Type 0} (text : List ℕ) (items : T → List Notice) (why : Refusal) (old new : code.Machines D S) → hold new ≡ hold old → new.desk.catalog ≡ old.desk.catalog → new.desk.later.items ≡ old.desk.later.items →
+      OverLists IsClean IsSound view old new (λ db whole past. ListMakes {T = T} db whole (view new) past (Err why) (λ done moves. (moves ≡ Refragments text (heard_in items done) ∷ []) × IfOk done (λ x. items x ≢ [])))
+  unmoved_lists {T} text items why old new same catalog later = lists_counted {T = T} old new (Err why) (λ db done moves. (moves ≡ Refragments text (heard_in items done) ∷ []) × IfOk done (λ x. items x ≢ []))
+      (λ db whole past listed stands clean sound served. (unmoved_makes db whole text items why (hold old) (hold new) past same served, stands_still db old new same catalog later stands))

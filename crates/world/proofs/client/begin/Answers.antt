@@ -11,6 +11,9 @@ use Rattle.world.proofs.Calls.{one_call}
 use Rattle.world.specs.Counted.{counts}
 use Rattle.world.proofs.Refusing.{if_err}
 use Rattle.world.proofs.Stops.{limit_stops}
+use Rattle.std.specs.Global.{Vec}
+use Rattle.desk.specs.declared.reply.Notice.{Notice}
+use Rattle.world.specs.declared.client.Begun.{Begun}
 use Rattle.store.specs.declared.name.Txn.{Txn}
 use Rattle.world.proofs.ListCalls.{named_makes, unnamed_makes}
 use Rattle.world.proofs.client.begin.Goals as goal
@@ -39,4 +42,4 @@ returns-in-Err g c = one_call g.D.DeskStore.is_clean g.S.SiteStore.is_clean g.D.
     let after = counted g.D.DeskStore.kept g.S.SiteStore.kept g.D.DeskStore.refused g.S.SiteStore.refused c.greet.new.machines in
     let none : Txn = record { life = 0; number = 0 } in
     let lists = c.in-Err.ensures.lists none db whole past listed stands clean sound served in
-    (unnamed_makes db whole (λ heard. Begins none heard.items) (λ begun. Begins begun.txn begun.heard.items) (λ heard. heard.items) after c.in-Err.refusal past lists.0, lists.1))
+    (unnamed_makes db whole (λ (heard : Vec Notice). Begins none heard.items) (λ (begun : Begun). Begins begun.txn begun.heard.items) (λ (heard : Vec Notice). heard.items) after c.in-Err.refusal past lists.0, lists.1))

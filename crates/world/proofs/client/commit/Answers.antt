@@ -1,5 +1,6 @@
 -- Why `commit` meets its contract.
 use Rattle.std.proofs.Common.{rules, List, inl, Err, ◌∙◌, refl, ◌++◌, []}
+use Rattle.std.specs.Global.{Vec}
 use Rattle.protocol.specs.Desk.{Commit_call}
 use Rattle.protocol.specs.Letters.{txn_name}
 use Rattle.desk.specs.Database.{language}
@@ -21,8 +22,7 @@ use Rattle.world.proofs.Refusing.{if_err}
 use Rattle.world.proofs.Reasoned.{no_choice}
 use Rattle.world.proofs.Running.{over_of}
 use Rattle.world.proofs.Stops.{call_since}
-use Rattle.world.proofs.Listing.{stands_as, stays_held}
-use Rattle.world.proofs.ListCalls.{lists_counted, refused_makes, commit_makes}
+use Rattle.world.proofs.ListCalls.{lists_counted, refused_lists, commit_makes}
 use Rattle.world.proofs.ListDelivering.{asked_waits}
 use Rattle.world.proofs.client.commit.Goals as goal
 
@@ -92,8 +92,4 @@ returns-in-Err g c = one_call g.D.DeskStore.is_clean g.S.SiteStore.is_clean g.D.
     let old = counts g.D.DeskStore.refused g.S.SiteStore.refused c.args.machines.now in
     let new = counts g.D.DeskStore.refused g.S.SiteStore.refused c.commit.new.self in
     still_denied db (with_counts before old) (with_counts mid new) (call.Commit c.args.txn) c.in-Err.refusal fit (same_counted before mid old new c.in-Err.ensures.err (uncounted g.D.DeskStore.refused g.S.SiteStore.refused c.commit.ensures.uncalled)) (c.in-Err.ensures.told db))
-    (lists_counted g.D.DeskStore.is_clean g.S.SiteStore.is_clean g.D.DeskStore.is_sound g.S.SiteStore.is_sound g.D.DeskStore.kept g.S.SiteStore.kept g.D.DeskStore.refused g.S.SiteStore.refused c.args.machines.now c.commit.new.self (Err c.in-Err.refusal) (λ db. IsOne (λ heard. Commits c.args.txn heard.items) (call.Commit c.args.txn))
-    (λ db whole past listed stands clean sound served.
-    let hold = held g.D.DeskStore.kept g.S.SiteStore.kept in
-    let stays = stays_held hold (Err c.in-Err.refusal) c.args.machines.now c.commit.new.self (λ m. refl) c.in-Err.ensures.err c.commit.ensures.leaves.catalog c.commit.ensures.leaves.later in
-    (refused_makes db whole (λ heard. Commits c.args.txn heard.items) (call.Commit c.args.txn) c.in-Err.refusal (hold c.args.machines.now) (hold c.commit.new.self) past c.in-Err.ensures.err served, stands_as db c.args.machines.now.desk c.commit.new.self.desk stays.version stays.catalog stays.later stands)))
+    (refused_lists g.D.DeskStore.is_clean g.S.SiteStore.is_clean g.D.DeskStore.is_sound g.S.SiteStore.is_sound g.D.DeskStore.kept g.S.SiteStore.kept g.D.DeskStore.refused g.S.SiteStore.refused (λ (heard : Vec Notice). Commits c.args.txn heard.items) (call.Commit c.args.txn) c.in-Err.refusal c.args.machines.now c.commit.new.self c.in-Err.ensures.err c.commit.ensures.leaves.catalog c.commit.ensures.leaves.later)

@@ -1,5 +1,6 @@
 -- Why `greet` meets its contract.
 use Rattle.std.proofs.Common.{rules, List, inl, ◌∙◌, ◌++◌, ◌≢◌, [], refl, Err, IfOk}
+use Rattle.std.specs.Global.{Vec}
 use Rattle.desk.specs.Database.{language}
 use Rattle.desk.specs.declared.reply.Notice.{Notice}
 use Rattle.world.specs.Counted.{counts}
@@ -17,8 +18,7 @@ use Rattle.world.proofs.Refusing.{if_err}
 use Rattle.world.proofs.Running.{over_of}
 use Rattle.world.proofs.Stops.{call_since}
 use Rattle.world.specs.Course.{Begins, IsOne}
-use Rattle.world.proofs.Listing.{stands_as, stays_held}
-use Rattle.world.proofs.ListCalls.{begin_makes, lists_counted, makes_as, refused_makes}
+use Rattle.world.proofs.ListCalls.{begin_makes, lists_counted, unbegun_lists}
 use Rattle.world.proofs.ListDelivering.{begun_waits}
 use Rattle.world.proofs.client.greet.Goals as goal
 
@@ -101,12 +101,4 @@ returns-in-Ok-clause-lists g c = λ txn.
     begin_makes db whole (λ heard. Begins txn heard.items) (λ heard. heard.items) (hold c.args.machines.now) (hold c.begin.new.self) (hold c.deliver_all.new.machines) c.in-Ok.out past c.deliver_all.result (λ heard. refl) made.0 c.deliver_all.ensures.own came)
 
 pub returns-in-Err-clause-lists : goal.returns-in-Err-clause-lists
-returns-in-Err-clause-lists g c = λ txn.
-    lists_counted g.D.DeskStore.is_clean g.S.SiteStore.is_clean g.D.DeskStore.is_sound g.S.SiteStore.is_sound g.D.DeskStore.kept g.S.SiteStore.kept g.D.DeskStore.refused g.S.SiteStore.refused c.args.machines.now c.begin.new.self (Err c.in-Err.refusal) (λ db. (λ done moves. IsOne (λ heard. Begins txn heard.items) call.Begin done moves × IfOk done (λ heard. heard.items ≢ [])))
-    (λ db whole past listed stands clean sound served.
-    let hold = held g.D.DeskStore.kept g.S.SiteStore.kept in
-    let stays = stays_held hold (Err c.in-Err.refusal) c.args.machines.now c.begin.new.self (λ m. refl) c.in-Err.ensures.err c.begin.ensures.leaves.catalog c.begin.ensures.leaves.later in (
-      makes_as db whole (hold c.begin.new.self) past (Err c.in-Err.refusal) (IsOne (λ heard. Begins txn heard.items) call.Begin) (λ done moves. IsOne (λ heard. Begins txn heard.items) call.Begin done moves × IfOk done (λ heard. heard.items ≢ [])) (λ moves is. (is, tt))
-          (refused_makes db whole (λ heard. Begins txn heard.items) call.Begin c.in-Err.refusal (hold c.args.machines.now) (hold c.begin.new.self) past c.in-Err.ensures.err served),
-      stands_as db c.args.machines.now.desk c.begin.new.self.desk stays.version stays.catalog stays.later stands,
-    ))
+returns-in-Err-clause-lists g c = λ txn. unbegun_lists g.D.DeskStore.is_clean g.S.SiteStore.is_clean g.D.DeskStore.is_sound g.S.SiteStore.is_sound g.D.DeskStore.kept g.S.SiteStore.kept g.D.DeskStore.refused g.S.SiteStore.refused (λ (heard : Vec Notice). Begins txn heard.items) (λ (heard : Vec Notice). heard.items) c.in-Err.refusal c.args.machines.now c.begin.new.self c.in-Err.ensures.err c.begin.ensures.leaves.catalog c.begin.ensures.leaves.later

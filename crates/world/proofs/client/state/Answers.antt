@@ -1,5 +1,6 @@
 -- Why `state` meets its contract.
 use Rattle.std.proofs.Common.{rules, List, inl, Err, refl, ◌∙◌, ◌++◌, []}
+use Rattle.std.specs.Global.{Vec}
 use Rattle.protocol.specs.Desk.{State}
 use Rattle.protocol.specs.Letters.{txn_name}
 use Rattle.desk.specs.Database.{language}
@@ -19,8 +20,7 @@ use Rattle.world.proofs.SiteSteps.{if_ok}
 use Rattle.world.proofs.Reaching.{call_served, same_on}
 use Rattle.world.proofs.Refusing.{if_err}
 use Rattle.world.proofs.Stops.{call_since}
-use Rattle.world.proofs.Listing.{stands_as, stays_held}
-use Rattle.world.proofs.ListCalls.{lists_counted, refused_makes, state_makes}
+use Rattle.world.proofs.ListCalls.{lists_counted, refused_lists, state_makes}
 use Rattle.world.proofs.ListDelivering.{asked_waits}
 use Rattle.world.proofs.client.state.Goals as goal
 
@@ -90,8 +90,4 @@ returns-in-Err g c = one_call g.D.DeskStore.is_clean g.S.SiteStore.is_clean g.D.
     let old = counts g.D.DeskStore.refused g.S.SiteStore.refused c.args.machines.now in
     let new = counts g.D.DeskStore.refused g.S.SiteStore.refused c.statement.new.self in
     still_denied db (with_counts before old) (with_counts mid new) (call.State c.args.txn c.args.text.now) c.in-Err.refusal fit (same_counted before mid old new c.in-Err.ensures.err (uncounted g.D.DeskStore.refused g.S.SiteStore.refused c.statement.ensures.uncalled)) (c.in-Err.ensures.told db of is (fit_uncounted db before old fit)))
-    (lists_counted g.D.DeskStore.is_clean g.S.SiteStore.is_clean g.D.DeskStore.is_sound g.S.SiteStore.is_sound g.D.DeskStore.kept g.S.SiteStore.kept g.D.DeskStore.refused g.S.SiteStore.refused c.args.machines.now c.statement.new.self (Err c.in-Err.refusal) (λ db. IsOne (λ heard. States c.args.txn c.args.text.now heard.items) (call.State c.args.txn c.args.text.now))
-    (λ db whole past listed stands clean sound served.
-    let hold = held g.D.DeskStore.kept g.S.SiteStore.kept in
-    let stays = stays_held hold (Err c.in-Err.refusal) c.args.machines.now c.statement.new.self (λ m. refl) c.in-Err.ensures.err c.statement.ensures.leaves.catalog c.statement.ensures.leaves.later in
-    (refused_makes db whole (λ heard. States c.args.txn c.args.text.now heard.items) (call.State c.args.txn c.args.text.now) c.in-Err.refusal (hold c.args.machines.now) (hold c.statement.new.self) past c.in-Err.ensures.err served, stands_as db c.args.machines.now.desk c.statement.new.self.desk stays.version stays.catalog stays.later stands)))
+    (refused_lists g.D.DeskStore.is_clean g.S.SiteStore.is_clean g.D.DeskStore.is_sound g.S.SiteStore.is_sound g.D.DeskStore.kept g.S.SiteStore.kept g.D.DeskStore.refused g.S.SiteStore.refused (λ (heard : Vec Notice). States c.args.txn c.args.text.now heard.items) (call.State c.args.txn c.args.text.now) c.in-Err.refusal c.args.machines.now c.statement.new.self c.in-Err.ensures.err c.statement.ensures.leaves.catalog c.statement.ensures.leaves.later)

@@ -1,11 +1,12 @@
 -- Why `announce` meets its contract.
 use Rattle.std.proofs.Common.{◌≡◌, ◌≢◌, ◌∷◌, ◌++◌, [], refl, Err, IfOk}
+use Rattle.std.specs.Global.{Vec}
+use Rattle.desk.specs.declared.reply.Notice.{Notice}
 use Rattle.world.specs.Commands.{heard_in}
 use Rattle.world.specs.Contents.{held}
 use Rattle.world.specs.Counted.{counts}
 use Rattle.world.specs.Course.{Refragments}
-use Rattle.world.proofs.Listing.{stands_as, stays_held}
-use Rattle.world.proofs.ListCalls.{lists_counted, moved_makes, unmoved_makes}
+use Rattle.world.proofs.ListCalls.{lists_counted, moved_makes, unmoved_lists}
 use Rattle.world.proofs.ListDelivering.{moved_waits}
 use Rattle.world.proofs.Leaves.{leaves_into, leaves_so}
 use Rattle.world.proofs.Stops.{call_since}
@@ -32,9 +33,4 @@ returns-in-Ok-clause-lists g c =
     moved_makes db whole c.args.text.now (λ heard. heard.items) (hold c.args.machines.now) (hold c.refragment.new.self) (hold c.deliver_all.new.machines) c.in-Ok.out past c.deliver_all.result made.0 c.deliver_all.ensures.own came)
 
 pub returns-in-Err-clause-lists : goal.returns-in-Err-clause-lists
-returns-in-Err-clause-lists g c =
-    lists_counted g.D.DeskStore.is_clean g.S.SiteStore.is_clean g.D.DeskStore.is_sound g.S.SiteStore.is_sound g.D.DeskStore.kept g.S.SiteStore.kept g.D.DeskStore.refused g.S.SiteStore.refused c.args.machines.now c.refragment.new.self (Err c.in-Err.refusal) (λ db. (λ done moves. (moves ≡ Refragments c.args.text.now (heard_in (λ heard. heard.items) done) ∷ []) × IfOk done (λ heard. heard.items ≢ [])))
-    (λ db whole past listed stands clean sound served.
-    let hold = held g.D.DeskStore.kept g.S.SiteStore.kept in
-    let stays = stays_held hold (Err c.in-Err.refusal) c.args.machines.now c.refragment.new.self (λ m. refl) c.in-Err.ensures.err c.refragment.ensures.leaves.catalog c.refragment.ensures.leaves.later in
-    (unmoved_makes db whole c.args.text.now (λ heard. heard.items) c.in-Err.refusal (hold c.args.machines.now) (hold c.refragment.new.self) past c.in-Err.ensures.err served, stands_as db c.args.machines.now.desk c.refragment.new.self.desk stays.version stays.catalog stays.later stands))
+returns-in-Err-clause-lists g c = unmoved_lists g.D.DeskStore.is_clean g.S.SiteStore.is_clean g.D.DeskStore.is_sound g.S.SiteStore.is_sound g.D.DeskStore.kept g.S.SiteStore.kept g.D.DeskStore.refused g.S.SiteStore.refused c.args.text.now (λ (heard : Vec Notice). heard.items) c.in-Err.refusal c.args.machines.now c.refragment.new.self c.in-Err.ensures.err c.refragment.ensures.leaves.catalog c.refragment.ensures.leaves.later

@@ -2,6 +2,8 @@
 use Rattle.std.proofs.Common.{◌≡◌, ◌≢◌, ◌∷◌, ◌++◌, [], refl, sym, subst, Some, slice_get, Ok, Err, IfOk}
 use Rattle.std.specs.Option.{option_map}
 use Rattle.store.specs.declared.name.Txn.{Txn}
+use Rattle.std.specs.Global.{Vec}
+use Rattle.desk.specs.declared.reply.Notice.{Notice}
 use Rattle.world.specs.Commands.{IsDecided, IsRefragmented, heard_in}
 use Rattle.world.specs.Contents.{counted}
 use Rattle.world.specs.Counted.{counts}
@@ -38,7 +40,7 @@ pub returns-in-Err-clause-lists : goal.returns-in-Err-clause-lists
 returns-in-Err-clause-lists g c = λ some db whole past listed stands clean sound served.
     let view = counted g.D.DeskStore.kept g.S.SiteStore.kept g.D.DeskStore.refused g.S.SiteStore.refused in
     let said = c.in-Err.ensures.lists db whole past listed stands clean sound served in (
-      makes_as db whole (view c.announce.new.machines) past (Err c.in-Err.refusal) (λ done moves. (moves ≡ Refragments c.args.text.now (heard_in (λ heard. heard.items) done) ∷ []) × IfOk done (λ heard. heard.items ≢ [])) (λ done moves. IsRefragmented c.args.text.now moves (heard_in (λ heard. heard.items) done))
+      makes_as db whole {T = Vec Notice} (view c.announce.new.machines) past (Err c.in-Err.refusal) (λ done moves. (moves ≡ Refragments c.args.text.now (heard_in (λ heard. heard.items) done) ∷ []) × IfOk done (λ heard. heard.items ≢ [])) (λ done moves. IsRefragmented c.args.text.now moves (heard_in (λ heard. heard.items) done))
           (λ moves is. subst (λ ms. IsRefragmented c.args.text.now ms (Err c.in-Err.refusal)) (sym is.0) (refl, refl)) said.0,
       said.1,
     )
