@@ -25,7 +25,7 @@ use Rattle.world.specs.Mailbox.{Ask, Coming, Passed_over, Serves, Taken, To_begi
 use Rattle.world.specs.Machines.{Machines, world_of}
 use Rattle.world.specs.Client.{DoesAsk, DoesBegin, DoesState, ServedIsSerial}
 use Rattle.world.specs.Commands.{MovesFollow}
-use Rattle.world.specs.Course.{Begins, Commits, Made, Move, Moves, Refuses, Rolls_back, States, deeds_in, deeds_of, said, said_in, said_of}
+use Rattle.world.specs.Course.{Begins, Commits, Made, Move, Moves, Refragments, Refuses, Rolls_back, States, deeds_in, deeds_of, said, said_in, said_of}
 use Rattle.world.specs.Replies.{AreStated, Shows, Tells, phased_by, text_by}
 use Rattle.world.proofs.Deeds.{made_served}
 use Rattle.world.proofs.Heard.{serial_run}
@@ -139,6 +139,7 @@ module _ (db : Database) where
   move_told (Commits txn heard) before after entries past so does =
       told_more entries past so (call.Commit txn) (To_do (txn_name txn) Commit_call does.choice) before after heard does.serves (commit_shown before after txn heard does)
   move_told (Rolls_back txn heard) before after entries past so does = rollback_told before after txn heard entries past so does
+  move_told (Refragments text came) before after entries past so never = absurd never
   move_told (Refuses asked told) before after entries past so refused = none_more entries past so
 
   pub made_told : (moves : List Move) (before after : Machines) (entries : List Entry) (past : List (Deed (language db))) → Tells db entries past → (made : Made db moves before after) → Tells db (entries ++ said_in moves) (past ++ deeds_in db moves before after made)

@@ -14,7 +14,8 @@ use Rattle.world.specs.Course.{IsOne, Move, Refuses}
 use Rattle.world.specs.Frame.{ComesTo, RunsTo}
 use Rattle.world.specs.Machines.{Machines}
 use Rattle.world.specs.Stopping.{is_stop}
-use Rattle.world.proofs.Calls.{answered, as_kind, made_of, stops_as, then_too}
+use Rattle.protocol.proofs.Basics.{clash}
+use Rattle.world.proofs.Calls.{answered, as_kind, narrowed, stops_as, then_too}
 use Rattle.world.proofs.Denials.{is_memory}
 use Rattle.world.proofs.SiteSteps.{if_ok}
 
@@ -43,14 +44,11 @@ module _ {D S : Type 0} (IsClean IsSound : code.Machines D S → Type 0) (view :
       ComesTo IsClean IsSound view old new done (λ db. IsOne move asked) → GoWell old new (λ moves. moves ≡ moved asked came)
   came_of items asked move old new (Ok x) result came was heard refused is others comes =
       let same : Heard (items x) ≡ came = cc in
-      as_kind IsClean IsSound view old new (Ok x) (Ok tt) (λ none. tt) (λ db of_catalogue of made. record { moves = made.moves; made = made.made; is = made.is ∙ sym (heard x) ∙ ap (moved asked) same }) comes
+      as_kind IsClean IsSound view old new (Ok x) (Ok tt) (λ none. tt) (λ none. none) (λ db of_catalogue n of moves k. inr (k ∙ sym (heard x) ∙ ap (moved asked) same)) comes
   came_of items asked move old new (Err told) result came was heard refused is (inl stops) comes = let e : Ok came ≡ Err told = sym was ∙ stops.1 in absurd (cc)
   came_of items asked move old new (Err told) result came was heard refused is (inr goes) comes =
       let same : Refused told ≡ came = cc in
-      as_kind IsClean IsSound view old new (Err told) (Ok tt) (λ blamed. tt)
-      (λ db of_catalogue of makes.
-      let made = made_of db (view old) (view new) told (IsOne move asked) goes.0 makes in
-      record { moves = made.moves; made = made.made; is = made.is ∙ sym (refused told) ∙ ap (moved asked) same }) comes
+      as_kind IsClean IsSound view old new (Err told) (Ok tt) (λ blamed. tt) (λ stop. clash stop goes.0) (λ db of_catalogue n of moves k. inr (k ∙ sym (refused told) ∙ ap (moved asked) same)) comes
 
   -- or it stopped the database
   pub stopped_by : {T U : Type 0} (items : T → List Notice) (old new : code.Machines D S) (done : Result T Refusal) (result : Result cames.Came Refusal) (why : Refusal) (K : Database → Result T Refusal → List Move → Type 0) (M : Database → Result U Refusal → List Move → Type 0) → result ≡ Err why →
@@ -98,6 +96,10 @@ module _ {D S : Type 0} (IsClean IsSound : code.Machines D S → Type 0) (view :
       comes = then_too IsClean IsSound view old mid new tt result (λ db first rest k later. if_ok result (λ x m. so db x first rest k m) later) one two.comes;
       own = two.own;
     }
+
+  -- one is of another kind too
+  pub runs_as : {T : Type 0} (K M : Database → T → List Move → Type 0) (old new : code.Machines D S) (result : Result T Refusal) → ((db : Database) (x : T) (moves : List Move) → K db x moves → M db x moves) → RunsTo IsClean IsSound view old new result K → RunsTo IsClean IsSound view old new result M
+  runs_as K M old new result so runs = record { comes = narrowed IsClean IsSound view old new result (λ db moves k. if_ok result (λ x one. so db x moves one) k) runs.comes; own = runs.own }
 
   -- a call of such went well
   pub went_well : {T : Type 0} (kind : Database → T → List Move → Type 0) (K : List Move → Type 0) (old new : code.Machines D S) (x : T) → ((db : Database) (moves : List Move) → kind db x moves → K moves) → RunsTo IsClean IsSound view old new (Ok x) kind → GoWell old new K

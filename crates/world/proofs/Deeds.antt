@@ -16,7 +16,7 @@ use Rattle.desk.specs.declared.reply.Notice.{Notice}
 use Rattle.desk.specs.Database.{Database, language}
 use Rattle.world.specs.Mailbox.{Ask, Coming, IsStill, Passed_over, Serves, Taken, To_begin, To_do, Turned_away, all_come, asked, come, first_comes}
 use Rattle.world.specs.Client.{IsServed}
-use Rattle.world.specs.Course.{Begins, Commits, Made, Move, Moves, Refuses, Rolls_back, States, deeds_in, deeds_of}
+use Rattle.world.specs.Course.{Begins, Commits, Made, Move, Moves, Refragments, Refuses, Rolls_back, States, deeds_in, deeds_of}
 use Rattle.world.specs.Machines.{AreFit, Machines, world_of}
 use Rattle.world.proofs.Reaching.{serves_past}
 
@@ -39,6 +39,7 @@ module _ (db : Database) (whole : Relations) where
     move_served (States txn text heard) before after past served does = serves_past db law whole (To_do (txn_name txn) (State (before.table.version, does.statement)) does.asks.choice) before after heard past (refl, does.fits.stays) served does.asks.serves
     move_served (Commits txn heard) before after past served does = serves_past db law whole (To_do (txn_name txn) Commit_call does.choice) before after heard past tt served does.serves
     move_served (Rolls_back txn heard) before after past served does = serves_past db law whole (To_do (txn_name txn) Rollback does.choice) before after heard past tt served does.serves
+    move_served (Refragments text came) before after past served never = absurd never
     move_served (Refuses asked told) before after past served refused = nothing_more after past (still_served before after past served refused.1)
 
     pub made_served : (moves : List Move) (before after : Machines) (past : List (Deed (language db))) → IsServed db whole before past → (made : Made db moves before after) → IsServed db whole after (past ++ deeds_in db moves before after made)
@@ -59,6 +60,7 @@ module _ (db : Database) where
   move_fit (States txn text heard) before after does = does.asks.serves.fit
   move_fit (Commits txn heard) before after does = does.serves.fit
   move_fit (Rolls_back txn heard) before after does = does.serves.fit
+  move_fit (Refragments text came) before after never = absurd never
   move_fit (Refuses asked told) before after refused = refused.1.fit
 
   pub made_fit : (moves : List Move) (before after : Machines) → AreFit db before → Made db moves before after → AreFit db after
@@ -72,6 +74,7 @@ module _ (db : Database) where
   move_version (States txn text heard) before after does = does.asks.serves.version
   move_version (Commits txn heard) before after does = does.serves.version
   move_version (Rolls_back txn heard) before after does = does.serves.version
+  move_version (Refragments text came) before after never = absurd never
   move_version (Refuses asked told) before after refused = ap (λ (w : World (language db)). w.version) refused.1.same
 
   pub made_version : (moves : List Move) (before after : Machines) → Made db moves before after → after.table.version ≡ before.table.version
@@ -104,6 +107,7 @@ module _ (db : Database) where
   CommitsNone (States txn text heard ∷ moves) = CommitsNone moves
   CommitsNone (Commits txn heard ∷ moves) = ⊥
   CommitsNone (Rolls_back txn heard ∷ moves) = CommitsNone moves
+  CommitsNone (Refragments text came ∷ moves) = CommitsNone moves
   CommitsNone (Refuses asked told ∷ moves) = CommitsNone moves
 
   made_vainly : (moves : List Move) (before after : Machines) (made : Made db moves before after) → CommitsNone moves → AreInVain (deeds_in db moves before after made)
@@ -119,6 +123,7 @@ module _ (db : Database) where
   made_vainly (Rolls_back txn heard ∷ moves) before after made none =
       every_append (λ d. is_of_commit d ≡ false) made.1.serves.deeds (deeds_in db moves made.0 after made.2)
       (serves_vainly (To_do (txn_name txn) Rollback made.1.choice) before made.0 heard made.1.serves (rollback_vainly (world_of db before [] []) tt (txn_name txn) made.1.choice)) (made_vainly moves made.0 after made.2 none)
+  made_vainly (Refragments text came ∷ moves) before after made none = absurd made.1
   made_vainly (Refuses asked told ∷ moves) before after made none = made_vainly moves made.0 after made.2 none
 
   pub committed_none : (moves : List Move) (before after : Machines) (made : Made db moves before after) (past : List (Deed (language db))) → CommitsNone moves → committed (past ++ deeds_in db moves before after made) ≡ committed past

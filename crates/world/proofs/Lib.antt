@@ -73,4 +73,7 @@ pub mod OfChain
 pub mod Listing
 pub mod Texts
 pub mod ListRunning
+pub mod ListDelivering
+pub mod ListCalls
+pub mod ListSolo
 pub mod ListIsBase

@@ -26,8 +26,8 @@ use Rattle.desk.specs.State.{notice_of}
 use Rattle.world.specs.declared.event.Call as calls
 use Rattle.world.specs.declared.event.Call.TheVariants as call
 use Rattle.world.specs.Client.{IsServed, autocommit_reply, is_end, still_open, tells}
-use Rattle.world.specs.Commands.{CommandsFollow, Executes, IsCallOf, IsCommand, IsDecided, IsLone, IsStated, IsTakenBack, MovesFollow, Outcome, UnlessStopped, finds_no_number, has_answered, has_begun, has_committed, has_rolled_back, heard_in, is_hindered, is_misplaced, is_refragment_inside, is_too_much, is_too_much_alone}
-use Rattle.world.specs.Course.{Begins, Made, Move, Refuses, SomeHindered, States, deeds_in, said_in}
+use Rattle.world.specs.Commands.{CommandsFollow, Executes, IsCallOf, IsCommand, IsDecided, IsLone, IsRefragmented, IsStated, IsTakenBack, MovesFollow, Outcome, UnlessStopped, finds_no_number, has_answered, has_begun, has_committed, has_rolled_back, heard_in, is_hindered, is_misplaced, is_refragment_inside, is_too_much, is_too_much_alone}
+use Rattle.world.specs.Course.{Begins, Made, Move, Refragments, Refuses, SomeHindered, States, deeds_in, said_in}
 use Rattle.world.specs.Executed.{ObeysUnlessRefused, Stands}
 use Rattle.world.specs.Frame.{MakesMoves}
 use Rattle.world.specs.Machines.{Machines}
@@ -36,7 +36,7 @@ use Rattle.world.specs.Settling.{GrowsQuiet}
 use Rattle.world.proofs.Deeds.{CommitsNone, committed_none, move_served}
 use Rattle.world.proofs.Denials.{is_full, no_commit, no_rollback}
 use Rattle.world.proofs.Executed.{heard_alone, not_ended, still_there, tells_more}
-use Rattle.world.proofs.Moves.{back_cases, command_cases, decided_cases, lone_cases, stated_cases}
+use Rattle.world.proofs.Moves.{back_cases, command_cases, decided_cases, lone_cases, refragmented_cases, stated_cases}
 use Rattle.world.proofs.RoomToBegin.{numbers_run_out}
 use Rattle.world.proofs.Standing.{begun, command_stands, stands_whenever, stated}
 
@@ -55,9 +55,17 @@ module _ (db : Database) (told : refusals.Refusal) (reply : Result (List Notice)
       (λ why back taken says. back_none txn back taken))
       (λ why says. tt)
 
+  moved_none : (text : List ℕ) (moves : List Move) → IsRefragmented text moves reply → CommitsNone db moves
+  moved_none text = refragmented_cases text reply (CommitsNone db) (λ came moves so. after came moves so)
+    where
+      after : (came : Result (List Notice) refusals.Refusal) (moves : List Move) → IsRefragmented text (Refragments text came ∷ moves) reply → CommitsNone db moves
+      after (Ok answered) moves so = decided_cases so.1.0 answered reply (CommitsNone db) (λ ended says. not_heard (autocommit_reply answered) says) (λ decided goes says. not_heard (autocommit_reply (answered ++ decided)) says) (λ why back goes taken says. back_none so.1.0 back taken) moves so.1.2
+      after (Err why) [] so = tt
+      after (Err why) (move ∷ moves) none = absurd none
+
   pub refused_none : (schemas : _) (text : List ℕ) (current later : Option Txn) (moves : List Move) → IsCommand schemas text current later moves reply → CommitsNone db moves
   refused_none schemas text current later = command_cases schemas text current later reply (CommitsNone db) (λ still why says misplaced. tt) (λ txn heard of some says. tt) (λ txn given heard of still says. tt)
-      (λ txn heard of none says. not_heard heard says) (λ txn heard of none says. tt) (λ asked why of still says. tt) (λ moves statement spelled ordinary none after_none lone. lone_none text moves lone)
+      (λ txn heard of none says. not_heard heard says) (λ txn heard of none says. tt) (λ asked why of still says. tt) (λ moves statement spelled ordinary none after_none lone. lone_none text moves lone) (λ moves refragment spelled none after_none moved. moved_none text moves moved)
 
 -- ---- outcomes
 module _ (db : Database) (fits : Place → Content → Bool) (reached : ReachedLaw (language db)) (obeys : ObeysUnlessRefused db fits) (law : GrowsQuiet db fits) (one : OneCommandOfText) (whole : Relations) (text : List ℕ) (reply : Result (List Notice) refusals.Refusal) where
@@ -174,6 +182,7 @@ module _ (db : Database) (fits : Place → Content → Bool) (reached : ReachedL
         (λ txn heard is none says made. ⊎_elim (λ done. has_rolled_back txn heard says is.0 is.1 done.1) (λ hindered. is_hindered heard says (inl hindered)) (obeys.rolls_back whole before made.0 past txn heard served (as_open (Some txn) is.1) made.1))
         (λ asked told is still says made. call_refused (Refuses asked told ∷ []) made asked told says still is made.1.0)
         (λ moves statement spelled ordinary none after_none is. lone_comes statement spelled ordinary none after_none moves is)
+        (λ moves refragment spelled none after_none. refragmented_cases text reply (λ moves. (made : Made db moves before after) → Comes moves made) (λ came more is made. absurd made.1) moves)
 
 -- ---- the law
 pub commands_follow : (db : Database) (fits : Place → Content → Bool) → ReachedLaw (language db) → ObeysUnlessRefused db fits → GrowsQuiet db fits → OneCommandOfText → MovesFollow db → CommandsFollow db fits

@@ -28,7 +28,7 @@ use Rattle.world.proofs.Deeds.{move_served, still_served}
 use Rattle.world.proofs.Denials.{no_commit, no_rollback}
 use Rattle.world.proofs.Executed.{not_ended, still_there, tells_more}
 use Rattle.world.proofs.Smoothly.{ready_at}
-use Rattle.world.proofs.Moves.{back_cases, command_cases, decided_cases, lone_cases, stated_cases}
+use Rattle.world.proofs.Moves.{back_cases, command_cases, decided_cases, lone_cases, refragmented_cases, stated_cases}
 
 -- where a database stands doesn't hang on what happened before
 pub stands_whenever : (db : Database) (fits : Place → Content → Bool) (current : Option Txn) (machines : Machines) (past other : List (Deed (language db))) → Stands db fits current machines past → Stands db fits current machines other
@@ -139,3 +139,4 @@ module _ (db : Database) (fits : Place → Content → Bool) (reached : ReachedL
         (law.rolls_back whole before made.0 past (txn_name txn) does.choice heard served (as_open current (Some txn) before is.1 stands) does.serves))))
         (λ asked told is still says made. at_end past later made.0 after made.2 (as_open current later made.0 (sym still) (stands_still db fits current before made.0 past made.1.1 stands)))
         (λ moves statement spelled ordinary none after_none is made. as_open None later after (sym after_none) (lone_stands past text reply before after served (as_open current None before none stands) moves is made))
+        (λ moves refragment spelled none after_none. refragmented_cases text reply (λ moves. Made db moves before after → Stands db fits later after past) (λ came more is made. absurd made.1) moves)

@@ -1,5 +1,6 @@
 -- The commands of one client: the calls that each makes, and what it comes to.
-use Rattle.std.specs.Prelude.{◌≡◌, ◌≤◌, ◌⊎◌, ◌^◌, ℕ, Bool, suc, true, false, List, [], ◌∷◌, ◌++◌, map, Option, Some, None, Result, Ok, Err, if◌then◌else◌}
+use Rattle.std.specs.Prelude.{◌≡◌, ◌≤◌, ◌⊎◌, ◌^◌, ℕ, Bool, suc, true, false, List, [], ◌∷◌, ◌++◌, map, Option, Some, None, Result, Ok, Err, if◌then◌else◌, slice_get}
+use Rattle.std.specs.Option.{option_map}
 use Rattle.meaning.specs.declared.answer.Answer.{Answer as AnswerNow}
 use Rattle.meaning.specs.declared.schema.RelationSchema.{RelationSchema}
 use Rattle.meaning.specs.declared.statement.Refragment.{Refragment}
@@ -29,7 +30,7 @@ use Rattle.world.specs.declared.event.Call as calls
 use Rattle.world.specs.declared.event.Call.TheVariants as call
 use Rattle.world.specs.declared.event.Entry.{Entry}
 use Rattle.world.specs.Client.{DoesBegin, IsServed, autocommit_reply, is_end, tells}
-use Rattle.world.specs.Course.{Begins, Commits, Made, Move, Refuses, Rolls_back, SomeHindered, States, deeds_in, said_in}
+use Rattle.world.specs.Course.{Begins, Commits, Made, Move, Refragments, Refuses, Rolls_back, SomeHindered, States, deeds_in, said_in}
 use Rattle.world.specs.Executed.{Stands}
 use Rattle.world.specs.Machines.{Machines}
 use Rattle.world.specs.Replies.{Tells}
@@ -83,6 +84,12 @@ IsLone text (Begins txn greeted ∷ moves) reply = IsStated text txn greeted mov
 IsLone text (Refuses call.Begin refused ∷ []) reply = reply ≡ Err refused
 IsLone text other reply = ⊥
 
+-- a REFRAGMENT, which is a transaction of its own too: it begins with its statement, and is decided as others are. txn: its transaction, of which its client heard first
+abbrev pub IsRefragmented : List ℕ → List Move → Result (List Notice) refusals.Refusal → Type 0
+IsRefragmented text (Refragments stated (Ok told) ∷ moves) reply = (stated ≡ text) × ((txn : Txn) × (option_map (λ notice. notice.txn) (slice_get told 0) ≡ Some txn) × IsDecided txn told moves reply)
+IsRefragmented text (Refragments stated (Err refused) ∷ []) reply = (stated ≡ text) × (reply ≡ Err refused)
+IsRefragmented text other reply = ⊥
+
 -- ---- any command. current, later: the transaction that is open before and after it
 -- it is refused at once, and makes no call: the text is no command's, BEGIN comes inside a transaction, REFRAGMENT where no catalogue is next, or COMMIT or ROLLBACK outside one
 pub data IsMisplaced (schemas : List RelationSchema) (text : List ℕ) (current : Option Txn) (told : refusals.Refusal) : Type 0 where
@@ -100,7 +107,7 @@ IsCallOf schemas text current (call.Rollback txn) = IsTextOf schemas text comman
 IsCallOf schemas text current (call.GiveUp txn) = ⊥
 IsCallOf schemas text current (call.Refragment asked) = ⊥
 
--- the moves of a command, and its reply: it makes none; it makes this call, and its client hears what is told of it, or why it is refused; or it is a lone statement
+-- the moves of a command, and its reply: it makes none; it makes this call, and its client hears what is told of it, or why it is refused; or it is a lone statement, or a REFRAGMENT
 pub data IsCommand (schemas : List RelationSchema) (text : List ℕ) (current later : Option Txn) (moves : List Move) (reply : Result (List Notice) refusals.Refusal) : Type 0 where
   makes_none : (told : refusals.Refusal) → moves ≡ [] → IsMisplaced schemas text current told → later ≡ current → reply ≡ Err told → IsCommand schemas text current later moves reply
   only_begins : (txn : Txn) (heard : List Notice) → moves ≡ Begins txn heard ∷ [] → IsCallOf schemas text current call.Begin → later ≡ Some txn → reply ≡ Ok heard → IsCommand schemas text current later moves reply
@@ -109,6 +116,7 @@ pub data IsCommand (schemas : List RelationSchema) (text : List ℕ) (current la
   only_rolls_back : (txn : Txn) (heard : List Notice) → moves ≡ Rolls_back txn heard ∷ [] → IsCallOf schemas text current (call.Rollback txn) → later ≡ None → reply ≡ Ok heard → IsCommand schemas text current later moves reply
   is_turned_down : (asked : calls.Call) (told : refusals.Refusal) → moves ≡ Refuses asked told ∷ [] → IsCallOf schemas text current asked → later ≡ current → reply ≡ Err told → IsCommand schemas text current later moves reply
   is_lone : (statement : Statement) → IsTextOf schemas text (command.Run statement) → is_refragment statement ≡ false → current ≡ None → later ≡ None → IsLone text moves reply → IsCommand schemas text current later moves reply
+  refragments : (refragment : Refragment) → IsTextOf schemas text (command.Run (statements.Refragment refragment)) → current ≡ None → later ≡ None → IsRefragmented text moves reply → IsCommand schemas text current later moves reply
 
 -- ---- what a command comes to, where the database stands
 -- its transaction has begun, is committed, is rolled back, or its statement is answered, and its client hears so; or something was refused on the way; or it is refused:

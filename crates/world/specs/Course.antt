@@ -21,6 +21,7 @@ pub data Move : Type 0 where
   States : (txn : Txn) (text : List ℕ) (heard : List Notice) → Move
   Commits : (txn : Txn) (heard : List Notice) → Move
   Rolls_back : (txn : Txn) (heard : List Notice) → Move
+  Refragments : (text : List ℕ) (came : Result (List Notice) Refusal) → Move
   Refuses : (asked : calls.Call) (told : Refusal) → Move
 
 -- the one move of a call, by what it answers
@@ -38,6 +39,8 @@ said_of (Begins txn heard) = said call.Begin heard ∷ []
 said_of (States txn text heard) = said (call.State txn text) heard ∷ []
 said_of (Commits txn heard) = said (call.Commit txn) heard ∷ []
 said_of (Rolls_back txn heard) = said (call.Rollback txn) heard ∷ []
+said_of (Refragments text (Ok heard)) = said (call.Refragment text) heard ∷ []
+said_of (Refragments text (Err told)) = []
 said_of (Refuses asked told) = []
 
 abbrev pub said_in : List Move → List Entry
@@ -46,12 +49,13 @@ said_in (move ∷ moves) = said_of move ++ said_in moves
 
 -- ---- the machines
 module _ (db : Database) where
-  -- a move leads from one state of the machines to another; where a call is refused nothing has been done
+  -- a move leads from one state of the machines to another; where a call is refused nothing has been done. Where no catalogue comes later none is asked to give a relation another split
   abbrev pub Moves : Move → Machines → Machines → Type 0
   Moves (Begins txn heard) before after = DoesBegin db before txn after heard
   Moves (States txn text heard) before after = DoesState db text txn before after heard
   Moves (Commits txn heard) before after = DoesAsk db Commit_call txn before after heard
   Moves (Rolls_back txn heard) before after = DoesAsk db Rollback txn before after heard
+  Moves (Refragments text came) before after = ⊥
   Moves (Refuses asked told) before after = IsRefused db before.later before.table asked told × IsStill db before after
 
   -- a call is refused: memory ran out or a store failed, which stops the database, or as the coordinator refuses it, and then nothing has been done
@@ -69,6 +73,7 @@ module _ (db : Database) where
   deeds_of (States txn text heard) before after does = does.asks.serves.deeds
   deeds_of (Commits txn heard) before after does = does.serves.deeds
   deeds_of (Rolls_back txn heard) before after does = does.serves.deeds
+  deeds_of (Refragments text came) before after never = []
   deeds_of (Refuses asked told) before after refused = []
 
   abbrev pub deeds_in : (moves : List Move) (before after : Machines) → Made moves before after → List (Deed (language db))
@@ -81,6 +86,7 @@ module _ (db : Database) where
   IsHindered (States txn text heard) before after past does = WasHindered past does.asks.serves
   IsHindered (Commits txn heard) before after past does = WasHindered past does.serves
   IsHindered (Rolls_back txn heard) before after past does = WasHindered past does.serves
+  IsHindered (Refragments text came) before after past never = ⊥
   IsHindered (Refuses asked told) before after past refused = ⊥
 
   -- so of one of these moves

@@ -1,5 +1,5 @@
 -- What a call leaves of the machines of a database, and of what its clauses speak.
-use Rattle.std.specs.Prelude.{◌≡◌, ◌≤◌, ◌⊎◌, ℕ, true, List, [], map, Result, Ok, Err, IfErr, IfOk, OnErr}
+use Rattle.std.specs.Prelude.{◌≡◌, ◌≤◌, ◌⊎◌, ◌∷◌, ℕ, true, List, [], map, Result, Ok, Err, IfErr, IfOk, OnErr}
 use Rattle.std.specs.List.{AllByRecursion, AllZip}
 use Rattle.meaning.specs.Whole.{Relations}
 use Rattle.protocol.specs.Client.{ReachedLaw}
@@ -10,11 +10,15 @@ use Rattle.desk.specs.OfCatalogue.{InForce, IsOfCatalogue}
 use Rattle.world.specs.declared.machines.Machines as code
 use Rattle.site.specs.declared.site.Site.{Site}
 use Rattle.desk.specs.declared.refusal.Refusal.{Refusal}
+use Rattle.desk.specs.declared.reply.Notice.{Notice}
+use Rattle.store.specs.declared.letter.Letter as letters
 use Rattle.world.specs.Counted.{NoFewer, counts, counts_of}
 use Rattle.world.specs.Contents.{OfStores}
 use Rattle.world.specs.Machines.{AreFit, Machines}
 use Rattle.world.specs.Client.{IsServed, IsServedOn}
 use Rattle.world.specs.Course.{Made, Move}
+use Rattle.world.specs.ListServed.{IsListServed, IsListServedOn, IsListWaiting, ListGoes, ListMade}
+use Rattle.world.specs.Listed.{IsListed, StandsIn}
 use Rattle.world.specs.Stopping.{StopsFor, is_stop}
 
 -- the catalogue in force stays so, where none comes after it. later: those that come after it
@@ -87,8 +91,24 @@ abbrev pub MakesMoves : {T : Type 0} → Database → Machines → Machines → 
 MakesMoves db before after (Ok x) kind = HasMade db before after (kind (Ok x))
 MakesMoves db before after (Err told) kind = (is_stop told ≡ true) ⊎ HasMade db before after (kind (Err told))
 
+-- ---- over a list of catalogues, of which another one may come into force
+-- something holds of each database in whose list the machines stand and that had served one client, with what had happened; and they stand in it after the call
+abbrev pub OverLists : {D S : Type 0} → (code.Machines D S → Type 0) → (code.Machines D S → Type 0) → (code.Machines D S → Machines) → code.Machines D S → code.Machines D S → ((db : Database) → Relations → List (Deed (language db)) → Type 0) → Type 0
+OverLists clean sound view old new P = (db : Database) (whole : Relations) (past : List (Deed (language db))) → IsListed db → StandsIn db old.desk → clean new → sound old → IsListServed db whole (view old) past → P db whole past × StandsIn db new.desk
+
+-- moves of this kind are made by a call that answers this, unless it stops the database: then more was done, and of what was heard nothing is said
+abbrev pub ListMakes : {T : Type 0} → (db : Database) → Relations → Machines → List (Deed (language db)) → Result T Refusal → (Result T Refusal → List Move → Type 0) → Type 0
+ListMakes db whole machines past (Ok x) kind = ListMade db whole machines past (kind (Ok x))
+ListMakes db whole machines past (Err told) kind = ((is_stop told ≡ true) × IsListServedOn db whole machines past) ⊎ ListMade db whole machines past (kind (Err told))
+
+-- letters come: those that waited before, and left after the call, by what it answers; was, now: what the client had heard before and has heard since. Where the call fails, letters may be let go
+abbrev pub ListDelivers : {D S T : Type 0} → (code.Machines D S → Type 0) → (code.Machines D S → Type 0) → (code.Machines D S → Machines) → code.Machines D S → code.Machines D S → Result T Refusal → (waited : List letters.Letter) → (left : T → List letters.Letter) → (was : List Notice) → (now : T → List Notice) → Type 0
+ListDelivers clean sound view old new result waited left was now = (db : Database) (whole : Relations) (past : List (Deed (language db))) → IsListed db → StandsIn db old.desk → clean new → sound old → IsListWaiting db whole (view old) waited past
+    → IfOk result (λ x. ListGoes db whole (view new) (left x) past was (now x)) × OnErr result (IsListServedOn db whole (view new) past) × StandsIn db new.desk
+
+-- ---- calls of one client
 -- What a call makes of the machines that serve one client: what it leaves of their stores, that it stops the database for a reason, that it is served on whatever
--- was refused, and which moves it makes. view: the machines as the protocol sees them, with how often media have refused; kind: which moves these are, by what is answered
+-- was refused, and which moves it makes, where no catalogue comes later and over lists. view: the machines as the protocol sees them, with how often media have refused; kind: which moves these are, by what is answered
 pub record ComesTo {D S T : Type 0} (IsClean IsSound : code.Machines D S → Type 0) (view : code.Machines D S → Machines) (old new : code.Machines D S) (result : Result T Refusal) (kind : Database → Result T Refusal → List Move → Type 0) : Type 0 where
   pub clean : IsClean new → IsClean old
   pub sound : IsClean new → IsSound old → IsSound new
@@ -97,6 +117,7 @@ pub record ComesTo {D S T : Type 0} (IsClean IsSound : code.Machines D S → Typ
   pub blames : IsClean new → IsSound old → IfErr result (StopsFor (view old).refused (view new).refused)
   pub served : StaysServed IsClean IsSound view old new
   pub moves : OverDatabase IsClean IsSound view old new (λ db before after. MakesMoves db before after result (kind db))
+  pub lists : OverLists IsClean IsSound view old new (λ db whole past. ListMakes db whole (view new) past result (kind db))
 
 -- so a call that is refused only where it stops the database. kind: which moves these are, by its result
 pub record RunsTo {D S T : Type 0} (IsClean IsSound : code.Machines D S → Type 0) (view : code.Machines D S → Machines) (old new : code.Machines D S) (result : Result T Refusal) (kind : Database → T → List Move → Type 0) : Type 0 where

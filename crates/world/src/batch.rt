@@ -1,6 +1,6 @@
 //! Transactions that a client hands over, one after another.
 
-ghost use Rattle.std.specs.Prelude.{◌≡◌, ◌⊎◌, ◌<◌, ◌++◌, ◌∷◌, ℕ, vec_len, vec_capacity, List, Bool, [], true, false, map, Err, Ok, IfErr, IfOk, OnOk};
+ghost use Rattle.std.specs.Prelude.{◌≡◌, ◌⊎◌, ◌<◌, ◌++◌, ◌∷◌, ℕ, vec_len, vec_capacity, List, Bool, [], true, false, map, Err, Ok, IfErr, IfOk, OnErr, OnOk};
 ghost use Rattle.protocol.specs.Client.{ReachedLaw};
 ghost use Rattle.desk.specs.Database.{language};
 ghost use Rattle.desk.specs.declared.refusal.Refusal.TheVariants as refusals;
@@ -10,7 +10,8 @@ ghost use Rattle.world.specs.declared.transaction.End.TheVariants as end;
 ghost use Rattle.world.specs.declared.transaction.Came.TheVariants.{Heard, Refused};
 ghost use Rattle.world.specs.Batch.{Makes, MakesMore, RunsAll, RunsOne, StopsAt, calls_of, calls_of_end, has_ended};
 ghost use Rattle.world.specs.Counted.{counts};
-ghost use Rattle.world.specs.Frame.{HasMade, LeavesDatabase, OverDatabase, RunsTo, StaysServed};
+ghost use Rattle.world.specs.Frame.{HasMade, LeavesDatabase, OverDatabase, OverLists, RunsTo, StaysServed};
+ghost use Rattle.world.specs.ListServed.{IsListServedOn, ListMade};
 ghost use Rattle.world.specs.Contents.{OfStores, counted};
 ghost use Rattle.world.specs.Stopping.{StopsFor, is_stop};
 
@@ -219,6 +220,8 @@ pub(crate) fn run_all<D: DeskStore, S: SiteStore>(
         (λ db before after. IfOk result (λ outcomes. HasMade db before after (RunsAll transactions.now outcomes.items))) }
     ensures stops { OverDatabase (OfStores D.is_clean S.is_clean) (OfStores D.is_sound S.is_sound) (counted D.kept S.kept D.refused S.refused) machines.old machines.new
         (λ db before after. ReachedLaw (language db) → IfErr result (λ stop. StopsAt db transactions.now stop.done before after)) }
+    ensures lists { OverLists (OfStores D.is_clean S.is_clean) (OfStores D.is_sound S.is_sound) (counted D.kept S.kept D.refused S.refused) machines.old machines.new
+        (λ db whole past. IfOk result (λ outcomes. ListMade db whole (counted D.kept S.kept D.refused S.refused machines.new) past (RunsAll transactions.now outcomes.items)) × OnErr result (IsListServedOn db whole (counted D.kept S.kept D.refused S.refused machines.new) past)) }
     ensures served { StaysServed (OfStores D.is_clean S.is_clean) (OfStores D.is_sound S.is_sound) (counted D.kept S.kept D.refused S.refused) machines.old machines.new }
 {
     let mut outcomes = Vec::new(machines.alloc);

@@ -1,13 +1,14 @@
 //! Calls of one client, each with all letters that it brings about.
 
-ghost use Rattle.std.specs.Prelude.{◌≡◌, [], Some, slice_get, IfErr, IfOk, OnErr};
+ghost use Rattle.std.specs.Prelude.{◌≡◌, ◌≢◌, [], Some, slice_get, IfErr, IfOk, OnErr};
 ghost use Rattle.std.specs.Option.{option_map};
 ghost use Rattle.desk.specs.declared.refusal.Refusal.TheVariants as refusals;
 ghost use Rattle.world.specs.declared.event.Call.TheVariants as call;
 ghost use Rattle.world.specs.Counted.{counts};
 ghost use Rattle.world.specs.Course.{Begins, Commits, IsOne, IsTurnedDown, Rolls_back, States};
 ghost use Rattle.world.specs.Mailbox.{Serves, To_begin};
-ghost use Rattle.world.specs.Frame.{Blames, ComesTo, LeavesDatabase, OverDatabase, StaysServed};
+ghost use Rattle.world.specs.Frame.{Blames, ComesTo, LeavesDatabase, ListMakes, OverDatabase, OverLists, StaysServed};
+ghost use Rattle.store.specs.declared.name.Txn.{Txn as TxnNow};
 ghost use Rattle.world.specs.Contents.{OfStores, counted};
 
 use crate::machines::Machines;
@@ -49,6 +50,8 @@ fn greet<D: DeskStore, S: SiteStore>(machines: &mut Machines<D, S>) -> Result<Ve
         (λ db before after. IfOk result (λ heard. Serves db To_begin before after heard.items)) }
     ensures denied { OverDatabase (OfStores D.is_clean S.is_clean) (OfStores D.is_sound S.is_sound) (counted D.kept S.kept D.refused S.refused) machines.old machines.new
         (λ db before after. IfErr result (IsTurnedDown db call.Begin before after)) }
+    ensures lists { (txn : TxnNow) → OverLists (OfStores D.is_clean S.is_clean) (OfStores D.is_sound S.is_sound) (counted D.kept S.kept D.refused S.refused) machines.old machines.new
+        (λ db whole past. ListMakes db whole (counted D.kept S.kept D.refused S.refused machines.new) past result (λ done moves. IsOne (λ heard. Begins txn heard.items) call.Begin done moves × IfOk done (λ heard. heard.items ≢ []))) }
     ensures served { StaysServed (OfStores D.is_clean S.is_clean) (OfStores D.is_sound S.is_sound) (counted D.kept S.kept D.refused S.refused) machines.old machines.new }
 {
     match machines.begin() {

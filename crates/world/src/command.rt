@@ -1,18 +1,23 @@
-//! The command of a text.
+//! The command of a text, and what is open or has stopped after it.
 
-ghost use Rattle.std.specs.Prelude.{◌≡◌, ◌≢◌, ◌⊎◌, IfErr, IfOk};
+ghost use Rattle.std.specs.Prelude.{◌≡◌, ◌≢◌, ◌⊎◌, IfErr, IfOk, Some};
 ghost use Rattle.catalog.specs.FragmentLeaf.{schemas_of};
 ghost use Rattle.catalog.specs.Relation.{catalogue_of};
 ghost use Rattle.reader.specs.Command.{IsTextOf};
 ghost use Rattle.desk.specs.declared.refusal.Refusal.TheVariants as refusals;
+ghost use Rattle.world.specs.Client.{still_open};
 ghost use Rattle.world.specs.Commands.{IsUnreadable};
+ghost use Rattle.world.specs.Stopping.{stopped_by};
 
+use crate::autocommit::{is_stop, tells_end};
 use catalog::catalogue::Catalog;
 use desk::refusal::Refusal;
+use desk::reply::Notice;
 use reader::command::Command;
 use reader::fault::{ReadFault, Rule};
 use reader::read::read;
 use std::alloc::Global;
+use store::name::Txn;
 
 /// What the reader says of a text.
 fn reader_refusal(fault: ReadFault) -> Refusal
@@ -34,4 +39,27 @@ pub fn command_of(alloc: Global, catalog: &Catalog, text: &str) -> Result<Comman
         Ok(command) => Ok(command),
         Err(fault) => Err(reader_refusal(fault)),
     }
+}
+
+/// What has stopped a client's database after a command.
+pub(crate) fn stopped_by<T>(done: &Result<T, Refusal>) -> Option<Refusal>
+    ensures { result ≡ stopped_by done.now }
+{
+    match done {
+        Ok(_) => None,
+        Err(refusal) => {
+            if is_stop(refusal) {
+                Some(*refusal)
+            } else {
+                None
+            }
+        }
+    }
+}
+
+/// The transaction that is open after these notices, if this one was.
+pub(crate) fn still_open(txn: Txn, heard: &[Notice]) -> Option<Txn>
+    ensures { result ≡ still_open (Some txn) heard.now }
+{
+    if tells_end(heard) { None } else { Some(txn) }
 }

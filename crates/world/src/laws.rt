@@ -25,6 +25,7 @@ ghost use Rattle.world.specs.Commands.{CommandsFollow, MovesFollow};
 ghost use Rattle.world.specs.Executed.{ObeysUnlessRefused};
 ghost use Rattle.world.specs.Recovery.{BeginsAnewLaw, ComingUpLaw};
 ghost use Rattle.world.specs.Listed.{IsListed};
+ghost use Rattle.world.specs.ListServed.{ListHeardIsSerial, ListServedIsSerial};
 ghost use Rattle.world.specs.Runs.{ListRunsAreSerial, RunsAreSerial, RunsHold};
 ghost use Rattle.world.specs.Client.{ServedIsSerial};
 ghost use Rattle.world.specs.Settling.{GrowsQuiet};
@@ -101,6 +102,12 @@ pub fn chain_is_listed(chain: &Chain)
 /// The serial law of each lawful list of catalogues, of the machines at hand: after each run of them, whichever catalogue comes into force.
 pub fn list_runs_are_serial()
     ensures { (db : Database) → IsListed db → ListRunsAreSerial db }
+{}
+
+/// So of a client's database over such a list, and by what its client asked for and heard.
+pub fn list_served_is_serial()
+    ensures serial { (db : Database) → IsListed db → ListServedIsSerial db }
+    ensures heard { (db : Database) → IsListed db → ListHeardIsSerial db }
 {}
 
 /// And the serial law holds of their list: the committed transactions, ordinary ones and REFRAGMENTs, give the answers that were given and,

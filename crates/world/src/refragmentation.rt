@@ -1,10 +1,14 @@
 //! A relation gets the split that the next catalogue has for it, in a transaction of its own.
 
-ghost use Rattle.std.specs.Prelude.{◌≡◌, [], Err};
+ghost use Rattle.std.specs.Prelude.{◌≡◌, ◌≢◌, ◌∷◌, [], Err, IfOk, Some, slice_get};
+ghost use Rattle.std.specs.Option.{option_map};
+ghost use Rattle.store.specs.declared.name.Txn.{Txn as TxnNow};
+ghost use Rattle.world.specs.Commands.{IsDecided, IsRefragmented, heard_in};
+ghost use Rattle.world.specs.Course.{Refragments};
 ghost use Rattle.desk.specs.declared.refusal.Refusal.TheVariants as refusals;
-ghost use Rattle.world.specs.Contents.{OfStores};
+ghost use Rattle.world.specs.Contents.{OfStores, counted};
 ghost use Rattle.world.specs.Counted.{counts};
-ghost use Rattle.world.specs.Frame.{Blames, LeavesDatabase};
+ghost use Rattle.world.specs.Frame.{Blames, LeavesDatabase, ListMakes, OverLists};
 
 use crate::autocommit::decide;
 use crate::client::named;
@@ -22,6 +26,8 @@ fn announce<D: DeskStore, S: SiteStore>(
 ) -> Result<Vec<Notice>, Refusal>
     ensures leaves { LeavesDatabase D.is_clean S.is_clean D.is_sound S.is_sound D.refused S.refused machines.old machines.new }
     ensures blames { Blames (OfStores D.is_clean S.is_clean) (OfStores D.is_sound S.is_sound) (counts D.refused S.refused) machines.old machines.new result }
+    ensures lists { OverLists (OfStores D.is_clean S.is_clean) (OfStores D.is_sound S.is_sound) (counted D.kept S.kept D.refused S.refused) machines.old machines.new
+        (λ db whole past. ListMakes db whole (counted D.kept S.kept D.refused S.refused machines.new) past result (λ done moves. (moves ≡ Refragments text.now (heard_in (λ heard. heard.items) done) ∷ []) × IfOk done (λ heard. heard.items ≢ []))) }
 {
     match machines.refragment(text) {
         Ok(out) => deliver_all(machines, out),
@@ -36,6 +42,8 @@ fn conclude<D: DeskStore, S: SiteStore>(
 ) -> Result<Vec<Notice>, Refusal>
     ensures leaves { LeavesDatabase D.is_clean S.is_clean D.is_sound S.is_sound D.refused S.refused machines.old machines.new }
     ensures blames { Blames (OfStores D.is_clean S.is_clean) (OfStores D.is_sound S.is_sound) (counts D.refused S.refused) machines.old machines.new result }
+    ensures lists { heard.items ≢ [] → OverLists (OfStores D.is_clean S.is_clean) (OfStores D.is_sound S.is_sound) (counted D.kept S.kept D.refused S.refused) machines.old machines.new
+        (λ db whole past. ListMakes db whole (counted D.kept S.kept D.refused S.refused machines.new) past result (λ done moves. (txn : TxnNow) × (option_map (λ notice. notice.txn) (slice_get heard.items 0) ≡ Some txn) × IsDecided txn heard.items moves (heard_in (λ heard. heard.items) done))) }
 {
     match named(heard) {
         Ok(begun) => decide(machines, begun.txn, begun.heard),
@@ -52,6 +60,8 @@ pub(crate) fn run_refragment<D: DeskStore, S: SiteStore>(
     ensures none { machines.old.desk.later.items ≡ [] → (result ≡ Err refusals.NoNext) × (machines.new ≡ machines.old) }
     ensures leaves { LeavesDatabase D.is_clean S.is_clean D.is_sound S.is_sound D.refused S.refused machines.old machines.new }
     ensures blames { Blames (OfStores D.is_clean S.is_clean) (OfStores D.is_sound S.is_sound) (counts D.refused S.refused) machines.old machines.new result }
+    ensures lists { machines.old.desk.later.items ≢ [] → OverLists (OfStores D.is_clean S.is_clean) (OfStores D.is_sound S.is_sound) (counted D.kept S.kept D.refused S.refused) machines.old machines.new
+        (λ db whole past. ListMakes db whole (counted D.kept S.kept D.refused S.refused machines.new) past result (λ done moves. IsRefragmented text.now moves (heard_in (λ heard. heard.items) done))) }
 {
     if machines.desk.later().is_empty() {
         return Err(Refusal::NoNext);

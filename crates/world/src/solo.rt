@@ -14,22 +14,25 @@ ghost use Rattle.reader.specs.Command.{IsTextOf};
 ghost use Rattle.protocol.specs.Desk.{Deed};
 ghost use Rattle.store.specs.PlainDesk.{kept_of as desk_kept};
 ghost use Rattle.store.specs.PlainSite.{IsSound, kept_of};
-ghost use Rattle.desk.specs.Database.{language};
+ghost use Rattle.desk.specs.Database.{Database, language};
 ghost use Rattle.desk.specs.declared.refusal.Refusal.{Refusal as RefusalNow};
 ghost use Rattle.desk.specs.declared.refusal.Refusal.TheVariants as refusals;
 ghost use Rattle.world.specs.declared.fault.Fault.TheVariants as faults;
-ghost use Rattle.desk.specs.CatalogueDatabase.{database, fits};
+ghost use Rattle.desk.specs.CatalogueDatabase.{database, databases, fits};
 ghost use Rattle.world.specs.Counted.{counts};
 ghost use Rattle.world.specs.BatchRuns.{HasRun, WasStopped};
 ghost use Rattle.world.specs.Fault.{FailsFor, is_memory};
-ghost use Rattle.world.specs.Frame.{ComesTo, LeavesDatabase, LeavesMachines, StaysAsItIs};
+ghost use Rattle.world.specs.Frame.{ComesTo, LeavesDatabase, LeavesMachines, ListMakes, OverLists, StaysAsItIs};
+ghost use Rattle.world.specs.Batch.{RunsAll};
+ghost use Rattle.world.specs.Listed.{FitsList, IsListed, StandsIn};
+ghost use Rattle.world.specs.ListServed.{IsListServed, IsListServedOn, ListMade};
 ghost use Rattle.world.specs.Chain.{IsLast, StandsAt, StandsLast, sites_of};
 ghost use Rattle.world.specs.Contents.{OfGiven, OfStores, counted, held, unrefused};
 ghost use Rattle.world.specs.Machines.{AreFit};
 ghost use Rattle.world.specs.Executed.{Stands};
-ghost use Rattle.world.specs.Client.{IsServed, still_open};
+ghost use Rattle.world.specs.Client.{IsServed};
 ghost use Rattle.world.specs.Settled.{AreThoseOf, after_committed, parts_kept, rows_shown};
-ghost use Rattle.world.specs.Stopping.{StopsFor, is_stop, stopped_by};
+ghost use Rattle.world.specs.Stopping.{StopsFor, is_stop};
 ghost use Rattle.world.specs.Recovery.{BeginsAnewOver, GoesOnOver, StopsOpening};
 ghost use Rattle.world.specs.Replies.{Tells};
 ghost use Rattle.world.specs.Start.{AreNew, BeginsWithoutRows};
@@ -37,11 +40,11 @@ ghost use Rattle.world.specs.declared.event.Entry.{Entry as EntryNow};
 ghost use Rattle.world.specs.declared.transaction.Stop.{Stop as StopNow};
 ghost use Rattle.world.specs.declared.transaction.Unfinished.TheVariants.{Stopped, Unstarted};
 
-use crate::autocommit::{is_stop, run_autocommit, tells_end};
+use crate::autocommit::run_autocommit;
 use crate::batch::run_all;
 use crate::chain::first_of;
 use crate::client::{begin, commit, roll_back, state};
-use crate::command::command_of;
+use crate::command::{command_of, still_open, stopped_by};
 use crate::fault::Fault;
 use crate::laws::{
     begins_anew, commands_follow, database_is_of_catalogue, grows_quiet, machines_come_up,
@@ -87,7 +90,8 @@ pub struct Solo<D: DeskStore, S: SiteStore> {
 }
 
 /// A database over lists is opened, under the first catalogue of a chain: the fragments rebuild these whole relations. Only want of
-/// memory is a fault. Of one client's database the clauses here and below speak where no catalogue comes later.
+/// memory is a fault. Of one client's database the clauses `lists` speak of every chain, here and below, and
+/// the others where no catalogue comes later.
 pub fn open(
     alloc: Global,
     chain: &Chain,
@@ -97,6 +101,8 @@ pub fn open(
         → IfOk result (λ solo. IsLast catalogue solo.machines.desk → IsServed (database catalogue) whole.now (unrefused desk_kept kept_of solo.machines) []) }
     ensures stands { (catalogue : Catalogue) → FitsSchema (schemas_of catalogue) whole.now
         → IfOk result (λ solo. IsLast catalogue solo.machines.desk → Stands (database catalogue) (fits catalogue) solo.current (unrefused desk_kept kept_of solo.machines) []) }
+    ensures lists { (first : Catalogue) (rest : List Catalogue) → map catalogue_of chain.now ≡ first ∷ rest → FitsSchema (schemas_of first) whole.now
+        → IfOk result (λ solo. IsListServed (databases first rest) whole.now (unrefused desk_kept kept_of solo.machines) [] × StandsIn (databases first rest) solo.machines.desk) }
     ensures catalogs { IfOk result (λ solo. StandsAt 1 (map catalogue_of chain.now) solo.machines.desk) }
     ensures single { (catalogue : Catalogue) → map catalogue_of chain.now ≡ catalogue ∷ [] → IfOk result (λ solo. IsLast catalogue solo.machines.desk) }
     ensures sound { IfOk result (λ solo. OfStores (λ _. Unit {0}) IsSound solo.machines) }
@@ -126,6 +132,9 @@ pub fn open_on<D: DeskStore + Drop, S: SiteStore + Drop>(
         → IsServed (database catalogue) whole.now (counted D.kept S.kept D.refused S.refused solo.machines) []) }
     ensures stands { (catalogue : Catalogue) → IfOk result (λ solo. IsLast catalogue solo.machines.desk → OfStores D.is_clean S.is_clean solo.machines → AreNew D.is_sound D.kept S.is_sound S.kept catalogue desk sites.items → FitsSchema (schemas_of catalogue) whole.now
         → Stands (database catalogue) (fits catalogue) solo.current (counted D.kept S.kept D.refused S.refused solo.machines) []) }
+    ensures lists { (first : Catalogue) (rest : List Catalogue) → map catalogue_of chain.now ≡ first ∷ rest → FitsSchema (schemas_of first) whole.now → (D.kept desk).version ≡ 1
+        → IfOk result (λ solo. OfStores D.is_clean S.is_clean solo.machines → AreNew D.is_sound D.kept S.is_sound S.kept first desk sites.items
+        → IsListServed (databases first rest) whole.now (counted D.kept S.kept D.refused S.refused solo.machines) [] × StandsIn (databases first rest) solo.machines.desk) }
     ensures clean { IfOk result (λ solo. OfStores D.is_clean S.is_clean solo.machines → OfGiven D.is_clean S.is_clean desk sites.items) }
     ensures sound { IfOk result (λ solo. OfStores D.is_clean S.is_clean solo.machines → OfStores D.is_sound S.is_sound solo.machines) }
     ensures catalogs { IfOk result (λ solo. StandsAt solo.machines.desk.volatile.version (map catalogue_of chain.now) solo.machines.desk) }
@@ -140,29 +149,6 @@ pub fn open_on<D: DeskStore + Drop, S: SiteStore + Drop>(
         current: None,
         stopped: None,
     })
-}
-
-/// What has stopped a client's database after a command.
-fn stopped_by<T>(done: &Result<T, Refusal>) -> Option<Refusal>
-    ensures { result ≡ stopped_by done.now }
-{
-    match done {
-        Ok(_) => None,
-        Err(refusal) => {
-            if is_stop(refusal) {
-                Some(*refusal)
-            } else {
-                None
-            }
-        }
-    }
-}
-
-/// The transaction that is open after these notices, if this one was.
-fn still_open(txn: Txn, heard: &[Notice]) -> Option<Txn>
-    ensures { result ≡ still_open (Some txn) heard.now }
-{
-    if tells_end(heard) { None } else { Some(txn) }
 }
 
 impl<D: DeskStore + Drop, S: SiteStore + Drop> Solo<D, S> {
@@ -354,6 +340,9 @@ impl<D: DeskStore, S: SiteStore> Solo<D, S> {
             → UnlessStopped (λ heard. heard.items) (Executes (database (catalogue_of self.old.machines.desk.catalog)) (fits (catalogue_of self.old.machines.desk.catalog)) whole text.now self.old.current (counted D.kept S.kept D.refused S.refused self.old.machines) self.new.current (counted D.kept S.kept D.refused S.refused self.new.machines) past) result }
         ensures served { (whole : Relations) (past : List (Deed (language (database (catalogue_of self.old.machines.desk.catalog))))) → OfStores D.is_clean S.is_clean self.new.machines → OfStores D.is_sound S.is_sound self.old.machines
             → IsServed (database (catalogue_of self.old.machines.desk.catalog)) whole (counted D.kept S.kept D.refused S.refused self.old.machines) past → (deeds : List (Deed (language (database (catalogue_of self.old.machines.desk.catalog))))) × IsServed (database (catalogue_of self.old.machines.desk.catalog)) whole (counted D.kept S.kept D.refused S.refused self.new.machines) (past ++ deeds) }
+        ensures lists { self.old.stopped ≡ None → OverLists (OfStores D.is_clean S.is_clean) (OfStores D.is_sound S.is_sound) (counted D.kept S.kept D.refused S.refused) self.old.machines self.new.machines
+            (λ db whole past. ListMakes db whole (counted D.kept S.kept D.refused S.refused self.new.machines) past result (λ done moves. IsCommand db.schemas text.now self.old.current self.new.current moves (heard_in (λ heard. heard.items) done))) }
+        ensures served_lists { OverLists (OfStores D.is_clean S.is_clean) (OfStores D.is_sound S.is_sound) (counted D.kept S.kept D.refused S.refused) self.old.machines self.new.machines (λ db whole past. IsListServedOn db whole (counted D.kept S.kept D.refused S.refused self.new.machines) past) }
         ensures blames { self.old.stopped ≡ None → OfStores D.is_clean S.is_clean self.new.machines → OfStores D.is_sound S.is_sound self.old.machines → IfErr result (StopsFor (counts D.refused S.refused self.old.machines) (counts D.refused S.refused self.new.machines)) }
         ensures inside { (txn : TxnNow) → self.old.stopped ≡ None → self.old.current ≡ Some txn → IsTextOf (schemas_of (catalogue_of self.old.machines.desk.catalog)) text.now Begin → (result ≡ Err refusals.Busy) ⊎ (result ≡ Err refusals.Memory) }
         ensures outside { self.old.stopped ≡ None → self.old.current ≡ None → IsTextOf (schemas_of (catalogue_of self.old.machines.desk.catalog)) text.now Commit ⊎ IsTextOf (schemas_of (catalogue_of self.old.machines.desk.catalog)) text.now Rollback → (result ≡ Err refusals.NoTransaction) ⊎ (result ≡ Err refusals.Memory) }
@@ -389,6 +378,8 @@ impl<D: DeskStore, S: SiteStore> Solo<D, S> {
         ensures blames { (stop : StopNow) → OfStores D.is_clean S.is_clean self.new.machines → OfStores D.is_sound S.is_sound self.old.machines → result ≡ Err (Stopped stop) → StopsFor (counts D.refused S.refused self.old.machines) (counts D.refused S.refused self.new.machines) stop.refusal }
         ensures served { (whole : Relations) (past : List (Deed (language (database (catalogue_of self.old.machines.desk.catalog))))) → OfStores D.is_clean S.is_clean self.new.machines → OfStores D.is_sound S.is_sound self.old.machines
             → IsServed (database (catalogue_of self.old.machines.desk.catalog)) whole (counted D.kept S.kept D.refused S.refused self.old.machines) past → (deeds : List (Deed (language (database (catalogue_of self.old.machines.desk.catalog))))) × IsServed (database (catalogue_of self.old.machines.desk.catalog)) whole (counted D.kept S.kept D.refused S.refused self.new.machines) (past ++ deeds) }
+        ensures lists { OverLists (OfStores D.is_clean S.is_clean) (OfStores D.is_sound S.is_sound) (counted D.kept S.kept D.refused S.refused) self.old.machines self.new.machines
+            (λ db whole past. IfOk result (λ outcomes. ListMade db whole (counted D.kept S.kept D.refused S.refused self.new.machines) past (RunsAll transactions.now outcomes.items)) × OnErr result (IsListServedOn db whole (counted D.kept S.kept D.refused S.refused self.new.machines) past)) }
         ensures busy { (txn : TxnNow) → self.old.stopped ≡ None → self.old.current ≡ Some txn → (result ≡ Err (Unstarted refusals.Busy)) × (self.new ≡ self.old) }
         ensures stopped { (refusal : RefusalNow) → self.old.stopped ≡ Some refusal → (result ≡ Err (Unstarted refusal)) × (self.new ≡ self.old) }
         ensures starts { self.old.stopped ≡ None → self.old.current ≡ None → IfErr result (λ told. (stop : StopNow) × (told ≡ Stopped stop) × (is_stop stop.refusal ≡ true) × (self.new.stopped ≡ Some stop.refusal)) }
@@ -463,6 +454,8 @@ impl<D: DeskStore, S: SiteStore> Solo<D, S> {
         ensures leaves { LeavesMachines D.is_clean S.is_clean D.is_sound S.is_sound D.refused S.refused self.old.machines self.new.machines }
         ensures parts { OfStores D.is_clean S.is_clean self.new.machines → OfStores D.is_sound S.is_sound self.old.machines → AreFit (database (catalogue_of self.old.machines.desk.catalog)) (counted D.kept S.kept D.refused S.refused self.old.machines)
             → IfOk result (λ shown. option_map (λ parts. parts.items) shown ≡ parts_kept (database (catalogue_of self.old.machines.desk.catalog)) (counted D.kept S.kept D.refused S.refused self.old.machines) leaf.now) }
+        ensures lists { (db : Database) → IsListed db → StandsIn db self.old.machines.desk → OfStores D.is_clean S.is_clean self.new.machines → OfStores D.is_sound S.is_sound self.old.machines → FitsList db (counted D.kept S.kept D.refused S.refused self.old.machines)
+            → IfOk result (λ shown. option_map (λ parts. parts.items) shown ≡ parts_kept db (counted D.kept S.kept D.refused S.refused self.old.machines) leaf.now) × IfErr result (FailsFor (counts D.refused S.refused self.old.machines) (counts D.refused S.refused self.new.machines)) }
         ensures same { StaysAsItIs (OfStores D.is_clean S.is_clean) (OfStores D.is_sound S.is_sound) (held D.kept S.kept) self.old.machines self.new.machines }
         ensures still { (self.new.current ≡ self.old.current) × (self.new.stopped ≡ self.old.stopped) }
         ensures fails { OfStores D.is_clean S.is_clean self.new.machines → OfStores D.is_sound S.is_sound self.old.machines → AreFit (database (catalogue_of self.old.machines.desk.catalog)) (counted D.kept S.kept D.refused S.refused self.old.machines)
@@ -483,6 +476,9 @@ impl<D: DeskStore, S: SiteStore> Solo<D, S> {
         ensures served { (whole : Relations) (past : List (Deed (language (database (catalogue_of self.old.machines.desk.catalog))))) → OfStores D.is_clean S.is_clean self.new.machines → OfStores D.is_sound S.is_sound self.old.machines
             → IsServed (database (catalogue_of self.old.machines.desk.catalog)) whole (counted D.kept S.kept D.refused S.refused self.old.machines) past
             → IfOk result (λ shown. option_map (λ rows. rows.items) shown ≡ rows_shown (database (catalogue_of self.old.machines.desk.catalog)) (after_committed (database (catalogue_of self.old.machines.desk.catalog)) past whole) relation.now) }
+        ensures lists { (db : Database) (whole : Relations) (past : List (Deed (language db))) → IsListed db → StandsIn db self.old.machines.desk → OfStores D.is_clean S.is_clean self.new.machines → OfStores D.is_sound S.is_sound self.old.machines
+            → IsListServed db whole (counted D.kept S.kept D.refused S.refused self.old.machines) past
+            → IfOk result (λ shown. option_map (λ rows. rows.items) shown ≡ rows_shown db (after_committed db past whole) relation.now) × IfErr result (FailsFor (counts D.refused S.refused self.old.machines) (counts D.refused S.refused self.new.machines)) }
         ensures same { StaysAsItIs (OfStores D.is_clean S.is_clean) (OfStores D.is_sound S.is_sound) (held D.kept S.kept) self.old.machines self.new.machines }
         ensures still { (self.new.current ≡ self.old.current) × (self.new.stopped ≡ self.old.stopped) }
         ensures fails_after { (whole : Relations) (past : List (Deed (language (database (catalogue_of self.old.machines.desk.catalog))))) → OfStores D.is_clean S.is_clean self.new.machines → OfStores D.is_sound S.is_sound self.old.machines

@@ -1,5 +1,5 @@
 -- Why `decide` meets its contract.
-use Rattle.std.proofs.Common.{refl, sym, subst, ap, Ok, ◌∙◌, []}
+use Rattle.std.proofs.Common.{refl, sym, subst, ap, Ok, ◌∙◌, [], inr}
 use Rattle.world.proofs.Calls.{answered, stays, stops_as, then_back}
 use Rattle.world.proofs.Lone.{commit_taken_back}
 use Rattle.world.proofs.SiteSteps.{if_ok}
@@ -17,7 +17,7 @@ returns-then-tells_end g c =
     let sound = OfStores g.D.DeskStore.is_sound g.S.SiteStore.is_sound in
     let view = counted g.D.DeskStore.kept g.S.SiteStore.kept g.D.DeskStore.refused g.S.SiteStore.refused in
     let old = c.args.machines.now in
-    stays clean sound view old _ tt (λ db of is. record { moves = []; made = refl; is = (sym (c.tells_end.ensures ∙ ap (tells is_end) c.as_slice.ensures.value) ∙ c.if-tells_end.true, ap Ok c.autocommit_reply.ensures) })
+    stays clean sound view old _ tt (λ db of n is. inr (sym (c.tells_end.ensures ∙ ap (tells is_end) c.as_slice.ensures.value) ∙ c.if-tells_end.true, ap Ok c.autocommit_reply.ensures))
 
 pub returns-in-Ok : goal.returns-in-Ok
 returns-in-Ok g c =

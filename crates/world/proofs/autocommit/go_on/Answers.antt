@@ -23,4 +23,4 @@ returns-in-Err g c =
     let sound = OfStores g.D.DeskStore.is_sound g.S.SiteStore.is_sound in
     let view = counted g.D.DeskStore.kept g.S.SiteStore.kept g.D.DeskStore.refused g.S.SiteStore.refused in
     let old = c.args.machines.now in
-    stays clean sound view old _ (memory_stops (view old).refused (view old).refused c.in-Err.refusal c.in-Err.ensures.own) (λ db of is. inl (is_memory c.in-Err.refusal c.in-Err.ensures.own))
+    stays clean sound view old _ (memory_stops (view old).refused (view old).refused c.in-Err.refusal c.in-Err.ensures.own) (λ db of n is. inl (is_memory c.in-Err.refusal c.in-Err.ensures.own))

@@ -28,5 +28,5 @@ returns-in-Err g c =
     let old = c.args.machines.now in
     let new = c.begin.new.machines in
     let first = subst (λ r. ComesTo clean sound view old new r (λ db. IsOne (λ begun. Begins begun.txn begun.heard.items) (call.Begin))) c.in-Err.is c.begin.ensures in
-    as_kind clean sound view old new _ _ (λ blamed. blamed)
-    (λ db of is makes. ⊎_elim (λ stops. inl stops) (λ made. inr (record { moves = made.moves; made = made.made; is = subst (λ ms. IsLone c.args.text.now ms (Err c.in-Err.refusal)) (sym made.is) refl })) makes) first
+    as_kind clean sound view old new _ _ (λ blamed. blamed) (λ stop. stop)
+    (λ db of n is moves k. inr (subst (λ ms. IsLone c.args.text.now ms (Err c.in-Err.refusal)) (sym k) refl)) first

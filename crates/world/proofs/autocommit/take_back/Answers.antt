@@ -16,8 +16,8 @@ returns-in-Ok g c =
     let old = c.args.machines.now in
     let new = c.roll_back.new.machines in
     let first = subst (λ r. ComesTo clean sound view old new r (λ db. IsOne (λ heard. Rolls_back c.args.txn heard.items) (call.Rollback c.args.txn))) c.in-Ok.is c.roll_back.ensures in
-    as_kind clean sound view old new _ _ (λ blamed. goes_for_any (view old).refused (view new).refused c.args.refusal c.requires)
-    (λ db of is made. inr (record { moves = made.moves; made = made.made; is = (subst (IsTakenBack c.args.txn) (sym made.is) refl, refl) })) first
+    as_kind clean sound view old new _ _ (λ blamed. goes_for_any (view old).refused (view new).refused c.args.refusal c.requires) (λ none. absurd none)
+    (λ db of n is moves k. inr (subst (IsTakenBack c.args.txn) (sym k) refl, refl)) first
 
 pub returns-then-is_stop : goal.returns-then-is_stop
 returns-then-is_stop g c =

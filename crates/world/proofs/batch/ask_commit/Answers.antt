@@ -1,5 +1,5 @@
 -- Why `ask_commit` meets its contract.
-use Rattle.std.proofs.Common.{refl, ap, ◌∙◌, ◌++◌, ◌∷◌, [], List, Ok, ◌≡◌, subst, sym}
+use Rattle.std.proofs.Common.{refl, ap, ◌∙◌, ◌++◌, ◌∷◌, [], List, Ok, ◌≡◌, subst, sym, inr}
 use Rattle.std.specs.Prelude.{⊤}
 use Rattle.world.specs.Batch.{MakesMore, calls_of_end, moved}
 use Rattle.world.specs.declared.transaction.End.TheVariants as end
@@ -42,7 +42,7 @@ returns-in_err-make_room g c =
     let view = counted g.D.DeskStore.kept g.S.SiteStore.kept g.D.DeskStore.refused g.S.SiteStore.refused in
     let old = c.args.machines.now in
     runs_out clean sound view _ old old (λ moves. ⊤) c.from_residual.result c.in_err-make_room.field-0.0 c.from_residual.ensures.1 c.in_err-make_room.ensures.memory
-    (stays clean sound view old (Ok tt) tt (λ db of is. record { moves = []; made = refl; is = tt }))
+    (stays clean sound view old (Ok tt) tt (λ db of n is. inr tt))
 
 pub returns-in_err-one : goal.returns-in_err-one
 returns-in_err-one g c =
@@ -52,4 +52,4 @@ returns-in_err-one g c =
     let old = c.args.machines.now in
     let stop = stopped_by clean sound view {U = Unit {0}} (λ heard. heard.items) old c.commit.new.machines c.commit.result c.told.result c.in_err-one.field-0.0 _ (λ db done moves. ⊤) c.in_err-one.was c.told.ensures.heard c.told.ensures.refused c.commit.ensures in
     runs_into clean sound view _ {T = Unit {0}} old old c.commit.new.machines (λ moves. ⊤) c.from_residual-in_err-one.result c.in_err-one.field-0.0 c.from_residual-in_err-one.ensures.1 stop.0
-    (stays clean sound view old (Ok tt) tt (λ db of is. record { moves = []; made = refl; is = tt })) stop.1
+    (stays clean sound view old (Ok tt) tt (λ db of n is. inr tt)) stop.1

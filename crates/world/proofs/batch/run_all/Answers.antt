@@ -1,7 +1,7 @@
 -- Why `run_all` meets its contract.
 use Rattle.world.proofs.Deeds.{made_version}
 use Rattle.world.proofs.InForce.{in_force_on}
-use Rattle.std.proofs.Common.{◌∙◌, ◌+◌, ◌++◌, ◌∷◌, List, [], refl, sym, ap, subst, take, arith, Ok, Err}
+use Rattle.std.proofs.Common.{◌∙◌, ◌+◌, ◌++◌, ◌∷◌, List, [], refl, sym, ap, subst, take, arith, Ok, Err, inr, IfOk}
 use Rattle.std.specs.Prelude.{⊤}
 use Rattle.std.proofs.lemmas.List.{take_all}
 use Rattle.world.specs.declared.transaction.Outcome as outcomes
@@ -10,10 +10,13 @@ use Rattle.world.specs.Batch.{RunsAll, RunsOne}
 use Rattle.world.specs.Contents.{OfStores, counted}
 use Rattle.world.specs.Counted.{counts}
 use Rattle.world.specs.Frame.{HasMade}
+use Rattle.world.specs.ListServed.{ListMade}
 use Rattle.world.specs.Stopping.{StopsFor}
 use Rattle.world.proofs.BatchCalls.{runs_into, went_well, well_then}
 use Rattle.world.proofs.Batches.{runs_next, stops_here}
 use Rattle.world.proofs.Calls.{leaves_of, stays}
+use Rattle.world.proofs.ListCalls.{made_on, makes_on}
+use Rattle.world.proofs.ListDelivering.{on_then}
 use Rattle.world.proofs.Reaching.{same_on}
 use Rattle.world.proofs.Stops.{memory_stops}
 use Rattle.world.proofs.batch.run_all.Goals as goal
@@ -24,7 +27,7 @@ loop-transaction-init g c =
     let sound = OfStores g.D.DeskStore.is_sound g.S.SiteStore.is_sound in
     let view = counted g.D.DeskStore.kept g.S.SiteStore.kept g.D.DeskStore.refused g.S.SiteStore.refused in
     let old = c.args.machines.now in
-    stays clean sound view old (Ok tt) tt (λ db of is. record { moves = []; made = refl; is = subst (λ (done : List outcomes.Outcome). RunsAll [] done []) (sym c.new-outcomes.ensures.items) refl })
+    stays clean sound view old (Ok tt) tt (λ db of n is. inr (subst (λ (done : List outcomes.Outcome). RunsAll [] done []) (sym c.new-outcomes.ensures.items) refl))
 
 pub loop-transaction-preserved : goal.loop-transaction-preserved
 loop-transaction-preserved g c =
@@ -106,3 +109,22 @@ returns-in-Err-run_one-clause-blames g c = λ is_clean is_sound.
     let old = c.args.machines.now in
     let both = runs_into clean sound view (λ db (x : Unit {0}) moves. ⊤) old c.loop-transaction.machines c.run_one.new.machines (RunsAll (take c.loop-transaction.transaction-index c.args.transactions.now) c.loop-transaction.outcomes.items) (Err c.in-Err-run_one.refusal) c.in-Err-run_one.refusal refl c.in-Err-run_one.ensures.own c.loop-transaction.invariant c.in-Err-run_one.ensures.comes in
     subst (StopsFor (counts g.D.DeskStore.refused g.S.SiteStore.refused c.args.machines.now) (counts g.D.DeskStore.refused g.S.SiteStore.refused c.run_one.new.machines)) (sym c.stop-in-Err-run_one.ensures.1) (both.comes.blames is_clean is_sound)
+
+-- over lists
+pub returns-clause-lists : goal.returns-clause-lists
+returns-clause-lists g c = λ db whole past listed stands clean sound served.
+    let made = c.loop-transaction.invariant.lists db whole past listed stands clean sound served in
+    ((subst (λ (all : List Transaction). ListMade db whole (counted g.D.DeskStore.kept g.S.SiteStore.kept g.D.DeskStore.refused g.S.SiteStore.refused c.loop-transaction.machines) past (RunsAll all c.loop-transaction.outcomes.items)) (take_all c.loop-transaction.transaction-index c.args.transactions.now (omega arith)) made.0, tt), made.1)
+
+pub returns-in-Err-clause-lists : goal.returns-in-Err-clause-lists
+returns-in-Err-clause-lists g c = λ db whole past listed stands clean sound served.
+    let made = c.loop-transaction.invariant.lists db whole past listed stands clean sound served in
+    ((tt, made_on db whole (counted g.D.DeskStore.kept g.S.SiteStore.kept g.D.DeskStore.refused g.S.SiteStore.refused c.loop-transaction.machines) past _ made.0), made.1)
+
+pub returns-in-Err-run_one-clause-lists : goal.returns-in-Err-run_one-clause-lists
+returns-in-Err-run_one-clause-lists g c = λ db whole past listed stands is_clean is_sound served.
+    let comes = c.in-Err-run_one.ensures.comes in
+    let clean_here = comes.clean is_clean in
+    let made = c.loop-transaction.invariant.lists db whole past listed stands clean_here is_sound served in
+    let more = comes.lists db whole (past ++ made.0.deeds) listed made.1 is_clean (c.loop-transaction.invariant.sound clean_here is_sound) made.0.served in
+    ((tt, on_then db whole (counted g.D.DeskStore.kept g.S.SiteStore.kept g.D.DeskStore.refused g.S.SiteStore.refused c.run_one.new.machines) past made.0.deeds (makes_on db whole {T = outcomes.Outcome} (counted g.D.DeskStore.kept g.S.SiteStore.kept g.D.DeskStore.refused g.S.SiteStore.refused c.run_one.new.machines) (past ++ made.0.deeds) (Err c.in-Err-run_one.refusal) (λ done moves. IfOk done (λ outcome. RunsOne c.transaction-item.result outcome moves)) more.0)), more.1)

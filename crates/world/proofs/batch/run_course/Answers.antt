@@ -1,5 +1,5 @@
 -- Why `run_course` meets its contract.
-use Rattle.std.proofs.Common.{refl, sym, [], List, Bool, Ok, ◌≡◌, true, false, map, subst}
+use Rattle.std.proofs.Common.{refl, sym, [], List, Bool, Ok, ◌≡◌, true, false, map, subst, inr}
 use Rattle.std.specs.Prelude.{⊤}
 use Rattle.world.specs.Batch.{Makes, MakesMore, calls_of, calls_of_end}
 use Rattle.world.specs.Contents.{OfStores, counted}
@@ -30,7 +30,7 @@ returns-in_err-stated g c =
     let view = counted g.D.DeskStore.kept g.S.SiteStore.kept g.D.DeskStore.refused g.S.SiteStore.refused in
     let old = c.args.machines.now in
     runs_into clean sound view _ old old c.state_all.new.machines (λ moves. ⊤) c.from_residual.result c.in_err-stated.field-0.0 c.from_residual.ensures.1 c.in_err-stated.ensures.own
-    (stays clean sound view old (Ok tt) tt (λ db of is. record { moves = []; made = refl; is = tt })) c.in_err-stated.ensures.comes
+    (stays clean sound view old (Ok tt) tt (λ db of n is. inr tt)) c.in_err-stated.ensures.comes
 
 pub returns-in_err-came : goal.returns-in_err-came
 returns-in_err-came g c =

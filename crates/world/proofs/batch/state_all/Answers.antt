@@ -1,5 +1,5 @@
 -- Why `state_all` meets its contract.
-use Rattle.std.proofs.Common.{◌∙◌, ◌+◌, ◌++◌, ◌∷◌, [], List, ℕ, false, true, refl, sym, ap, subst, map, take, arith, Ok, ◌≡◌}
+use Rattle.std.proofs.Common.{◌∙◌, ◌+◌, ◌++◌, ◌∷◌, [], List, ℕ, false, true, refl, sym, ap, subst, map, take, arith, Ok, ◌≡◌, inr}
 use Rattle.std.specs.Prelude.{⊤}
 use Rattle.std.proofs.lemmas.List.{take_all}
 use Rattle.world.specs.declared.event.Call.TheVariants as call
@@ -18,7 +18,7 @@ loop-text-init g c =
     let sound = OfStores g.D.DeskStore.is_sound g.S.SiteStore.is_sound in
     let view = counted g.D.DeskStore.kept g.S.SiteStore.kept g.D.DeskStore.refused g.S.SiteStore.refused in
     let old = c.args.machines.now in
-    stays clean sound view old (Ok tt) tt (λ db of is. record { moves = []; made = refl; is = subst (λ (came : List cames.Came). Makes [] came false []) (sym c.new-came.ensures.items) (refl, refl) })
+    stays clean sound view old (Ok tt) tt (λ db of n is. inr (subst (λ (came : List cames.Came). Makes [] came false []) (sym c.new-came.ensures.items) (refl, refl)))
 
 pub loop-text-preserved : goal.loop-text-preserved
 loop-text-preserved g c =

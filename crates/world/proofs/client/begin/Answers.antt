@@ -11,6 +11,11 @@ use Rattle.world.proofs.Calls.{one_call}
 use Rattle.world.specs.Counted.{counts}
 use Rattle.world.proofs.Refusing.{if_err}
 use Rattle.world.proofs.Stops.{limit_stops}
+use Rattle.std.specs.Global.{Vec}
+use Rattle.desk.specs.declared.reply.Notice.{Notice}
+use Rattle.world.specs.declared.client.Begun.{Begun}
+use Rattle.store.specs.declared.name.Txn.{Txn}
+use Rattle.world.proofs.ListCalls.{named_makes, unnamed_makes}
 use Rattle.world.proofs.client.begin.Goals as goal
 
 pub returns-in-Ok : goal.returns-in-Ok
@@ -26,6 +31,15 @@ returns-in-Ok g c = one_call g.D.DeskStore.is_clean g.S.SiteStore.is_clean g.D.D
     let serves = c.in-Ok.ensures.ok db of is clean sound fit in
     if_errs c.named.result (λ told full none. inr ((full, begin_unheard db before after c.in-Ok.heard.items serves none), begin_still db before after c.in-Ok.heard.items serves none))
     c.named.ensures.full c.named.ensures.none)
+    (λ db whole past listed stands clean sound served.
+    let after = counted g.D.DeskStore.kept g.S.SiteStore.kept g.D.DeskStore.refused g.S.SiteStore.refused c.greet.new.machines in
+    let none : Txn = record { life = 0; number = 0 } in
+    (named_makes db whole (λ begun. begun.txn) (λ begun. begun.heard.items) after c.in-Ok.heard.items past c.named.result (λ txn. (c.in-Ok.ensures.lists txn db whole past listed stands clean sound served).0) c.named.ensures.same c.named.ensures.none, (c.in-Ok.ensures.lists none db whole past listed stands clean sound served).1))
 
 pub returns-in-Err : goal.returns-in-Err
 returns-in-Err g c = one_call g.D.DeskStore.is_clean g.S.SiteStore.is_clean g.D.DeskStore.is_sound g.S.SiteStore.is_sound g.D.DeskStore.kept g.S.SiteStore.kept g.D.DeskStore.refused g.S.SiteStore.refused (λ begun. Begins begun.txn begun.heard.items) call.Begin c.args.machines.now c.greet.new.machines (Err c.in-Err.refusal) c.greet.ensures.leaves c.in-Err.ensures.blames c.greet.ensures.served (λ db of is clean sound fit. tt) c.in-Err.ensures.denied
+    (λ db whole past listed stands clean sound served.
+    let after = counted g.D.DeskStore.kept g.S.SiteStore.kept g.D.DeskStore.refused g.S.SiteStore.refused c.greet.new.machines in
+    let none : Txn = record { life = 0; number = 0 } in
+    let lists = c.in-Err.ensures.lists none db whole past listed stands clean sound served in
+    (unnamed_makes db whole (λ (heard : Vec Notice). Begins none heard.items) (λ (begun : Begun). Begins begun.txn begun.heard.items) (λ (heard : Vec Notice). heard.items) after c.in-Err.refusal past lists.0, lists.1))

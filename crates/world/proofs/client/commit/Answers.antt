@@ -1,12 +1,13 @@
 -- Why `commit` meets its contract.
-use Rattle.std.proofs.Common.{rules, List, inl, Err, ◌∙◌}
+use Rattle.std.proofs.Common.{rules, List, inl, Err, ◌∙◌, refl, ◌++◌, []}
+use Rattle.std.specs.Global.{Vec}
 use Rattle.protocol.specs.Desk.{Commit_call}
 use Rattle.protocol.specs.Letters.{txn_name}
 use Rattle.desk.specs.Database.{language}
 use Rattle.desk.specs.declared.reply.Notice.{Notice}
 use Rattle.world.specs.Counted.{counts}
 use Rattle.world.specs.declared.event.Call.TheVariants as call
-use Rattle.world.specs.Course.{Commits}
+use Rattle.world.specs.Course.{IsOne, Commits}
 use Rattle.world.specs.Mailbox.{Ask, Goes, Serves, To_do, asked, settled}
 use Rattle.world.specs.Contents.{counted, held}
 use Rattle.world.specs.Taking.{put_out_by}
@@ -21,6 +22,8 @@ use Rattle.world.proofs.Refusing.{if_err}
 use Rattle.world.proofs.Reasoned.{no_choice}
 use Rattle.world.proofs.Running.{over_of}
 use Rattle.world.proofs.Stops.{call_since}
+use Rattle.world.proofs.ListCalls.{lists_counted, refused_lists, commit_makes}
+use Rattle.world.proofs.ListDelivering.{asked_waits}
 use Rattle.world.proofs.client.commit.Goals as goal
 
 pub returns-in-Ok : goal.returns-in-Ok
@@ -59,6 +62,13 @@ returns-in-Ok g c = one_call g.D.DeskStore.is_clean g.S.SiteStore.is_clean g.D.D
     if_ok c.deliver_all.result (λ heard goes. record { choice = no_choice db; accepted = made.accepted; within = made.within; serves = serves heard.items goes })
     (c.deliver_all.ensures.ok db of (in_force_on db _ _ _ _ leads.version c.commit.ensures.leaves.catalog is) clean (c.commit.ensures.leaves.sound (c.deliver_all.ensures.leaves.clean clean) sound) leads.fit))
     (λ db of is clean sound fit. if_err c.deliver_all.result (λ told stops. inl stops) c.deliver_all.ensures.own)
+    (lists_counted g.D.DeskStore.is_clean g.S.SiteStore.is_clean g.D.DeskStore.is_sound g.S.SiteStore.is_sound g.D.DeskStore.kept g.S.SiteStore.kept g.D.DeskStore.refused g.S.SiteStore.refused c.args.machines.now c.deliver_all.new.machines c.deliver_all.result (λ db. IsOne (λ heard. Commits c.args.txn heard.items) (call.Commit c.args.txn))
+    (λ db whole past listed stands clean sound served.
+    let hold = held g.D.DeskStore.kept g.S.SiteStore.kept in
+    let made = c.in-Ok.ensures.lists db (no_choice db) listed.base.of_catalogue stands served.fit in
+    let waits = asked_waits db whole listed c.args.txn (no_choice db) Commit_call (hold c.args.machines.now) (hold c.commit.new.self) [] c.in-Ok.out.letters c.in-Ok.out.replies past served made.0 in
+    let came = c.deliver_all.ensures.lists db whole (past ++ made.0.leads.deeds) listed made.1 clean (c.commit.ensures.leaves.sound (c.deliver_all.ensures.leaves.clean clean) sound) waits in
+    commit_makes db whole c.args.txn (no_choice db) (λ heard. Commits c.args.txn heard.items) (λ heard. heard.items) (hold c.args.machines.now) (hold c.commit.new.self) (hold c.deliver_all.new.machines) c.in-Ok.out past c.deliver_all.result (λ heard. refl) made.0 c.deliver_all.ensures.own came))
 
 pub returns-in-Err : goal.returns-in-Err
 returns-in-Err g c = one_call g.D.DeskStore.is_clean g.S.SiteStore.is_clean g.D.DeskStore.is_sound g.S.SiteStore.is_sound g.D.DeskStore.kept g.S.SiteStore.kept g.D.DeskStore.refused g.S.SiteStore.refused (λ heard. Commits c.args.txn heard.items) (call.Commit c.args.txn) c.args.machines.now c.commit.new.self (Err c.in-Err.refusal)
@@ -82,3 +92,4 @@ returns-in-Err g c = one_call g.D.DeskStore.is_clean g.S.SiteStore.is_clean g.D.
     let old = counts g.D.DeskStore.refused g.S.SiteStore.refused c.args.machines.now in
     let new = counts g.D.DeskStore.refused g.S.SiteStore.refused c.commit.new.self in
     still_denied db (with_counts before old) (with_counts mid new) (call.Commit c.args.txn) c.in-Err.refusal fit (same_counted before mid old new c.in-Err.ensures.err (uncounted g.D.DeskStore.refused g.S.SiteStore.refused c.commit.ensures.uncalled)) (c.in-Err.ensures.told db))
+    (refused_lists g.D.DeskStore.is_clean g.S.SiteStore.is_clean g.D.DeskStore.is_sound g.S.SiteStore.is_sound g.D.DeskStore.kept g.S.SiteStore.kept g.D.DeskStore.refused g.S.SiteStore.refused (λ (heard : Vec Notice). Commits c.args.txn heard.items) (call.Commit c.args.txn) c.in-Err.refusal c.args.machines.now c.commit.new.self c.in-Err.ensures.err c.commit.ensures.leaves.catalog c.commit.ensures.leaves.later)

@@ -1,5 +1,6 @@
 -- Why `greet` meets its contract.
-use Rattle.std.proofs.Common.{rules, List, inl, ◌∙◌}
+use Rattle.std.proofs.Common.{rules, List, inl, ◌∙◌, ◌++◌, ◌≢◌, [], refl, Err, IfOk}
+use Rattle.std.specs.Global.{Vec}
 use Rattle.desk.specs.Database.{language}
 use Rattle.desk.specs.declared.reply.Notice.{Notice}
 use Rattle.world.specs.Counted.{counts}
@@ -16,6 +17,9 @@ use Rattle.world.proofs.Reaching.{call_served, same_on}
 use Rattle.world.proofs.Refusing.{if_err}
 use Rattle.world.proofs.Running.{over_of}
 use Rattle.world.proofs.Stops.{call_since}
+use Rattle.world.specs.Course.{Begins, IsOne}
+use Rattle.world.proofs.ListCalls.{begin_makes, lists_counted, unbegun_lists}
+use Rattle.world.proofs.ListDelivering.{begun_waits}
 use Rattle.world.proofs.client.greet.Goals as goal
 
 pub returns-in-Ok-clause-ok : goal.returns-in-Ok-clause-ok
@@ -85,3 +89,16 @@ returns-in-Err-clause-leaves g c = record {
   counts = none_fewer (counts g.D.DeskStore.refused g.S.SiteStore.refused c.args.machines.now) (counts g.D.DeskStore.refused g.S.SiteStore.refused c.begin.new.self) (uncounted g.D.DeskStore.refused g.S.SiteStore.refused c.begin.ensures.uncalled);
   catalogs = λ single. (c.begin.ensures.leaves.catalog, c.begin.ensures.leaves.later ∙ single);
 }
+
+pub returns-in-Ok-clause-lists : goal.returns-in-Ok-clause-lists
+returns-in-Ok-clause-lists g c = λ txn.
+    lists_counted g.D.DeskStore.is_clean g.S.SiteStore.is_clean g.D.DeskStore.is_sound g.S.SiteStore.is_sound g.D.DeskStore.kept g.S.SiteStore.kept g.D.DeskStore.refused g.S.SiteStore.refused c.args.machines.now c.deliver_all.new.machines c.deliver_all.result (λ db. (λ done moves. IsOne (λ heard. Begins txn heard.items) call.Begin done moves × IfOk done (λ heard. heard.items ≢ [])))
+    (λ db whole past listed stands clean sound served.
+    let hold = held g.D.DeskStore.kept g.S.SiteStore.kept in
+    let made = c.in-Ok.ensures.lists db listed.base.of_catalogue stands served.fit in
+    let waits = begun_waits db whole listed (hold c.args.machines.now) (hold c.begin.new.self) c.in-Ok.out.letters c.in-Ok.out.replies past served made.0 in
+    let came = c.deliver_all.ensures.lists db whole (past ++ made.0.leads.deeds) listed made.1 clean (c.begin.ensures.leaves.sound (c.deliver_all.ensures.leaves.clean clean) sound) waits in
+    begin_makes db whole (λ heard. Begins txn heard.items) (λ heard. heard.items) (hold c.args.machines.now) (hold c.begin.new.self) (hold c.deliver_all.new.machines) c.in-Ok.out past c.deliver_all.result (λ heard. refl) made.0 c.deliver_all.ensures.own came)
+
+pub returns-in-Err-clause-lists : goal.returns-in-Err-clause-lists
+returns-in-Err-clause-lists g c = λ txn. unbegun_lists g.D.DeskStore.is_clean g.S.SiteStore.is_clean g.D.DeskStore.is_sound g.S.SiteStore.is_sound g.D.DeskStore.kept g.S.SiteStore.kept g.D.DeskStore.refused g.S.SiteStore.refused (λ (heard : Vec Notice). Begins txn heard.items) (λ (heard : Vec Notice). heard.items) c.in-Err.refusal c.args.machines.now c.begin.new.self c.in-Err.ensures.err c.begin.ensures.leaves.catalog c.begin.ensures.leaves.later

@@ -1,12 +1,13 @@
 -- Why `roll_back` meets its contract.
-use Rattle.std.proofs.Common.{rules, List, inl, Err, ◌∙◌}
+use Rattle.std.proofs.Common.{rules, List, inl, Err, ◌∙◌, refl, ◌++◌, []}
+use Rattle.std.specs.Global.{Vec}
 use Rattle.protocol.specs.Desk.{Rollback}
 use Rattle.protocol.specs.Letters.{txn_name}
 use Rattle.desk.specs.Database.{language}
 use Rattle.desk.specs.declared.reply.Notice.{Notice}
 use Rattle.world.specs.Counted.{counts}
 use Rattle.world.specs.declared.event.Call.TheVariants as call
-use Rattle.world.specs.Course.{Rolls_back}
+use Rattle.world.specs.Course.{IsOne, Rolls_back}
 use Rattle.world.specs.Mailbox.{Ask, Goes, Serves, To_do, asked, settled}
 use Rattle.world.specs.Contents.{counted, held}
 use Rattle.world.specs.Taking.{put_out_by}
@@ -21,6 +22,8 @@ use Rattle.world.proofs.Refusing.{if_err}
 use Rattle.world.proofs.Reasoned.{no_choice}
 use Rattle.world.proofs.Running.{over_of}
 use Rattle.world.proofs.Stops.{call_since}
+use Rattle.world.proofs.ListCalls.{lists_counted, refused_lists, rollback_makes}
+use Rattle.world.proofs.ListDelivering.{asked_waits}
 use Rattle.world.proofs.client.roll_back.Goals as goal
 
 pub returns-in-Ok : goal.returns-in-Ok
@@ -59,6 +62,13 @@ returns-in-Ok g c = one_call g.D.DeskStore.is_clean g.S.SiteStore.is_clean g.D.D
     if_ok c.deliver_all.result (λ heard goes. record { choice = no_choice db; accepted = made.accepted; within = made.within; serves = serves heard.items goes })
     (c.deliver_all.ensures.ok db of (in_force_on db _ _ _ _ leads.version c.rollback.ensures.leaves.catalog is) clean (c.rollback.ensures.leaves.sound (c.deliver_all.ensures.leaves.clean clean) sound) leads.fit))
     (λ db of is clean sound fit. if_err c.deliver_all.result (λ told stops. inl stops) c.deliver_all.ensures.own)
+    (lists_counted g.D.DeskStore.is_clean g.S.SiteStore.is_clean g.D.DeskStore.is_sound g.S.SiteStore.is_sound g.D.DeskStore.kept g.S.SiteStore.kept g.D.DeskStore.refused g.S.SiteStore.refused c.args.machines.now c.deliver_all.new.machines c.deliver_all.result (λ db. IsOne (λ heard. Rolls_back c.args.txn heard.items) (call.Rollback c.args.txn))
+    (λ db whole past listed stands clean sound served.
+    let hold = held g.D.DeskStore.kept g.S.SiteStore.kept in
+    let made = c.in-Ok.ensures.lists db (no_choice db) listed.base.of_catalogue stands served.fit in
+    let waits = asked_waits db whole listed c.args.txn (no_choice db) Rollback (hold c.args.machines.now) (hold c.rollback.new.self) [] c.in-Ok.out.letters c.in-Ok.out.replies past served made.0 in
+    let came = c.deliver_all.ensures.lists db whole (past ++ made.0.leads.deeds) listed made.1 clean (c.rollback.ensures.leaves.sound (c.deliver_all.ensures.leaves.clean clean) sound) waits in
+    rollback_makes db whole c.args.txn (no_choice db) (λ heard. Rolls_back c.args.txn heard.items) (λ heard. heard.items) (hold c.args.machines.now) (hold c.rollback.new.self) (hold c.deliver_all.new.machines) c.in-Ok.out past c.deliver_all.result (λ heard. refl) made.0 c.deliver_all.ensures.own came))
 
 pub returns-in-Err : goal.returns-in-Err
 returns-in-Err g c = one_call g.D.DeskStore.is_clean g.S.SiteStore.is_clean g.D.DeskStore.is_sound g.S.SiteStore.is_sound g.D.DeskStore.kept g.S.SiteStore.kept g.D.DeskStore.refused g.S.SiteStore.refused (λ heard. Rolls_back c.args.txn heard.items) (call.Rollback c.args.txn) c.args.machines.now c.rollback.new.self (Err c.in-Err.refusal)
@@ -82,3 +92,4 @@ returns-in-Err g c = one_call g.D.DeskStore.is_clean g.S.SiteStore.is_clean g.D.
     let old = counts g.D.DeskStore.refused g.S.SiteStore.refused c.args.machines.now in
     let new = counts g.D.DeskStore.refused g.S.SiteStore.refused c.rollback.new.self in
     still_denied db (with_counts before old) (with_counts mid new) (call.Rollback c.args.txn) c.in-Err.refusal fit (same_counted before mid old new c.in-Err.ensures.err (uncounted g.D.DeskStore.refused g.S.SiteStore.refused c.rollback.ensures.uncalled)) (c.in-Err.ensures.told db))
+    (refused_lists g.D.DeskStore.is_clean g.S.SiteStore.is_clean g.D.DeskStore.is_sound g.S.SiteStore.is_sound g.D.DeskStore.kept g.S.SiteStore.kept g.D.DeskStore.refused g.S.SiteStore.refused (λ (heard : Vec Notice). Rolls_back c.args.txn heard.items) (call.Rollback c.args.txn) c.in-Err.refusal c.args.machines.now c.rollback.new.self c.in-Err.ensures.err c.rollback.ensures.leaves.catalog c.rollback.ensures.leaves.later)

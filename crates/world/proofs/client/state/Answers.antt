@@ -1,12 +1,13 @@
 -- Why `state` meets its contract.
-use Rattle.std.proofs.Common.{rules, List, inl, Err, refl, ◌∙◌}
+use Rattle.std.proofs.Common.{rules, List, inl, Err, refl, ◌∙◌, ◌++◌, []}
+use Rattle.std.specs.Global.{Vec}
 use Rattle.protocol.specs.Desk.{State}
 use Rattle.protocol.specs.Letters.{txn_name}
 use Rattle.desk.specs.Database.{language}
 use Rattle.desk.specs.declared.reply.Notice.{Notice}
 use Rattle.world.specs.Counted.{counts}
 use Rattle.world.specs.declared.event.Call.TheVariants as call
-use Rattle.world.specs.Course.{States}
+use Rattle.world.specs.Course.{IsOne, States}
 use Rattle.world.specs.Mailbox.{Ask, Goes, Serves, To_do, asked, settled}
 use Rattle.world.specs.Contents.{counted, held}
 use Rattle.world.specs.Taking.{put_out_by}
@@ -19,6 +20,8 @@ use Rattle.world.proofs.SiteSteps.{if_ok}
 use Rattle.world.proofs.Reaching.{call_served, same_on}
 use Rattle.world.proofs.Refusing.{if_err}
 use Rattle.world.proofs.Stops.{call_since}
+use Rattle.world.proofs.ListCalls.{lists_counted, refused_lists, state_makes}
+use Rattle.world.proofs.ListDelivering.{asked_waits}
 use Rattle.world.proofs.client.state.Goals as goal
 
 pub returns-in-Ok : goal.returns-in-Ok
@@ -57,6 +60,13 @@ returns-in-Ok g c = one_call g.D.DeskStore.is_clean g.S.SiteStore.is_clean g.D.D
     if_ok c.deliver_all.result (λ heard goes. record { statement = made.statement; spelled = made.spelled; fits = made.fits; asks = record { choice = made.choice; accepted = made.asked.accepted; within = made.asked.within; serves = serves heard.items goes } })
     (c.deliver_all.ensures.ok db of (in_force_on db _ _ _ _ leads.version c.statement.ensures.leaves.catalog is) clean (c.statement.ensures.leaves.sound (c.deliver_all.ensures.leaves.clean clean) sound) leads.fit))
     (λ db of is clean sound fit. if_err c.deliver_all.result (λ told stops. inl stops) c.deliver_all.ensures.own)
+    (lists_counted g.D.DeskStore.is_clean g.S.SiteStore.is_clean g.D.DeskStore.is_sound g.S.SiteStore.is_sound g.D.DeskStore.kept g.S.SiteStore.kept g.D.DeskStore.refused g.S.SiteStore.refused c.args.machines.now c.deliver_all.new.machines c.deliver_all.result (λ db. IsOne (λ heard. States c.args.txn c.args.text.now heard.items) (call.State c.args.txn c.args.text.now))
+    (λ db whole past listed stands clean sound served.
+    let hold = held g.D.DeskStore.kept g.S.SiteStore.kept in
+    let made = c.in-Ok.ensures.lists db listed.base.of_catalogue stands served.fit in
+    let waits = asked_waits db whole listed c.args.txn made.0.choice (State ((hold c.args.machines.now).table.version, made.0.statement)) (hold c.args.machines.now) (hold c.statement.new.self) [] c.in-Ok.out.letters c.in-Ok.out.replies past served made.0.asked in
+    let came = c.deliver_all.ensures.lists db whole (past ++ made.0.asked.leads.deeds) listed made.1 clean (c.statement.ensures.leaves.sound (c.deliver_all.ensures.leaves.clean clean) sound) waits in
+    state_makes db whole c.args.txn c.args.text.now (λ heard. States c.args.txn c.args.text.now heard.items) (λ heard. heard.items) (hold c.args.machines.now) (hold c.statement.new.self) (hold c.deliver_all.new.machines) c.in-Ok.out past c.deliver_all.result (λ heard. refl) made.0 c.deliver_all.ensures.own came))
 
 pub returns-in-Err : goal.returns-in-Err
 returns-in-Err g c = one_call g.D.DeskStore.is_clean g.S.SiteStore.is_clean g.D.DeskStore.is_sound g.S.SiteStore.is_sound g.D.DeskStore.kept g.S.SiteStore.kept g.D.DeskStore.refused g.S.SiteStore.refused (λ heard. States c.args.txn c.args.text.now heard.items) (call.State c.args.txn c.args.text.now) c.args.machines.now c.statement.new.self (Err c.in-Err.refusal)
@@ -80,3 +90,4 @@ returns-in-Err g c = one_call g.D.DeskStore.is_clean g.S.SiteStore.is_clean g.D.
     let old = counts g.D.DeskStore.refused g.S.SiteStore.refused c.args.machines.now in
     let new = counts g.D.DeskStore.refused g.S.SiteStore.refused c.statement.new.self in
     still_denied db (with_counts before old) (with_counts mid new) (call.State c.args.txn c.args.text.now) c.in-Err.refusal fit (same_counted before mid old new c.in-Err.ensures.err (uncounted g.D.DeskStore.refused g.S.SiteStore.refused c.statement.ensures.uncalled)) (c.in-Err.ensures.told db of is (fit_uncounted db before old fit)))
+    (refused_lists g.D.DeskStore.is_clean g.S.SiteStore.is_clean g.D.DeskStore.is_sound g.S.SiteStore.is_sound g.D.DeskStore.kept g.S.SiteStore.kept g.D.DeskStore.refused g.S.SiteStore.refused (λ (heard : Vec Notice). States c.args.txn c.args.text.now heard.items) (call.State c.args.txn c.args.text.now) c.in-Err.refusal c.args.machines.now c.statement.new.self c.in-Err.ensures.err c.statement.ensures.leaves.catalog c.statement.ensures.leaves.later)

@@ -1,7 +1,12 @@
 -- Why `deliver_all` meets its contract.
-use Rattle.std.proofs.Common.{rules, ◌≡◌, ◌+◌, ◌-◌, ℕ, suc, refl, subst, arith}
+use Rattle.std.proofs.Common.{rules, ◌≡◌, ◌+◌, ◌++◌, ◌-◌, ℕ, List, suc, refl, sym, subst, arith}
 use Rattle.protocol.specs.Rounds.{RanksUnder}
-use Rattle.world.specs.Contents.{counted}
+use Rattle.world.specs.Contents.{counted, held}
+use Rattle.store.specs.declared.letter.Letter.{Letter}
+use Rattle.desk.specs.declared.reply.Notice.{Notice}
+use Rattle.world.specs.ListServed.{ListGoes}
+use Rattle.world.proofs.ListDelivering.{goes_silent, goes_then, on_then, only_fails}
+use Rattle.world.proofs.ListDelivering.{nothing_goes as nothing_goes_list}
 use Rattle.world.specs.Taking.{put_out_by, scene, world_at}
 use Rattle.world.proofs.InForce.{in_force_on}
 use Rattle.world.proofs.Leaves.{same_then}
@@ -22,6 +27,13 @@ loop-init g c =
       counts = no_fewer (counts g.D.DeskStore.refused g.S.SiteStore.refused c.args.machines.now);
       goes = λ db of is clean sound fit. alike_goes db (put_out_by m c.args.out) (scene m c.of-post.result) refl c.of-post.ensures.waiting c.of-post.ensures.heard fit;
       ranks = λ db of is clean sound fit. all_nine db (scene m c.of-post.result);
+      lists = λ db whole past listed stands clean sound waits.
+          let here = held g.D.DeskStore.kept g.S.SiteStore.kept c.args.machines.now in
+          let out = c.args.out in (
+            subst (λ (left : List Letter). ListGoes db whole here left past out.replies c.of-post.result.heard.items) (sym c.of-post.ensures.waiting)
+                (subst (λ (heard : List Notice). ListGoes db whole here out.letters past out.replies heard) (sym c.of-post.ensures.heard) (nothing_goes_list db whole here out.letters past out.replies waits)),
+            stands,
+          );
     }
 
 pub loop-preserved : goal.loop-preserved
@@ -45,6 +57,11 @@ loop-preserved g c =
           subst (λ (k : ℕ). RanksUnder k (world_at db there)) same
           (c.in_ok-deliver_round.ensures.ranks db (8 - c.loop.counter) of (in_force_on db _ _ _ _ so_far.version (c.loop.invariant.catalogs fit.single).0 is) clean (c.loop.invariant.sound (c.deliver_round.ensures.leaves.clean clean) sound) so_far.fit
           (subst (λ (k : ℕ). RanksUnder k (world_at db here)) one_less ranked));
+      lists = λ db whole past listed stands clean sound waits.
+          let hold = held g.D.DeskStore.kept g.S.SiteStore.kept in
+          let so_far = c.loop.invariant.lists db whole past listed stands (c.deliver_round.ensures.leaves.clean clean) sound waits in
+          let more = c.in_ok-deliver_round.ensures.lists db whole (past ++ so_far.0.deeds) listed so_far.1 clean (c.loop.invariant.sound (c.deliver_round.ensures.leaves.clean clean) sound) so_far.0.served in
+          (goes_then db whole (hold c.loop.machines) (hold c.deliver_round.new.machines) c.loop.post.waiting.items c.deliver_round.new.post.waiting.items past c.args.out.replies c.loop.post.heard.items c.deliver_round.new.post.heard.items so_far.0 more.0, more.2);
     }
 
 pub returns-clause-ok : goal.returns-clause-ok
@@ -74,3 +91,14 @@ pub returns-in_err-deliver_round-clause-blames : goal.returns-in_err-deliver_rou
 returns-in_err-deliver_round-clause-blames g c = λ clean sound.
     told_on c.from_residual.result c.in_err-deliver_round.field-0.0 (counts g.D.DeskStore.refused g.S.SiteStore.refused c.args.machines.now) (counts g.D.DeskStore.refused g.S.SiteStore.refused c.deliver_round.new.machines) c.from_residual.ensures.1
     (stops_since (counts g.D.DeskStore.refused g.S.SiteStore.refused c.args.machines.now) (counts g.D.DeskStore.refused g.S.SiteStore.refused c.loop.machines) (counts g.D.DeskStore.refused g.S.SiteStore.refused c.deliver_round.new.machines) c.loop.invariant.counts c.in_err-deliver_round.field-0.0 (c.in_err-deliver_round.ensures.blames clean (c.loop.invariant.sound (c.deliver_round.ensures.leaves.clean clean) sound)))
+
+pub returns-clause-lists : goal.returns-clause-lists
+returns-clause-lists g c = λ db whole past listed stands clean sound waits.
+    let so_far = c.loop.invariant.lists db whole past listed stands clean sound waits in
+    (goes_silent db whole listed (held g.D.DeskStore.kept g.S.SiteStore.kept c.loop.machines) c.loop.post.waiting.items past c.args.out.replies c.loop.post.heard.items so_far.0, tt, so_far.1)
+
+pub returns-in_err-deliver_round-clause-lists : goal.returns-in_err-deliver_round-clause-lists
+returns-in_err-deliver_round-clause-lists g c = λ db whole past listed stands clean sound waits.
+    let so_far = c.loop.invariant.lists db whole past listed stands (c.deliver_round.ensures.leaves.clean clean) sound waits in
+    let more = c.in_err-deliver_round.ensures.lists db whole (past ++ so_far.0.deeds) listed so_far.1 clean (c.loop.invariant.sound (c.deliver_round.ensures.leaves.clean clean) sound) so_far.0.served in
+    only_fails _ _ c.from_residual.result c.from_residual.ensures.1 (on_then db whole (held g.D.DeskStore.kept g.S.SiteStore.kept c.deliver_round.new.machines) past so_far.0.deeds more.1) more.2

@@ -1,5 +1,5 @@
 -- Why `deliver_next` meets its contract.
-use Rattle.std.proofs.Common.{rules, ◌≡◌, refl, subst, List}
+use Rattle.std.proofs.Common.{rules, ◌≡◌, ◌++◌, [], refl, sym, subst, List}
 use Rattle.store.specs.declared.letter.Letter.{Letter}
 use Rattle.world.specs.Mailbox.{Goes}
 use Rattle.world.specs.Counted.{counts}
@@ -9,6 +9,9 @@ use Rattle.world.proofs.Counting.{fit_uncounted, no_fewer}
 use Rattle.world.proofs.Deliveries.{comes_breaks, comes_goes, comes_ranked, nothing_breaks, nothing_goes}
 use Rattle.world.proofs.SiteSteps.{on_any_err, on_both, on_ok}
 use Rattle.world.proofs.Stops.{memory_only}
+use Rattle.world.specs.ListServed.{IsListWaiting, ListGoes}
+use Rattle.world.proofs.ListDelivering.{either_way, goes_as, goes_let_go}
+use Rattle.world.proofs.ListDelivering.{nothing_goes as nothing_goes_list}
 use Rattle.world.proofs.mailbox.deliver_next.Goals as goal
 
 pub returns-in_default-clause-ok : goal.returns-in_default-clause-ok
@@ -71,3 +74,27 @@ returns-in-Err-clause-leaves g c = record {
 
 pub returns-in-Ok-clause-blames : goal.returns-in-Ok-clause-blames
 returns-in-Ok-clause-blames g c = λ clean sound. memory_only c.add.result (counts g.D.DeskStore.refused g.S.SiteStore.refused c.args.machines.now) (counts g.D.DeskStore.refused g.S.SiteStore.refused c.deliver_one.new.machines) c.add.ensures.own
+
+pub returns-in_default-clause-lists : goal.returns-in_default-clause-lists
+returns-in_default-clause-lists g c = λ db whole past listed stands clean sound waits.
+    let here = held g.D.DeskStore.kept g.S.SiteStore.kept c.args.machines.now in
+    let heard = c.args.post.now.heard.items in
+    let same : c.args.post.now.waiting.items ≡ c.pop_front.new.self.items = c.in_default.ensures.items in
+    (subst (λ (left : List Letter). ListGoes db whole here left past heard heard) same (nothing_goes_list db whole here c.args.post.now.waiting.items past heard waits), tt, stands)
+
+pub returns-in-Ok-clause-lists : goal.returns-in-Ok-clause-lists
+returns-in-Ok-clause-lists g c = λ db whole past listed stands clean sound waits.
+    let before = held g.D.DeskStore.kept g.S.SiteStore.kept c.args.machines.now in
+    let after = held g.D.DeskStore.kept g.S.SiteStore.kept c.deliver_one.new.machines in
+    let rest = c.pop_front.new.self.items in
+    let left = rest ++ c.in-Ok.out.letters in
+    let was = c.args.post.now.heard.items in
+    let goes = c.in-Ok.ensures.lists rest db whole past listed stands clean sound (subst (λ (waiting : List Letter). IsListWaiting db whole before waiting past) c.in-Some.ensures.items waits) in
+    either_way c.add.result
+    (λ waiting heard. subst (λ (now : List Letter). ListGoes db whole after now past was c.add.new.self.heard.items) (sym waiting) (goes_as db whole after left past was c.in-Ok.out.replies c.add.new.self.heard.items heard goes.0))
+    (goes_let_go db whole listed after left past [] c.in-Ok.out.replies goes.0) goes.2 c.add.ensures.waiting c.add.ensures.heard
+
+pub returns-in-Err-clause-lists : goal.returns-in-Err-clause-lists
+returns-in-Err-clause-lists g c = λ db whole past listed stands clean sound waits.
+    let before = held g.D.DeskStore.kept g.S.SiteStore.kept c.args.machines.now in
+    c.in-Err.ensures.lists c.pop_front.new.self.items db whole past listed stands clean sound (subst (λ (waiting : List Letter). IsListWaiting db whole before waiting past) c.in-Some.ensures.items waits)

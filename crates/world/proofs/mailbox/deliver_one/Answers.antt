@@ -1,18 +1,21 @@
 -- Why `deliver_one` meets its contract.
 use Rattle.desk.specs.Request.{IsOver}
 use Rattle.catalog.specs.declared.relation.SplitRelation.{SplitRelation}
-use Rattle.std.proofs.Common.{rules, ◌∙◌, sym, subst, IfSome, Option, ℕ, List}
+use Rattle.std.proofs.Common.{rules, ◌∙◌, ◌∷◌, refl, sym, subst, IfSome, Option, ℕ, List}
 use Rattle.world.specs.Counted.{counts}
 use Rattle.world.specs.Contents.{counted, held}
 use Rattle.world.specs.Machines.{AreFit}
 use Rattle.world.proofs.Counting.{fit_uncounted, no_fewer_then, none_fewer, uncounted}
 use Rattle.world.proofs.Deliveries.{passed_over, turned_away}
-use Rattle.world.proofs.SiteSteps.{if_ok}
+use Rattle.world.proofs.SiteSteps.{if_ok, on_err}
 use Rattle.world.proofs.Reasoned.{is_unsent, no_choice, turned_away as is_turned}
 use Rattle.world.proofs.Running.{over_of}
 use Rattle.desk.specs.declared.refusal.Refusal.{Refusal}
 use Rattle.world.specs.Stopping.{StopsFor}
 use Rattle.world.proofs.Stops.{memory_only}
+use Rattle.world.specs.Listed.{FitsList}
+use Rattle.world.proofs.Listing.{stands_as, stays_held}
+use Rattle.world.proofs.ListDelivering.{both_ways, came_goes, let_go, passed_goes, turned_goes, waits_same}
 use Rattle.world.proofs.mailbox.deliver_one.Goals as goal
 
 pub returns-in-None-clause-ok : goal.returns-in-None-clause-ok
@@ -55,3 +58,39 @@ returns-in-Some-clause-blames g c = λ clean sound. subst (λ (stop : Option Ref
 
 pub returns-in-None-clause-blames : goal.returns-in-None-clause-blames
 returns-in-None-clause-blames g c = λ clean sound. memory_only c.give_up.result (counts g.D.DeskStore.refused g.S.SiteStore.refused c.args.machines.now) (counts g.D.DeskStore.refused g.S.SiteStore.refused c.give_up.new.self) c.give_up.ensures.own
+
+pub returns-in-Ok-clause-lists : goal.returns-in-Ok-clause-lists
+returns-in-Ok-clause-lists g c = λ rest db whole past listed stands clean sound waits.
+    let before = held g.D.DeskStore.kept g.S.SiteStore.kept c.args.machines.now in
+    let after = held g.D.DeskStore.kept g.S.SiteStore.kept c.take.new.machines in
+    let came = c.in-Ok.ensures.lists db listed stands clean sound waits.fit in
+    (came_goes db whole listed c.args.letter c.in-Ok.out.kept before after rest c.in-Ok.out.letters c.in-Ok.out.replies past waits came.0, tt, came.1)
+
+pub returns-in-Some-clause-lists : goal.returns-in-Some-clause-lists
+returns-in-Some-clause-lists g c = λ rest db whole past listed stands clean sound waits.
+    let before = held g.D.DeskStore.kept g.S.SiteStore.kept c.args.machines.now in
+    let after = held g.D.DeskStore.kept g.S.SiteStore.kept c.take.new.machines in
+    let stays = c.in-Err.ensures.stays in
+    (tt, let_go db whole listed after (c.args.letter ∷ rest) past (waits_same db whole before after (c.args.letter ∷ rest) past (c.in-Err.ensures.err clean sound) waits), stands_as db c.args.machines.now.desk c.take.new.machines.desk stays.version stays.catalog stays.later stands)
+
+pub returns-in-None-clause-lists : goal.returns-in-None-clause-lists
+returns-in-None-clause-lists g c = λ rest db whole past listed stands clean sound waits.
+    let hold = held g.D.DeskStore.kept g.S.SiteStore.kept in
+    let before = hold c.args.machines.now in
+    let mid = hold c.take.new.machines in
+    let after = hold c.give_up.new.self in
+    let stays = c.in-Err.ensures.stays in
+    let same = c.in-Err.ensures.err (c.give_up.ensures.leaves.clean clean) sound in
+    let stands_mid = stands_as db c.args.machines.now.desk c.take.new.machines.desk stays.version stays.catalog stays.later stands in
+    let fits_mid = subst (FitsList db) (sym same) waits.fit in
+    both_ways _ _ c.give_up.result
+    (if_ok c.give_up.result (λ out asked. (turned_goes db whole listed c.args.letter (no_choice db) before mid after rest out.letters out.replies past same waits asked.0, asked.1)) (c.give_up.ensures.lists db (no_choice db) listed.base.of_catalogue stands_mid fits_mid))
+    (on_err c.give_up.result (λ again still. (let_go db whole listed after (c.args.letter ∷ rest) past (waits_same db whole before after (c.args.letter ∷ rest) past (again ∙ same) waits), stands_as db c.take.new.machines.desk c.give_up.new.self.desk still.version still.catalog still.later stands_mid))
+    c.give_up.ensures.err (stays_held hold c.give_up.result c.take.new.machines c.give_up.new.self (λ m. refl) c.give_up.ensures.err c.give_up.ensures.leaves.catalog c.give_up.ensures.leaves.later))
+
+pub returns-in-None-2-clause-lists : goal.returns-in-None-2-clause-lists
+returns-in-None-2-clause-lists g c = λ rest db whole past listed stands clean sound waits.
+    let before = held g.D.DeskStore.kept g.S.SiteStore.kept c.args.machines.now in
+    let after = held g.D.DeskStore.kept g.S.SiteStore.kept c.take.new.machines in
+    let stays = c.in-Err.ensures.stays in
+    (passed_goes db whole listed c.args.letter before after rest c.put_out.result.letters c.put_out.result.replies past (c.in-Err.ensures.err clean sound) (c.put_out.ensures.letters ∙ c.new.ensures.items) c.put_out.ensures.replies waits, tt, stands_as db c.args.machines.now.desk c.take.new.machines.desk stays.version stays.catalog stays.later stands)

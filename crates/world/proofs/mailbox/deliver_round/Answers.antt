@@ -1,6 +1,8 @@
 -- Why `deliver_round` meets its contract.
-use Rattle.std.proofs.Common.{rules, ◌≡◌, ◌+◌, ◌-◌, ℕ, suc, length, refl, subst, arith}
-use Rattle.world.specs.Contents.{counted}
+use Rattle.std.proofs.Common.{rules, ◌≡◌, ◌+◌, ◌++◌, ◌-◌, ℕ, suc, length, refl, subst, arith}
+use Rattle.world.specs.Contents.{counted, held}
+use Rattle.world.proofs.ListDelivering.{goes_then, on_then, only_fails}
+use Rattle.world.proofs.ListDelivering.{nothing_goes as nothing_goes_list}
 use Rattle.world.specs.Taking.{IsInRound, scene}
 use Rattle.world.proofs.InForce.{in_force_on}
 use Rattle.world.proofs.Leaves.{same_then}
@@ -22,6 +24,7 @@ loop-init g c =
       counts = no_fewer (counts g.D.DeskStore.refused g.S.SiteStore.refused c.args.machines.now);
       goes = λ db of is clean sound fit. nothing_goes db here fit;
       ranks = λ db n of is clean sound fit ranks. all_in_round db n (c.len-end.result - 0) here count ranks;
+      lists = λ db whole past listed stands clean sound waits. (nothing_goes_list db whole (held g.D.DeskStore.kept g.S.SiteStore.kept c.args.machines.now) c.args.post.now.waiting.items past c.args.post.now.heard.items waits, stands);
     }
 
 pub loop-preserved : goal.loop-preserved
@@ -43,6 +46,11 @@ loop-preserved g c =
           let ranked = c.loop.invariant.ranks db n of is (c.deliver_next.ensures.leaves.clean clean) sound fit ranks in
           c.in_ok-deliver_next.ensures.ranks db n (c.len-end.result - (c.loop.counter + 1)) of (in_force_on db _ _ _ _ so_far.version (c.loop.invariant.catalogs fit.single).0 is) clean (c.loop.invariant.sound (c.deliver_next.ensures.leaves.clean clean) sound) so_far.fit
           (subst (λ (k : ℕ). IsInRound db n k here) one_less ranked);
+      lists = λ db whole past listed stands clean sound waits.
+          let hold = held g.D.DeskStore.kept g.S.SiteStore.kept in
+          let so_far = c.loop.invariant.lists db whole past listed stands (c.deliver_next.ensures.leaves.clean clean) sound waits in
+          let more = c.in_ok-deliver_next.ensures.lists db whole (past ++ so_far.0.deeds) listed so_far.1 clean (c.loop.invariant.sound (c.deliver_next.ensures.leaves.clean clean) sound) so_far.0.served in
+          (goes_then db whole (hold c.loop.machines) (hold c.deliver_next.new.machines) c.loop.post.waiting.items c.deliver_next.new.post.waiting.items past c.args.post.now.heard.items c.loop.post.heard.items c.deliver_next.new.post.heard.items so_far.0 more.0, more.2);
     }
 
 pub returns-clause-ranks : goal.returns-clause-ranks
@@ -71,3 +79,14 @@ pub returns-in_err-deliver_next-clause-blames : goal.returns-in_err-deliver_next
 returns-in_err-deliver_next-clause-blames g c = λ clean sound.
     told_on c.from_residual.result c.in_err-deliver_next.field-0.0 (counts g.D.DeskStore.refused g.S.SiteStore.refused c.args.machines.now) (counts g.D.DeskStore.refused g.S.SiteStore.refused c.deliver_next.new.machines) c.from_residual.ensures.1
     (stops_since (counts g.D.DeskStore.refused g.S.SiteStore.refused c.args.machines.now) (counts g.D.DeskStore.refused g.S.SiteStore.refused c.loop.machines) (counts g.D.DeskStore.refused g.S.SiteStore.refused c.deliver_next.new.machines) c.loop.invariant.counts c.in_err-deliver_next.field-0.0 (c.in_err-deliver_next.ensures.blames clean (c.loop.invariant.sound (c.deliver_next.ensures.leaves.clean clean) sound)))
+
+pub returns-clause-lists : goal.returns-clause-lists
+returns-clause-lists g c = λ db whole past listed stands clean sound waits.
+    let so_far = c.loop.invariant.lists db whole past listed stands clean sound waits in
+    (so_far.0, tt, so_far.1)
+
+pub returns-in_err-deliver_next-clause-lists : goal.returns-in_err-deliver_next-clause-lists
+returns-in_err-deliver_next-clause-lists g c = λ db whole past listed stands clean sound waits.
+    let so_far = c.loop.invariant.lists db whole past listed stands (c.deliver_next.ensures.leaves.clean clean) sound waits in
+    let more = c.in_err-deliver_next.ensures.lists db whole (past ++ so_far.0.deeds) listed so_far.1 clean (c.loop.invariant.sound (c.deliver_next.ensures.leaves.clean clean) sound) so_far.0.served in
+    only_fails _ _ c.from_residual.result c.from_residual.ensures.1 (on_then db whole (held g.D.DeskStore.kept g.S.SiteStore.kept c.deliver_next.new.machines) past so_far.0.deeds more.1) more.2

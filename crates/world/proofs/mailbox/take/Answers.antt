@@ -9,6 +9,8 @@ use Rattle.world.proofs.Counting.{fit_uncounted, no_fewer, spared_so, tells_coun
 use Rattle.world.proofs.Deliveries.{was_taken}
 use Rattle.world.proofs.SiteSteps.{if_ok}
 use Rattle.world.proofs.Refusing.{if_err}
+use Rattle.catalog.specs.Relation.{catalogue_of}
+use Rattle.world.proofs.ListDelivering.{of_site_of}
 use Rattle.world.proofs.mailbox.take.Goals as goal
 
 pub returns-clause-ok : goal.returns-clause-ok
@@ -48,3 +50,11 @@ returns-clause-told g c = λ db of is fit.
 
 pub returns-clause-blames : goal.returns-clause-blames
 returns-clause-blames g c = c.deliver.ensures.blames refl
+
+pub returns-clause-lists : goal.returns-clause-lists
+returns-clause-lists g c = λ db listed stands clean sound fits.
+    let there = subst (λ x. list_any (λ site. pointwise nat_eq site c.args.letter.site) x.0 ≡ true) c.catalog.ensures (sym c.has_site.ensures ∙ c.if-not-has_site.false) in
+    c.deliver.ensures.lists db listed.base.of_catalogue stands clean sound fits (of_site_of db _ (catalogue_of c.args.machines.now.desk.catalog) c.args.letter.site listed.base.of_catalogue stands.here there)
+
+pub returns-then-not-has_site-clause-stays : goal.returns-then-not-has_site-clause-stays
+returns-then-not-has_site-clause-stays g c = record { version = refl; catalog = refl; later = refl }

@@ -1,5 +1,13 @@
 -- Why `announce` meets its contract.
+use Rattle.std.proofs.Common.{◌≡◌, ◌≢◌, ◌∷◌, ◌++◌, [], refl, Err, IfOk}
+use Rattle.std.specs.Global.{Vec}
+use Rattle.desk.specs.declared.reply.Notice.{Notice}
+use Rattle.world.specs.Commands.{heard_in}
+use Rattle.world.specs.Contents.{held}
 use Rattle.world.specs.Counted.{counts}
+use Rattle.world.specs.Course.{Refragments}
+use Rattle.world.proofs.ListCalls.{lists_counted, moved_makes, unmoved_lists}
+use Rattle.world.proofs.ListDelivering.{moved_waits}
 use Rattle.world.proofs.Leaves.{leaves_into, leaves_so}
 use Rattle.world.proofs.Stops.{call_since}
 use Rattle.world.proofs.refragmentation.announce.Goals as goal
@@ -13,3 +21,16 @@ returns-in-Ok-clause-blames g c = λ clean sound. call_since c.deliver_all.resul
 
 pub returns-in-Err-clause-leaves : goal.returns-in-Err-clause-leaves
 returns-in-Err-clause-leaves g c = leaves_so g.D.DeskStore.is_clean g.S.SiteStore.is_clean g.D.DeskStore.is_sound g.S.SiteStore.is_sound g.D.DeskStore.refused g.S.SiteStore.refused c.args.machines.now c.refragment.new.self c.refragment.ensures.leaves
+
+pub returns-in-Ok-clause-lists : goal.returns-in-Ok-clause-lists
+returns-in-Ok-clause-lists g c =
+    lists_counted g.D.DeskStore.is_clean g.S.SiteStore.is_clean g.D.DeskStore.is_sound g.S.SiteStore.is_sound g.D.DeskStore.kept g.S.SiteStore.kept g.D.DeskStore.refused g.S.SiteStore.refused c.args.machines.now c.deliver_all.new.machines c.deliver_all.result (λ db. (λ done moves. (moves ≡ Refragments c.args.text.now (heard_in (λ heard. heard.items) done) ∷ []) × IfOk done (λ heard. heard.items ≢ [])))
+    (λ db whole past listed stands clean sound served.
+    let hold = held g.D.DeskStore.kept g.S.SiteStore.kept in
+    let made = c.in-Ok.ensures.lists db listed.base.of_catalogue stands served.fit in
+    let waits = moved_waits db whole listed c.args.text.now (hold c.args.machines.now) (hold c.refragment.new.self) c.in-Ok.out.letters c.in-Ok.out.replies past served made.0 in
+    let came = c.deliver_all.ensures.lists db whole (past ++ made.0.leads.deeds) listed made.1 clean (c.refragment.ensures.leaves.sound (c.deliver_all.ensures.leaves.clean clean) sound) waits in
+    moved_makes db whole c.args.text.now (λ heard. heard.items) (hold c.args.machines.now) (hold c.refragment.new.self) (hold c.deliver_all.new.machines) c.in-Ok.out past c.deliver_all.result made.0 c.deliver_all.ensures.own came)
+
+pub returns-in-Err-clause-lists : goal.returns-in-Err-clause-lists
+returns-in-Err-clause-lists g c = unmoved_lists g.D.DeskStore.is_clean g.S.SiteStore.is_clean g.D.DeskStore.is_sound g.S.SiteStore.is_sound g.D.DeskStore.kept g.S.SiteStore.kept g.D.DeskStore.refused g.S.SiteStore.refused c.args.text.now (λ (heard : Vec Notice). heard.items) c.in-Err.refusal c.args.machines.now c.refragment.new.self c.in-Err.ensures.err c.refragment.ensures.leaves.catalog c.refragment.ensures.leaves.later

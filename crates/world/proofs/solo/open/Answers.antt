@@ -14,6 +14,9 @@ use Rattle.world.specs.Executed.{Stands}
 use Rattle.world.proofs.DatabaseIsOpened.{opens_quiet, opens_run}
 use Rattle.world.proofs.Counting.{fit_counted}
 use Rattle.world.proofs.OfChain.{last_of}
+use Rattle.desk.specs.CatalogueDatabase.{databases}
+use Rattle.world.proofs.ListCalls.{served_with}
+use Rattle.world.proofs.ListSolo.{opens_served}
 use Rattle.world.proofs.solo.open.Goals as goal
 
 pub returns-clause-served : goal.returns-clause-served
@@ -34,3 +37,9 @@ returns-clause-stands c = λ catalogue fitting last.
 
 pub returns-clause-single : goal.returns-clause-single
 returns-clause-single c = λ catalogue alone. last_of 1 catalogue _ c.in_ok-machines.machines.desk alone c.in_ok-machines.ensures.catalogs
+
+pub returns-clause-lists : goal.returns-clause-lists
+returns-clause-lists c = λ first rest same fits.
+    let machines = c.in_ok-machines.machines in
+    let opened = c.in_ok-machines.ensures.lists first rest same fits in
+    (served_with (databases first rest) c.args.whole.now (held desk_kept kept_of machines) (counts (λ _. 0) (λ _. 0) machines) [] (opens_served (databases first rest) c.args.whole.now (held desk_kept kept_of machines) opened.0), opened.1)

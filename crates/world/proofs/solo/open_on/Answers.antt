@@ -13,6 +13,9 @@ use Rattle.world.specs.Start.{AreNew}
 use Rattle.world.proofs.DatabaseIsOpened.{opens_quiet, opens_run}
 use Rattle.world.proofs.Counting.{fit_counted}
 use Rattle.world.proofs.OfChain.{last_of}
+use Rattle.desk.specs.CatalogueDatabase.{databases}
+use Rattle.world.proofs.ListCalls.{served_with}
+use Rattle.world.proofs.ListSolo.{opens_served}
 use Rattle.world.proofs.solo.open_on.Goals as goal
 
 pub returns-clause-served : goal.returns-clause-served
@@ -37,3 +40,11 @@ returns-clause-stands g c = λ catalogue last clean.
 
 pub returns-clause-single : goal.returns-clause-single
 returns-clause-single g c = λ catalogue alone. last_of c.in_ok-machines.machines.desk.volatile.version catalogue _ c.in_ok-machines.machines.desk alone c.in_ok-machines.ensures.catalogs
+
+pub returns-clause-lists : goal.returns-clause-lists
+returns-clause-lists g c = λ first rest same fits one clean new.
+    let D = g.D.DeskStore in
+    let S = g.S.SiteStore in
+    let machines = c.in_ok-machines.machines in
+    let opened = c.in_ok-machines.ensures.lists first rest same fits one clean new in
+    (served_with (databases first rest) c.args.whole.now (held D.kept S.kept machines) (counts D.refused S.refused machines) [] (opens_served (databases first rest) c.args.whole.now (held D.kept S.kept machines) opened.0), opened.1)

@@ -18,8 +18,8 @@ returns-in-Ok-clause-comes g c =
     let new = c.begin.new.machines in
     let txn = c.in-Ok.begun.txn in
     let first = subst (λ r. ComesTo clean sound view old new r (λ db. IsOne (λ begun. Begins begun.txn begun.heard.items) (call.Begin))) c.in-Ok.is c.begin.ensures in
-    as_kind clean sound view old new _ _ (λ blamed. tt)
-    (λ db of is made. record { moves = made.moves; made = made.made; is = λ text spelled. only_begins txn c.in-Ok.begun.heard.items made.is (spelled, c.in-None.is) refl refl }) first
+    as_kind clean sound view old new _ _ (λ blamed. tt) (λ none. none)
+    (λ db of n is moves k. inr (λ text spelled. only_begins txn c.in-Ok.begun.heard.items k (spelled, c.in-None.is) refl refl)) first
 
 pub returns-in-Err-clause-comes : goal.returns-in-Err-clause-comes
 returns-in-Err-clause-comes g c =
@@ -30,8 +30,8 @@ returns-in-Err-clause-comes g c =
     let new = c.begin.new.machines in
     let told = c.in-Err.refusal in
     let first = subst (λ r. ComesTo clean sound view old new r (λ db. IsOne (λ begun. Begins begun.txn begun.heard.items) (call.Begin))) c.in-Err.is c.begin.ensures in
-    as_kind clean sound view old new _ _ (λ blamed. blamed)
-    (λ db of is makes. ⊎_elim (λ stops. inl stops) (λ made. inr (record { moves = made.moves; made = made.made; is = λ text spelled. is_turned_down call.Begin told made.is (spelled, c.in-None.is) refl refl })) makes) first
+    as_kind clean sound view old new _ _ (λ blamed. blamed) (λ stop. stop)
+    (λ db of n is moves k. inr (λ text spelled. is_turned_down call.Begin told k (spelled, c.in-None.is) refl refl)) first
 
 pub returns-in-Some-clause-comes : goal.returns-in-Some-clause-comes
 returns-in-Some-clause-comes g c =
@@ -39,4 +39,4 @@ returns-in-Some-clause-comes g c =
     let sound = OfStores g.D.DeskStore.is_sound g.S.SiteStore.is_sound in
     let view = counted g.D.DeskStore.kept g.S.SiteStore.kept g.D.DeskStore.refused g.S.SiteStore.refused in
     let old = c.args.self.now.machines in
-    stays clean sound view old _ tt (λ db of is. inr (record { moves = []; made = refl; is = λ text spelled. makes_none Busy refl (is_inside _ c.in-Some.is spelled refl) refl refl }))
+    stays clean sound view old _ tt (λ db of n is. inr (λ text spelled. makes_none Busy refl (is_inside _ c.in-Some.is spelled refl) refl refl))

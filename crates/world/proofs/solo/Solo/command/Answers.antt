@@ -21,7 +21,7 @@ returns-in-Ok-clause-comes g c =
     let view = counted g.D.DeskStore.kept g.S.SiteStore.kept g.D.DeskStore.refused g.S.SiteStore.refused in
     let old = c.args.self.now.machines in
     narrowed_of clean sound view old c.obey.new.self.machines c.obey.result
-    (λ db of is moves so. so (subst (λ (schemas : List RelationSchema). IsTextOf schemas c.args.text.now c.in-Ok.command) (ap (λ (x : List (List ℕ) × List SplitRelation). schemas_of (catalogue_of x)) c.catalog.ensures ∙ ap schemas_of (sym is) ∙ sym (of.schemas (view old).table.version)) c.in-Ok.ensures.read)) c.obey.ensures.comes
+    (λ db of n is moves so. so (subst (λ (schemas : List RelationSchema). IsTextOf schemas c.args.text.now c.in-Ok.command) (ap (λ (x : List (List ℕ) × List SplitRelation). schemas_of (catalogue_of x)) c.catalog.ensures ∙ ap schemas_of (sym is) ∙ sym (of.schemas n)) c.in-Ok.ensures.read)) c.obey.ensures.comes
 
 pub returns-in-Err-clause-comes : goal.returns-in-Err-clause-comes
 returns-in-Err-clause-comes g c =
@@ -30,7 +30,7 @@ returns-in-Err-clause-comes g c =
     let view = counted g.D.DeskStore.kept g.S.SiteStore.kept g.D.DeskStore.refused g.S.SiteStore.refused in
     let old = c.args.self.now.machines in
     unread clean sound view old c.in-Err.refusal c.args.text.now c.args.self.now.current
-    (λ db of is. (subst (λ (schemas : List RelationSchema). IsUnreadable schemas c.args.text.now c.in-Err.refusal) (ap (λ (x : List (List ℕ) × List SplitRelation). schemas_of (catalogue_of x)) c.catalog.ensures ∙ ap schemas_of (sym is) ∙ sym (of.schemas (view old).table.version)) c.in-Err.ensures.reader_refusal)) (unreadable_stops (view old).refused (view old).refused c.in-Err.refusal _ c.args.text.now c.in-Err.ensures.reader_refusal)
+    (λ db of n is. (subst (λ (schemas : List RelationSchema). IsUnreadable schemas c.args.text.now c.in-Err.refusal) (ap (λ (x : List (List ℕ) × List SplitRelation). schemas_of (catalogue_of x)) c.catalog.ensures ∙ ap schemas_of (sym is) ∙ sym (of.schemas n)) c.in-Err.ensures.reader_refusal)) (unreadable_stops (view old).refused (view old).refused c.in-Err.refusal _ c.args.text.now c.in-Err.ensures.reader_refusal)
 
 pub returns-in-Ok-clause-inside : goal.returns-in-Ok-clause-inside
 returns-in-Ok-clause-inside g c = λ txn some spelled.

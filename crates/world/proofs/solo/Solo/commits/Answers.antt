@@ -18,8 +18,8 @@ returns-in-Ok-clause-comes g c =
     let new = c.commit.new.machines in
     let txn = c.in-Some.txn in
     let first = subst (λ r. ComesTo clean sound view old new r (λ db. IsOne (λ heard. Commits txn heard.items) (call.Commit txn))) c.in-Ok.is c.commit.ensures in
-    as_kind clean sound view old new _ _ (λ blamed. tt)
-    (λ db of is made. record { moves = made.moves; made = made.made; is = λ text spelled. only_commits c.in-Some.txn c.in-Ok.heard.items made.is (spelled, c.in-Some.is) refl refl }) first
+    as_kind clean sound view old new _ _ (λ blamed. tt) (λ none. none)
+    (λ db of n is moves k. inr (λ text spelled. only_commits c.in-Some.txn c.in-Ok.heard.items k (spelled, c.in-Some.is) refl refl)) first
 
 pub returns-in-Err-clause-comes : goal.returns-in-Err-clause-comes
 returns-in-Err-clause-comes g c =
@@ -31,8 +31,8 @@ returns-in-Err-clause-comes g c =
     let txn = c.in-Some.txn in
     let told = c.in-Err.refusal in
     let first = subst (λ r. ComesTo clean sound view old new r (λ db. IsOne (λ heard. Commits txn heard.items) (call.Commit txn))) c.in-Err.is c.commit.ensures in
-    as_kind clean sound view old new _ _ (λ blamed. blamed)
-    (λ db of is makes. ⊎_elim (λ stops. inl stops) (λ made. inr (record { moves = made.moves; made = made.made; is = λ text spelled. is_turned_down (call.Commit c.in-Some.txn) told made.is (spelled, c.in-Some.is) refl refl })) makes) first
+    as_kind clean sound view old new _ _ (λ blamed. blamed) (λ stop. stop)
+    (λ db of n is moves k. inr (λ text spelled. is_turned_down (call.Commit c.in-Some.txn) told k (spelled, c.in-Some.is) refl refl)) first
 
 pub returns-in_default-clause-comes : goal.returns-in_default-clause-comes
 returns-in_default-clause-comes g c =
@@ -40,4 +40,4 @@ returns-in_default-clause-comes g c =
     let sound = OfStores g.D.DeskStore.is_sound g.S.SiteStore.is_sound in
     let view = counted g.D.DeskStore.kept g.S.SiteStore.kept g.D.DeskStore.refused g.S.SiteStore.refused in
     let old = c.args.self.now.machines in
-    stays clean sound view old _ tt (λ db of is. inr (record { moves = []; made = refl; is = λ text spelled. makes_none NoTransaction refl (is_outside c.in_default.is (inl spelled) refl) refl refl }))
+    stays clean sound view old _ tt (λ db of n is. inr (λ text spelled. makes_none NoTransaction refl (is_outside c.in_default.is (inl spelled) refl) refl refl))

@@ -12,6 +12,8 @@ use Rattle.world.proofs.Outcomes.{executed}
 use Rattle.desk.specs.CatalogueDatabase.{database, fits}
 use Rattle.world.specs.Commands.{CommandsFollow}
 use Rattle.world.specs.Contents.{counted}
+use Rattle.world.proofs.ListCalls.{makes_on}
+use Rattle.world.proofs.ListSolo.{served_still}
 use Rattle.world.proofs.solo.Solo.execute.Goals as goal
 
 pub returns-clause-leaves : goal.returns-clause-leaves
@@ -47,3 +49,14 @@ pub returns-in-Some-clause-served : goal.returns-in-Some-clause-served
 returns-in-Some-clause-served g c = λ whole past clean sound served.
     let db = database (catalogue_of c.args.self.now.machines.desk.catalog) in
     ([], nothing_more db whole (counted g.D.DeskStore.kept g.S.SiteStore.kept g.D.DeskStore.refused g.S.SiteStore.refused c.args.self.now.machines) past served)
+
+pub returns-clause-lists : goal.returns-clause-lists
+returns-clause-lists g c = λ going. c.command-done.ensures.comes.lists
+
+pub returns-clause-served_lists : goal.returns-clause-served_lists
+returns-clause-served_lists g c = λ db whole past listed stands clean sound served.
+    let made = c.command-done.ensures.comes.lists db whole past listed stands clean sound served in
+    (makes_on db whole (counted g.D.DeskStore.kept g.S.SiteStore.kept g.D.DeskStore.refused g.S.SiteStore.refused c.command-done.new.self.machines) past c.command-done.result _ made.0, made.1)
+
+pub returns-in-Some-clause-served_lists : goal.returns-in-Some-clause-served_lists
+returns-in-Some-clause-served_lists g c = λ db whole past listed stands clean sound served. (served_still db whole (counted g.D.DeskStore.kept g.S.SiteStore.kept g.D.DeskStore.refused g.S.SiteStore.refused c.args.self.now.machines) past served, stands)

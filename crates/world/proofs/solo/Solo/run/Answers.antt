@@ -18,6 +18,7 @@ use Rattle.world.specs.Settling.{GrowsQuiet}
 use Rattle.world.proofs.BatchRuns.{has_run, was_stopped}
 use Rattle.world.specs.Stopping.{StopsFor}
 use Rattle.world.specs.Counted.{counts}
+use Rattle.world.proofs.ListSolo.{served_still}
 use Rattle.world.proofs.solo.Solo.run.Goals as goal
 
 pub returns-in-Ok-clause-ran : goal.returns-in-Ok-clause-ran
@@ -85,3 +86,15 @@ pub returns-then-is_some-clause-served : goal.returns-then-is_some-clause-served
 returns-then-is_some-clause-served g c = λ whole past clean sound served.
     let db = database (catalogue_of c.args.self.now.machines.desk.catalog) in
     ([], nothing_more db whole (counted g.D.DeskStore.kept g.S.SiteStore.kept g.D.DeskStore.refused g.S.SiteStore.refused c.args.self.now.machines) past served)
+
+pub returns-in-Ok-clause-lists : goal.returns-in-Ok-clause-lists
+returns-in-Ok-clause-lists g c = λ db whole past listed stands clean sound served. c.in-Ok.ensures.lists db whole past listed stands clean sound served
+
+pub returns-in-Err-clause-lists : goal.returns-in-Err-clause-lists
+returns-in-Err-clause-lists g c = λ db whole past listed stands clean sound served. c.in-Err.ensures.lists db whole past listed stands clean sound served
+
+pub returns-in-Some-clause-lists : goal.returns-in-Some-clause-lists
+returns-in-Some-clause-lists g c = λ db whole past listed stands clean sound served. ((tt, served_still db whole (counted g.D.DeskStore.kept g.S.SiteStore.kept g.D.DeskStore.refused g.S.SiteStore.refused c.args.self.now.machines) past served), stands)
+
+pub returns-then-is_some-clause-lists : goal.returns-then-is_some-clause-lists
+returns-then-is_some-clause-lists g c = λ db whole past listed stands clean sound served. ((tt, served_still db whole (counted g.D.DeskStore.kept g.S.SiteStore.kept g.D.DeskStore.refused g.S.SiteStore.refused c.args.self.now.machines) past served), stands)

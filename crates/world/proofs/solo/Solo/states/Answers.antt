@@ -18,8 +18,8 @@ returns-in-Ok-clause-comes g c =
     let new = c.state.new.machines in
     let txn = c.in-Some.txn in
     let first = subst (λ r. ComesTo clean sound view old new r (λ db. IsOne (λ heard. States txn c.args.text.now heard.items) (call.State txn c.args.text.now))) c.in-Ok.is c.state.ensures in
-    as_kind clean sound view old new _ _ (λ blamed. tt)
-    (λ db of is made. record { moves = made.moves; made = made.made; is = λ spelled. only_states txn c.args.text.now c.in-Ok.heard.items made.is ((c.args.statement.now, spelled), c.in-Some.is, refl) (c.still_open-self.ensures ∙ (λ i. still_open (sym c.in-Some.is i) (c.as_slice.ensures.value i))) refl }) first
+    as_kind clean sound view old new _ _ (λ blamed. tt) (λ none. none)
+    (λ db of n is moves k. inr (λ spelled. only_states txn c.args.text.now c.in-Ok.heard.items k ((c.args.statement.now, spelled), c.in-Some.is, refl) (c.still_open-self.ensures ∙ (λ i. still_open (sym c.in-Some.is i) (c.as_slice.ensures.value i))) refl)) first
 
 pub returns-in-Err-clause-comes : goal.returns-in-Err-clause-comes
 returns-in-Err-clause-comes g c =
@@ -31,8 +31,8 @@ returns-in-Err-clause-comes g c =
     let txn = c.in-Some.txn in
     let told = c.in-Err.refusal in
     let first = subst (λ r. ComesTo clean sound view old new r (λ db. IsOne (λ heard. States txn c.args.text.now heard.items) (call.State txn c.args.text.now))) c.in-Err.is c.state.ensures in
-    as_kind clean sound view old new _ _ (λ blamed. blamed)
-    (λ db of is makes. ⊎_elim (λ stops. inl stops) (λ made. inr (record { moves = made.moves; made = made.made; is = λ spelled. is_turned_down (call.State txn c.args.text.now) told made.is ((c.args.statement.now, spelled), c.in-Some.is, refl) refl refl })) makes) first
+    as_kind clean sound view old new _ _ (λ blamed. blamed) (λ stop. stop)
+    (λ db of n is moves k. inr (λ spelled. is_turned_down (call.State txn c.args.text.now) told k ((c.args.statement.now, spelled), c.in-Some.is, refl) refl refl)) first
 
 pub returns-then-is_refragment-clause-comes : goal.returns-then-is_refragment-clause-comes
 returns-then-is_refragment-clause-comes g c =
@@ -41,7 +41,7 @@ returns-then-is_refragment-clause-comes g c =
     let view = counted g.D.DeskStore.kept g.S.SiteStore.kept g.D.DeskStore.refused g.S.SiteStore.refused in
     let leaves = c.run_refragment.ensures.leaves in
     is_refragmented clean sound view c.args.self.now.machines c.run_refragment.new.machines c.run_refragment.result c.args.text.now c.args.self.now.current c.args.statement.now (sym c.is_refragment.ensures ∙ c.if-is_refragment.true) c.in_default.is
-    leaves.clean leaves.sound leaves.counts leaves.catalogs c.run_refragment.ensures.blames c.run_refragment.ensures.none
+    leaves.clean leaves.sound leaves.counts leaves.catalogs c.run_refragment.ensures.blames c.run_refragment.ensures.none c.run_refragment.ensures.lists
 
 pub returns-in_default-clause-comes : goal.returns-in_default-clause-comes
 returns-in_default-clause-comes g c =
