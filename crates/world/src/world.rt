@@ -78,8 +78,8 @@ pub struct World<D: DeskStore, S: SiteStore> {
 }
 
 /// A world over lists is opened, under the first catalogue of a chain: the fragments rebuild these whole relations, and nothing
-/// has happened. Only want of memory is a fault. Here and below the clauses `lists` speak of every chain, and the others of
-/// runs in which no catalogue comes later.
+/// has happened. Only want of memory is a fault. Here and below the clauses `lists`, and those that end so, speak of every chain, and the
+/// others of runs in which no catalogue comes later.
 pub fn open(
     alloc: Global,
     chain: &Chain,
