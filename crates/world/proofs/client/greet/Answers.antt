@@ -69,7 +69,7 @@ returns-in-Err-clause-denied g c = λ db of is clean sound fit.
     let mid = held g.D.DeskStore.kept g.S.SiteStore.kept c.begin.new.self in
     let old = counts g.D.DeskStore.refused g.S.SiteStore.refused c.args.machines.now in
     let new = counts g.D.DeskStore.refused g.S.SiteStore.refused c.begin.new.self in
-    still_denied db (with_counts before old) (with_counts mid new) call.Begin c.in-Err.refusal fit (same_counted before mid old new c.in-Err.ensures.err (uncounted g.D.DeskStore.refused g.S.SiteStore.refused c.begin.ensures.uncalled)) (c.in-Err.ensures.full db (over_of db _ c.args.machines.now.desk.catalog of is) (fit_uncounted db before old fit))
+    still_denied db (with_counts before old) (with_counts mid new) call.Begin c.in-Err.refusal fit (same_counted before mid old new c.in-Err.ensures.err (uncounted g.D.DeskStore.refused g.S.SiteStore.refused c.begin.ensures.uncalled)) (c.in-Err.ensures.full db (over_of db _ c.args.machines.now.desk.catalog of is) fit.desk)
 
 pub returns-in-Ok-clause-leaves : goal.returns-in-Ok-clause-leaves
 returns-in-Ok-clause-leaves g c = record {

@@ -7,6 +7,8 @@ use Rattle.world.specs.Counted.{HaveRefused, counts}
 use Rattle.world.specs.Contents.{held}
 use Rattle.world.proofs.Counting.{fit_uncounted, no_fewer, spared_so, tells_counted}
 use Rattle.world.proofs.Deliveries.{was_taken}
+use Rattle.world.proofs.Listing.{stands_single}
+use Rattle.world.proofs.Machinery.{fits_list}
 use Rattle.world.proofs.SiteSteps.{if_ok}
 use Rattle.world.proofs.Refusing.{if_err}
 use Rattle.catalog.specs.Relation.{catalogue_of}
@@ -46,7 +48,7 @@ returns-clause-told g c = λ db of is fit.
     let of_site = subst named (sym (of.sites _ ∙ ap (λ (x : Catalogue). x.sites) is)) (subst (λ x. list_any (λ site. pointwise nat_eq site c.args.letter.site) x.0 ≡ true) c.catalog.ensures there) in
     let before = held g.D.DeskStore.kept g.S.SiteStore.kept c.args.machines.now in
     let old = counts g.D.DeskStore.refused g.S.SiteStore.refused c.args.machines.now in
-    if_err c.deliver.result (λ fault why. tells_counted db before old c.args.letter fault why) (c.deliver.ensures.told db of is (fit_uncounted db before old fit) of_site)
+    if_err c.deliver.result (λ fault why. tells_counted db before old c.args.letter fault why) (c.deliver.ensures.told db of (stands_single db c.args.machines.now.desk is fit.single) (fits_list db before (fit_uncounted db before old fit)) of_site)
 
 pub returns-clause-blames : goal.returns-clause-blames
 returns-clause-blames g c = c.deliver.ensures.blames refl
