@@ -2,7 +2,7 @@
 use Rattle.world.specs.Contents.{counted}
 use Rattle.world.proofs.Beginning.{begin_done}
 use Rattle.world.proofs.SiteSteps.{if_both}
-use Rattle.std.proofs.Common.{inr, Err}
+use Rattle.std.proofs.Common.{inr, Err, inl}
 use Rattle.world.proofs.Beginning.{begin_still, begin_unheard}
 use Rattle.world.proofs.Denials.{if_errs}
 use Rattle.world.specs.Course.{Begins}
