@@ -265,6 +265,18 @@ module _ (db : Database) where
       sent_is after ∙ ap (map (letter_at local (statements db))) is ∙ map-append (letter_at local (statements db)) (map letter_of before) (flat_map (λ seat. inquiries seat.name (state_of seat.kept seat.table)) seats)
       ∙ (λ i. sym (sent_is before) i ++ seats_ask seats i)
 
+  -- so a world in which all have asked is reached
+  pub all_asked : (law : ReachedLaw L) (opened : L.Whole) (distinct : AreDistinct db.sites) (mid : Machines) (now : List (Deed L)) (commits asked : List letters.Letter) → map (λ seat. seat.name) mid.seats ≡ db.sites →
+      map letter_of asked ≡ map letter_of commits ++ flat_map (λ seat. inquiries seat.name (state_of seat.kept seat.table)) mid.seats → IsReached opened (world_of db mid (map (sent db) commits) now) → IsReached opened (world_of db mid (map (sent db) asked) now)
+  all_asked law opened distinct mid now commits asked named more reached =
+      let before = world_of db mid (map (sent db) commits) now in
+      let after = world_of db mid (map (sent db) asked) now in
+      let each : OneEach [] mid.seats = one_each db.sites distinct [] mid.seats named (λ name here. tt) in
+      let all_ask : all_inquire db.sites before ≡ after =
+      subst (λ (names : List (List ℕ)). all_inquire names before ≡ after) named
+      (asked_is mid now mid.seats (map (sent db) commits) (own_states [] mid.seats each) ∙ ap (λ ls. world_of db mid ls now) (sym (sent_more mid.seats commits asked more))) in
+      subst (IsReached opened) all_ask (asked_reached mid now law opened db.sites before (λ a here. here) reached)
+
   -- ---- at the end
   -- no ticket stands where a database that recovers has no letter left
   all_dead : (deeds : List (Deed L)) (v : World L) → Recovering deeds v → v.letters ≡ [] → (a : List ℕ) (k : Name) → is_dead ((v.sites a).status k) ≡ true
