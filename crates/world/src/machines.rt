@@ -142,6 +142,7 @@ impl<D: DeskStore, S: SiteStore> Machines<D, S> {
         ensures ok { (db : Database) (choice : Choice (language db)) → IsOver db self.old.desk.catalog.0 → AreFit db (held D.kept S.kept self.old)
             → IfOk result (λ out. Asked db txn choice Give_up (held D.kept S.kept self.old) (held D.kept S.kept self.new) out.letters out.replies) }
         ensures own { IfErr result (λ told. told ≡ refusals.Memory) }
+        ensures kept { IfOk result (λ out. out.kept ≡ true) }
         ensures lists { (db : Database) (choice : Choice (language db)) → IsOfCatalogue db → StandsIn db self.old.desk → FitsList db (held D.kept S.kept self.old)
             → IfOk result (λ out. ListAsked db txn choice Give_up (held D.kept S.kept self.old) (held D.kept S.kept self.new) out.letters out.replies × StandsIn db self.new.desk) }
         ensures uncalled { CallsNoStore self.old self.new }
@@ -232,6 +233,7 @@ impl<D: DeskStore, S: SiteStore> Machines<D, S> {
         ensures spared_lists { (db : Database) → IsOfCatalogue db → StandsIn db self.old.desk → OfStores D.is_clean S.is_clean self.new → OfStores D.is_sound S.is_sound self.old → FitsList db (held D.kept S.kept self.old) → is_of_site db letter ≡ true
             → IfOk result (λ out. ListCameUnless ((kept ≡ false) ⊎ HaveRefused (counts D.refused S.refused self.old) (counts D.refused S.refused self.new)) db letter (held D.kept S.kept self.old) (held D.kept S.kept self.new) out.letters out.replies) }
         ensures sent { result ≢ Err faults.Unsent }
+        ensures unkept { is_order letter.body ≡ false → IfOk result (λ out. out.kept ≡ false → (kept ≡ false) ⊎ HaveRefused (counts D.refused S.refused self.old) (counts D.refused S.refused self.new)) }
         ensures blames { kept ≡ true → OfStores D.is_clean S.is_clean self.new → OfStores D.is_sound S.is_sound self.old
             → IfErr result (λ fault. IfSome (stop_of fault) (StopsFor (counts D.refused S.refused self.old) (counts D.refused S.refused self.new))) }
         ensures uncalled { kept ≡ false → CallsNoStore self.old self.new }
@@ -310,7 +312,7 @@ fn votes_no(letters: &[Letter]) -> bool
 }
 
 /// Whether a letter is for a site.
-fn is_order(body: &Body) -> bool
+pub(crate) fn is_order(body: &Body) -> bool
     ensures { result ≡ is_order body.now }
 {
     matches!(body, Body::Order(_))

@@ -1,29 +1,32 @@
 //! The letters of one client's machines come, each once, the oldest first.
 
-ghost use Rattle.std.specs.Prelude.{◌≡◌, ◌++◌, ◌∷◌, [], List, ℕ, suc, true, IfErr, IfOk, IfSome, OnErr, OnOk};
+ghost use Rattle.std.specs.Prelude.{◌⊎◌, ◌&&◌, not, length, nat_eq, false, ◌≡◌, ◌++◌, ◌∷◌, [], List, ℕ, suc, true, IfErr, IfOk, IfSome, OnErr, OnOk};
 ghost use Rattle.catalog.specs.Relation.{catalogue_of};
 ghost use Rattle.desk.specs.Database.{Database};
 ghost use Rattle.desk.specs.OfCatalogue.{InForce, IsOfCatalogue};
 ghost use Rattle.protocol.specs.Rounds.{RanksUnder};
 ghost use Rattle.desk.specs.declared.refusal.Refusal.TheVariants as refusals;
-ghost use Rattle.world.specs.Counted.{counts};
+ghost use Rattle.store.specs.declared.fault.StoreFault.TheVariants as store_faults;
+ghost use Rattle.world.specs.Counted.{HaveRefused, counts};
 ghost use Rattle.world.specs.Mailbox.{Breaks, Goes, settled};
 ghost use Rattle.world.specs.Frame.{Blames, LeavesDatabase, ListDelivers, OverDatabase, StaysInForce, StaysOnErr};
 ghost use Rattle.world.specs.Listed.{FitsList, IsListed, ListCame, StandsIn};
 ghost use Rattle.store.specs.declared.letter.Letter.{Letter as LetterNow};
 ghost use Rattle.world.specs.Contents.{OfStores, counted, held};
-ghost use Rattle.world.specs.Machines.{AreFit};
+ghost use Rattle.world.specs.Machines.{AreFit, is_order};
 ghost use Rattle.world.specs.Reasons.{Tells};
 ghost use Rattle.world.specs.Stopping.{StopsFor, is_stop};
 ghost use Rattle.world.specs.Taking.{IsDone, IsInRound, put_out_by, scene, stop_of, turns_away, world_at};
 
 use crate::fault::Fault;
-use crate::machines::{Machines, has_site, put_out};
+use crate::machines::{Machines, has_site, is_order, put_out};
+use catalog::catalogue::Catalog;
 use desk::refusal::Refusal;
 use desk::reply::{Notice, Out};
 use site::fault::SiteFault;
 use std::collections::VecDeque;
 use store::desk_store::DeskStore;
+use store::fault::StoreFault;
 use store::letter::Letter;
 use store::site_store::SiteStore;
 
@@ -61,6 +64,7 @@ fn take<D: DeskStore, S: SiteStore>(
         → IfOk result (λ out. ListCame db letter out.kept (held D.kept S.kept machines.old) (held D.kept S.kept machines.new) out.letters out.replies × StandsIn db machines.new.desk) }
     ensures stays { OnErr result (StaysInForce machines.old machines.new) }
     ensures err { StaysOnErr (OfStores D.is_clean S.is_clean) (OfStores D.is_sound S.is_sound) (held D.kept S.kept) machines.old machines.new result }
+    ensures unkept { is_order letter.body ≡ false → IfOk result (λ out. out.kept ≡ false → HaveRefused (counts D.refused S.refused machines.old) (counts D.refused S.refused machines.new)) }
 {
     if !has_site(machines.desk.catalog(), &letter.site) {
         return Err(Fault::Unsent);
@@ -82,6 +86,7 @@ fn deliver_one<D: DeskStore, S: SiteStore>(
     ensures lists { (rest : List LetterNow) → ListDelivers (OfStores D.is_clean S.is_clean) (OfStores D.is_sound S.is_sound) (held D.kept S.kept) machines.old machines.new result (letter ∷ rest) (λ out. rest ++ out.letters) [] (λ out. out.replies) }
     ensures err { StaysOnErr (OfStores D.is_clean S.is_clean) (OfStores D.is_sound S.is_sound) (held D.kept S.kept) machines.old machines.new result }
     ensures own { IfErr result (λ refusal. is_stop refusal ≡ true) }
+    ensures unkept { is_order letter.body ≡ false → IfOk result (λ out. out.kept ≡ false → HaveRefused (counts D.refused S.refused machines.old) (counts D.refused S.refused machines.new)) }
 {
     let txn = letter.txn;
     let fault = match take(machines, letter) {
@@ -118,12 +123,16 @@ impl Post {
         }
     }
 
-    /// What a letter has brought about. Its letters wait behind the others.
-    fn add(&mut self, out: Out) -> Result<(), Refusal>
+    /// What a letter has brought about. Its letters wait behind the others; is_unsure: none may come, since a store refused and what
+    /// its medium has of that isn't known.
+    fn add(&mut self, out: Out, is_unsure: bool) -> Result<(), Refusal>
         ensures waiting { OnOk result (self.new.waiting.items ≡ self.old.waiting.items ++ out.letters) }
         ensures heard { OnOk result (self.new.heard.items ≡ self.old.heard.items ++ out.replies) }
-        ensures own { IfErr result (λ refusal. refusal ≡ refusals.Memory) }
+        ensures own { IfErr result (λ refusal. (refusal ≡ refusals.Memory) ⊎ ((is_unsure ≡ true) × (refusal ≡ refusals.Store store_faults.Refused))) }
     {
+        if is_unsure {
+            return Err(Refusal::Store(StoreFault::Refused));
+        }
         let mut letters = VecDeque::from_vec(out.letters.into_vec());
         if self.waiting.append(&mut letters).is_err() {
             return Err(Refusal::Memory);
@@ -135,7 +144,17 @@ impl Post {
     }
 }
 
-/// The oldest letter that waits comes, if one does.
+/// Whether the coordinator's store refused a commit while a catalogue comes later. is_order: whether the letter was for a site.
+fn is_unsure(is_order: bool, kept: bool, later: &[Catalog]) -> bool
+    ensures told { result ≡ (not is_order && (not kept && not (nat_eq (length later.now) 0))) }
+    ensures only { result ≡ true → (is_order ≡ false) × (kept ≡ false) }
+{
+    !is_order && !kept && !later.is_empty()
+}
+
+/// The oldest letter that waits comes, if one does. Where the coordinator's store refused a commit while a catalogue comes later, the
+/// database is stopped: whether the medium has the next one's number after all shows at the next opening, so no site may hear that the
+/// transaction was aborted.
 fn deliver_next<D: DeskStore, S: SiteStore>(
     machines: &mut Machines<D, S>,
     post: &mut Post,
@@ -155,10 +174,12 @@ fn deliver_next<D: DeskStore, S: SiteStore>(
         return Ok(());
     };
     machines.traffic = machines.traffic.with_letter();
+    let is_order = is_order(&letter.body);
     match deliver_one(machines, letter) {
         Ok(out) => {
             machines.traffic = machines.traffic.with_step(out.letters.as_slice());
-            post.add(out)
+            let is_unsure = is_unsure(is_order, out.kept, machines.desk.later());
+            post.add(out, is_unsure)
         }
         Err(refusal) => Err(refusal),
     }

@@ -1,5 +1,5 @@
 -- Why `deliver_next` meets its contract.
-use Rattle.std.proofs.Common.{rules, ◌≡◌, ◌++◌, [], refl, sym, subst, List}
+use Rattle.std.proofs.Common.{rules, ◌≡◌, ◌∙◌, ◌++◌, [], ap, refl, sym, subst, ⊎_elim, List}
 use Rattle.store.specs.declared.letter.Letter.{Letter}
 use Rattle.world.specs.Mailbox.{Goes}
 use Rattle.world.specs.Counted.{counts}
@@ -8,7 +8,9 @@ use Rattle.world.specs.Taking.{scene}
 use Rattle.world.proofs.Counting.{fit_uncounted, no_fewer}
 use Rattle.world.proofs.Deliveries.{comes_breaks, comes_goes, comes_ranked, nothing_breaks, nothing_goes}
 use Rattle.world.proofs.SiteSteps.{on_any_err, on_both, on_ok}
-use Rattle.world.proofs.Stops.{memory_only}
+use Rattle.world.proofs.Stops.{memory_stops}
+use Rattle.world.proofs.Refusing.{if_err}
+use Rattle.world.specs.Stopping.{StopsFor, is_stop}
 use Rattle.world.specs.ListServed.{IsListWaiting, ListGoes}
 use Rattle.world.proofs.ListDelivering.{either_way, goes_as, goes_let_go}
 use Rattle.world.proofs.ListDelivering.{nothing_goes as nothing_goes_list}
@@ -73,7 +75,15 @@ returns-in-Err-clause-leaves g c = record {
 }
 
 pub returns-in-Ok-clause-blames : goal.returns-in-Ok-clause-blames
-returns-in-Ok-clause-blames g c = λ clean sound. memory_only c.add.result (counts g.D.DeskStore.refused g.S.SiteStore.refused c.args.machines.now) (counts g.D.DeskStore.refused g.S.SiteStore.refused c.deliver_one.new.machines) c.add.ensures.own
+returns-in-Ok-clause-blames g c = λ clean sound.
+    let old = counts g.D.DeskStore.refused g.S.SiteStore.refused c.args.machines.now in
+    let new = counts g.D.DeskStore.refused g.S.SiteStore.refused c.deliver_one.new.machines in
+    if_err c.add.result (λ told why. ⊎_elim (memory_stops old new told)
+    (λ unsure. let so = c.is_unsure-is_unsure.ensures.only unsure.0 in subst (StopsFor old new) (sym unsure.1) (c.in-Ok.ensures.unkept (sym c.is_order-is_order.ensures ∙ so.0) so.1)) why)
+    c.add.ensures.own
+
+pub returns-in-Ok-clause-own : goal.returns-in-Ok-clause-own
+returns-in-Ok-clause-own g c = if_err c.add.result (λ told why. ⊎_elim (λ memory. ap is_stop memory) (λ unsure. ap is_stop unsure.1) why) c.add.ensures.own
 
 pub returns-in_default-clause-lists : goal.returns-in_default-clause-lists
 returns-in_default-clause-lists g c = λ db whole past listed stands clean sound waits.
