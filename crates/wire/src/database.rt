@@ -88,7 +88,11 @@ where
             Shared {
                 alloc,
                 schema,
-                front: Mutex::new(Front { cell, ways }),
+                front: Mutex::new(Front {
+                    cell,
+                    ways,
+                    moving: None,
+                }),
                 seats: Mutex::new(Seats::new(alloc)),
                 counter: AtomicU64::new(0),
                 forced: AtomicU64::new(0),
@@ -178,7 +182,7 @@ where
             return Err(CallFault::Closed);
         };
         let Shared { front, forced, .. } = shared;
-        let Front { cell, ways: _ } = front.into_inner();
+        let Front { cell, .. } = front.into_inner();
         match Histories::new(alloc, cell, cells) {
             Ok(records) => Ok(Records {
                 records,

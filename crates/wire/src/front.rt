@@ -84,6 +84,8 @@ struct Put {
 pub(crate) struct Front<D: DeskStore> {
     pub cell: DeskCell<D>,
     pub ways: Vec<Way>,
+    /// The transaction that last gave a relation another split, if one did.
+    pub moving: Option<Txn>,
 }
 
 impl<D: DeskStore> Front<D> {
@@ -136,7 +138,9 @@ impl<D: DeskStore> Front<D> {
         None
     }
 
-    /// Calls the coordinator once, and puts out what the call's entry has.
+    /// Calls the coordinator once, and puts out what the call's entry has. Where the coordinator's store refused the commit of a
+    /// transaction that gives a relation another split, no site hears that it was aborted: whether the medium has the next
+    /// catalogue's number after all shows at the next opening.
     fn put_through<R: Wait>(
         &mut self,
         rt: &R,
@@ -150,12 +154,18 @@ impl<D: DeskStore> Front<D> {
         ensures none { OnErr result (given.new.items ≡ []) }
         ensures ways { self.new.ways ≡ self.old.ways }
     {
-        let Front { cell, ways } = self;
+        let Front { cell, ways, moving } = self;
+        let is_refragment = matches!(&errand, Errand::Refragment(_));
         let entry = call_cell(cell, errand, counter)?;
         copy_replies(entry, given);
+        let letters = entry.letters.as_slice();
+        if is_refragment && !letters.is_empty() {
+            *moving = letters.first().map(|letter| letter.txn);
+        }
+        let withheld = if entry.kept { None } else { *moving };
         Ok(Put {
             fault: entry.fault,
-            lost: post_all(rt, ways.as_slice(), entry.letters.as_slice()),
+            lost: post_all(rt, ways.as_slice(), letters, withheld),
         })
     }
 
@@ -210,11 +220,17 @@ fn copy_reply(entry: &Entry, notice: &Notice, given: &mut Vec<Given>)
     let _ = given.push(Given::of(entry.number, notice));
 }
 
-/// Sends copies of letters to their sites. Answers the transaction of one that was lost, if one was.
-fn post_all<R: Wait>(rt: &R, ways: &[Way], letters: &[Letter]) -> Option<Txn> {
+/// Sends copies of letters to their sites, but for those of a transaction that are withheld. Answers the transaction of one that was
+/// lost, if one was.
+fn post_all<R: Wait>(
+    rt: &R,
+    ways: &[Way],
+    letters: &[Letter],
+    withheld: Option<Txn>,
+) -> Option<Txn> {
     let mut lost = None;
     for letter in letters {
-        if !post(rt, ways, letter) {
+        if withheld != Some(letter.txn) && !post(rt, ways, letter) {
             lost = Some(letter.txn);
         }
     }
