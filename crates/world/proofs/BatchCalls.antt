@@ -15,7 +15,7 @@ use Rattle.world.specs.Frame.{ComesTo, RunsTo}
 use Rattle.world.specs.Machines.{Machines}
 use Rattle.world.specs.Stopping.{is_stop}
 use Rattle.protocol.proofs.Basics.{clash}
-use Rattle.world.proofs.Calls.{answered, as_kind, stops_as, then_too}
+use Rattle.world.proofs.Calls.{answered, as_kind, narrowed, stops_as, then_too}
 use Rattle.world.proofs.Denials.{is_memory}
 use Rattle.world.proofs.SiteSteps.{if_ok}
 
@@ -96,6 +96,10 @@ module _ {D S : Type 0} (IsClean IsSound : code.Machines D S → Type 0) (view :
       comes = then_too IsClean IsSound view old mid new tt result (λ db first rest k later. if_ok result (λ x m. so db x first rest k m) later) one two.comes;
       own = two.own;
     }
+
+  -- one is of another kind too
+  pub runs_as : {T : Type 0} (K M : Database → T → List Move → Type 0) (old new : code.Machines D S) (result : Result T Refusal) → ((db : Database) (x : T) (moves : List Move) → K db x moves → M db x moves) → RunsTo IsClean IsSound view old new result K → RunsTo IsClean IsSound view old new result M
+  runs_as K M old new result so runs = record { comes = narrowed IsClean IsSound view old new result (λ db moves k. if_ok result (λ x one. so db x moves one) k) runs.comes; own = runs.own }
 
   -- a call of such went well
   pub went_well : {T : Type 0} (kind : Database → T → List Move → Type 0) (K : List Move → Type 0) (old new : code.Machines D S) (x : T) → ((db : Database) (moves : List Move) → kind db x moves → K moves) → RunsTo IsClean IsSound view old new (Ok x) kind → GoWell old new K

@@ -1,7 +1,7 @@
 -- Why `run_all` meets its contract.
 use Rattle.world.proofs.Deeds.{made_version}
 use Rattle.world.proofs.InForce.{in_force_on}
-use Rattle.std.proofs.Common.{◌∙◌, ◌+◌, ◌++◌, ◌∷◌, List, [], refl, sym, ap, subst, take, arith, Ok, Err, inr}
+use Rattle.std.proofs.Common.{◌∙◌, ◌+◌, ◌++◌, ◌∷◌, List, [], refl, sym, ap, subst, take, arith, Ok, Err, inr, IfOk}
 use Rattle.std.specs.Prelude.{⊤}
 use Rattle.std.proofs.lemmas.List.{take_all}
 use Rattle.world.specs.declared.transaction.Outcome as outcomes
@@ -127,4 +127,4 @@ returns-in-Err-run_one-clause-lists g c = λ db whole past listed stands is_clea
     let clean_here = comes.clean is_clean in
     let made = c.loop-transaction.invariant.lists db whole past listed stands clean_here is_sound served in
     let more = comes.lists db whole (past ++ made.0.deeds) listed made.1 is_clean (c.loop-transaction.invariant.sound clean_here is_sound) made.0.served in
-    ((tt, on_then db whole (counted g.D.DeskStore.kept g.S.SiteStore.kept g.D.DeskStore.refused g.S.SiteStore.refused c.run_one.new.machines) past made.0.deeds (makes_on db whole (counted g.D.DeskStore.kept g.S.SiteStore.kept g.D.DeskStore.refused g.S.SiteStore.refused c.run_one.new.machines) (past ++ made.0.deeds) (Err c.in-Err-run_one.refusal) _ more.0)), more.1)
+    ((tt, on_then db whole (counted g.D.DeskStore.kept g.S.SiteStore.kept g.D.DeskStore.refused g.S.SiteStore.refused c.run_one.new.machines) past made.0.deeds (makes_on db whole {T = outcomes.Outcome} (counted g.D.DeskStore.kept g.S.SiteStore.kept g.D.DeskStore.refused g.S.SiteStore.refused c.run_one.new.machines) (past ++ made.0.deeds) (Err c.in-Err-run_one.refusal) (λ done moves. IfOk done (λ outcome. RunsOne c.transaction-item.result outcome moves)) more.0)), more.1)
