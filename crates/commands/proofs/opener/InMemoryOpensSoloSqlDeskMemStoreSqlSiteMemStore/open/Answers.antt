@@ -21,12 +21,12 @@ open_on-requires c = c.in_ok-sites.ensures.all ∙ ap (λ chain. length (sites_o
 pub returns-in-Ok-clause-ok : goal.returns-in-Ok-clause-ok
 returns-in-Ok-clause-ok c =
     let all_empty = λ (catalogue : Catalogue) (is : catalogue_of c.first_of-first.result.now ≡ catalogue).
-        let empty : c.in_ok-whole.whole ≡ no_rows catalogue = c.in_ok-whole.ensures ∙ ap (λ schemas. emptied schemas finite.empty) (c.schema.ensures.schemas ∙ ap schemas_of is) in
-        empty in
+    let empty : c.in_ok-whole.whole ≡ no_rows catalogue = c.in_ok-whole.ensures ∙ ap (λ schemas. emptied schemas finite.empty) (c.schema.ensures.schemas ∙ ap schemas_of is) in
+    empty in
     let all_fit = λ (catalogue : Catalogue) (is : catalogue_of c.first_of-first.result.now ≡ catalogue).
-        subst (FitsSchema (schemas_of catalogue)) (sym (all_empty catalogue is)) (emptied-fits (schemas_of catalogue)) in
+    subst (FitsSchema (schemas_of catalogue)) (sym (all_empty catalogue is)) (emptied-fits (schemas_of catalogue)) in
     let all_new = λ (catalogue : Catalogue) (is : catalogue_of c.first_of-first.result.now ≡ catalogue).
-        are_new catalogue c.in_ok-desk.desk c.in_ok-sites.sites.items c.in_ok-desk.ensures.new (subst (λ (own : Catalogue). AreNewSites own c.in_ok-sites.sites.items) is c.in_ok-sites.ensures.new) in
+    are_new catalogue c.in_ok-desk.desk c.in_ok-sites.sites.items c.in_ok-desk.ensures.new (subst (λ (own : Catalogue). AreNewSites own c.in_ok-sites.sites.items) is c.in_ok-sites.ensures.new) in
     record {
       origin = New;
       is_origin = refl;

@@ -19,10 +19,10 @@ use Rattle.commands.proofs.opener.ListsOpensSoloPlainDeskPlainSite.open.Goals as
 pub returns-in-Ok-clause-ok : goal.returns-in-Ok-clause-ok
 returns-in-Ok-clause-ok c =
     let all_empty = λ (catalogue : Catalogue) (later : List Catalogue) (chain : map catalogue_of c.args.chain.now ≡ catalogue ∷ later).
-        let is = first_one c.args.chain.now c.first_of.result.now c.first_of.ensures.0 catalogue later c.first_of.ensures.1 chain in
-        c.in_ok-whole.ensures ∙ ap (λ schemas. emptied schemas finite.empty) (c.schema.ensures.schemas ∙ ap schemas_of is) in
+    let is = first_one c.args.chain.now c.first_of.result.now c.first_of.ensures.0 catalogue later c.first_of.ensures.1 chain in
+    c.in_ok-whole.ensures ∙ ap (λ schemas. emptied schemas finite.empty) (c.schema.ensures.schemas ∙ ap schemas_of is) in
     let all_fit = λ (catalogue : Catalogue) (later : List Catalogue) (chain : map catalogue_of c.args.chain.now ≡ catalogue ∷ later).
-        subst (FitsSchema (schemas_of catalogue)) (sym (all_empty catalogue later chain)) (emptied-fits (schemas_of catalogue)) in
+    subst (FitsSchema (schemas_of catalogue)) (sym (all_empty catalogue later chain)) (emptied-fits (schemas_of catalogue)) in
     record {
       origin = New;
       is_origin = refl;
