@@ -1,5 +1,5 @@
 -- Calls of one client over a list of catalogues: what was asked for and heard tells what has happened.
-use Rattle.std.proofs.Common.{◌≡◌, ◌≢◌, refl, sym, ap, ap₂, ◌∙◌, subst, ℕ, Bool, false, true, List, [], ◌∷◌, ◌++◌, append_assoc, map, if◌then◌else◌, inl, inr, Result, Ok, Err, IfErr, IfOk, OnErr}
+use Rattle.std.proofs.Common.{◌≡◌, ◌≢◌, refl, sym, ap, ◌∙◌, subst, ℕ, Bool, false, true, List, [], ◌∷◌, ◌++◌, append_assoc, map, if◌then◌else◌, inl, inr, Result, Ok, Err, IfErr, IfOk, OnErr}
 use Rattle.std.proofs.lemmas.List.{append-nil}
 use Rattle.std.proofs.lemmas.List.Elements.{filter_map-append}
 use Rattle.std.proofs.lemmas.Grind.{flat_map-append}
@@ -11,17 +11,17 @@ use Rattle.store.specs.declared.name.Txn.{Txn}
 use Rattle.store.specs.DeskContent.{DeskContent}
 use Rattle.store.specs.SiteContent.{SiteContent}
 use Rattle.protocol.specs.Accepted.{stated_by, stated_of}
-use Rattle.protocol.specs.Desk.{Began, Choice, Commit_call, Deed, Idle, Known, Request, Rollback, State, fresh_as, next_txn, on_state}
+use Rattle.protocol.specs.Desk.{Began, Choice, Commit_call, Deed, Known, Rollback, fresh_as, next_txn}
 use Rattle.protocol.specs.Language.{Name}
 use Rattle.protocol.specs.Letters.{txn_name}
 use Rattle.protocol.specs.Serial.{phased_of, phases_of}
-use Rattle.protocol.specs.World.{World, begins, begun, first_turn}
+use Rattle.protocol.specs.World.{World, begun, first_turn}
 use Rattle.desk.specs.declared.refusal.Refusal.{Refusal}
 use Rattle.desk.specs.declared.reply.Notice.{Notice}
 use Rattle.desk.specs.declared.reply.Out.{Out}
 use Rattle.desk.specs.declared.reply.Reply.{Reply}
 use Rattle.desk.specs.declared.reply.Reply.TheVariants.{Begun}
-use Rattle.desk.specs.Database.{Database, language, statements}
+use Rattle.desk.specs.Database.{Database, language}
 use Rattle.desk.specs.Request.{txn_in}
 use Rattle.desk.specs.State.{desk_of, notice_of}
 use Rattle.desk.specs.Transition.{told}
@@ -36,7 +36,7 @@ use Rattle.world.specs.Course.{Begins, IsOne, Move, Refragments, Refuses, said, 
 use Rattle.std.specs.Prelude.{⊤}
 use Rattle.world.specs.Frame.{ListMakes, OverLists}
 use Rattle.world.specs.Listed.{FitsList, IsListed, ListAsked, ListBegun, ListMoved, ListStated, StandsIn}
-use Rattle.world.specs.ListServed.{IsListServed, IsListServedOn, IsListWaiting, ListGoes, ListHeardIsSerial, ListMade}
+use Rattle.world.specs.ListServed.{IsListServed, IsListServedOn, ListGoes, ListHeardIsSerial, ListMade}
 use Rattle.world.specs.Machines.{Machines, world_of}
 use Rattle.world.specs.Replies.{AreStated, Shows, Tells, phased_by, text_by}
 use Rattle.world.specs.Stopping.{is_stop}

@@ -11,24 +11,22 @@ use Rattle.meaning.specs.declared.statement.Statement.TheVariants as kinds
 use Rattle.catalog.specs.Catalogue.{Catalogue}
 use Rattle.store.specs.declared.letter.Letter as letters
 use Rattle.store.specs.declared.name.Txn as names
-use Rattle.protocol.specs.Accepted.{stated_by, stated_of}
+use Rattle.protocol.specs.Accepted.{stated_by}
 use Rattle.protocol.specs.Client.{IsReached, ReachedLaw, next}
 use Rattle.protocol.specs.Desk.{Choice, Commit_call, Deed, Give_up, Request, Rollback, State}
-use Rattle.protocol.specs.Letter.{Letter}
 use Rattle.protocol.specs.Letters.{txn_name}
 use Rattle.protocol.specs.Local.{local}
-use Rattle.protocol.specs.Serial.{AllExplained, Explained, phased_of, phases_of}
-use Rattle.protocol.specs.World.{World, begins, called, comes, may_ask, refragments}
+use Rattle.protocol.specs.Serial.{AllExplained, Explained, phased_of}
+use Rattle.protocol.specs.World.{World, called, may_ask, refragments}
 use Rattle.protocol.proofs.ForgottenLetters.{reached_law}
 use Rattle.protocol.proofs.ListLaw.{list_lawful, serial_list}
 use Rattle.desk.specs.declared.reply.Notice.{Notice}
-use Rattle.desk.specs.declared.reply.Out.{Out}
 use Rattle.desk.specs.Database.{Database, language, sent, statements}
-use Rattle.desk.specs.OfCatalogue.{InForce, IsOfCatalogue}
+use Rattle.desk.specs.OfCatalogue.{IsOfCatalogue}
 use Rattle.desk.specs.Request.{txn_in}
 use Rattle.desk.specs.State.{notice_of}
 use Rattle.desk.specs.Transition.{told}
-use Rattle.world.specs.Listed.{FitsList, IsListed, ListAsked, ListBegun, ListCame, ListLeads, ListMoved}
+use Rattle.world.specs.Listed.{IsListed, ListAsked, ListBegun, ListCame, ListMoved}
 use Rattle.world.specs.ListServed.{IsListServedOn, IsListWaiting, ListGoes, ListServedIsSerial}
 use Rattle.world.specs.Machines.{Machines, world_of}
 use Rattle.world.proofs.Running.{all_both}

@@ -1,5 +1,5 @@
 -- One client's database over a list of catalogues: how it opens, and what its fragments rebuild.
-use Rattle.std.proofs.Common.{◌≡◌, refl, sym, subst, ℕ, List, [], ◌++◌}
+use Rattle.std.proofs.Common.{refl, sym, subst, ℕ, List, []}
 use Rattle.std.proofs.lemmas.List.{append-nil}
 use Rattle.meaning.specs.Whole.{FitsSchema, Relations}
 use Rattle.protocol.specs.Desk.{Deed}

@@ -1,5 +1,5 @@
 -- What a call leaves of the machines of a database, and of what its clauses speak.
-use Rattle.std.specs.Prelude.{◌≡◌, ◌≤◌, ◌⊎◌, ◌∷◌, ℕ, true, List, [], map, Result, Ok, Err, IfErr, IfOk, OnErr}
+use Rattle.std.specs.Prelude.{◌≡◌, ◌≤◌, ◌⊎◌, ℕ, true, List, [], map, Result, Ok, Err, IfErr, IfOk, OnErr}
 use Rattle.std.specs.List.{AllByRecursion, AllZip}
 use Rattle.meaning.specs.Whole.{Relations}
 use Rattle.protocol.specs.Client.{ReachedLaw}

@@ -1,5 +1,5 @@
 -- Why `decide` meets its contract.
-use Rattle.std.proofs.Common.{refl, sym, subst, ap, Ok, ◌∙◌, [], inr}
+use Rattle.std.proofs.Common.{refl, sym, subst, ap, Ok, ◌∙◌, inr}
 use Rattle.world.proofs.Calls.{answered, stays, stops_as, then_back}
 use Rattle.world.proofs.Lone.{commit_taken_back}
 use Rattle.world.proofs.SiteSteps.{if_ok}

@@ -1,5 +1,5 @@
 -- Why `run_autocommit` meets its contract.
-use Rattle.std.proofs.Common.{refl, sym, subst, inl, inr, ⊎_elim, Err, ◌++◌}
+use Rattle.std.proofs.Common.{refl, sym, subst, inr, Err, ◌++◌}
 use Rattle.world.proofs.Calls.{as_kind, then_too}
 use Rattle.world.specs.Commands.{IsLone, heard_in}
 use Rattle.world.specs.Contents.{OfStores, counted}

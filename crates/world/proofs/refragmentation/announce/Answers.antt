@@ -1,5 +1,5 @@
 -- Why `announce` meets its contract.
-use Rattle.std.proofs.Common.{◌≡◌, ◌≢◌, ◌∷◌, ◌++◌, [], refl, Err, IfOk}
+use Rattle.std.proofs.Common.{◌≡◌, ◌≢◌, ◌∷◌, ◌++◌, [], IfOk}
 use Rattle.std.specs.Global.{Vec}
 use Rattle.desk.specs.declared.reply.Notice.{Notice}
 use Rattle.world.specs.Commands.{heard_in}

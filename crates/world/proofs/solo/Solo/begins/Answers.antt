@@ -1,5 +1,5 @@
 -- Why `begins` meets its contract.
-use Rattle.std.proofs.Common.{refl, subst, inl, inr, ⊎_elim, []}
+use Rattle.std.proofs.Common.{refl, subst, inr}
 use Rattle.world.proofs.Calls.{as_kind, stays}
 use Rattle.world.specs.Commands.{is_inside, is_turned_down, makes_none, only_begins}
 use Rattle.desk.specs.declared.refusal.Refusal.TheVariants.{Busy}

@@ -1,6 +1,6 @@
 -- Why `commits` meets its contract.
 use Rattle.desk.specs.declared.refusal.Refusal.TheVariants.{NoTransaction}
-use Rattle.std.proofs.Common.{refl, subst, inl, inr, ⊎_elim, []}
+use Rattle.std.proofs.Common.{refl, subst, inl, inr}
 use Rattle.world.proofs.Calls.{as_kind, stays}
 use Rattle.world.specs.Commands.{is_outside, is_turned_down, makes_none, only_commits}
 use Rattle.world.specs.Contents.{OfStores, counted}

@@ -1,6 +1,6 @@
 -- Why `rolls_back` meets its contract.
 use Rattle.desk.specs.declared.refusal.Refusal.TheVariants.{NoTransaction}
-use Rattle.std.proofs.Common.{refl, subst, inl, inr, ⊎_elim, []}
+use Rattle.std.proofs.Common.{refl, subst, inr}
 use Rattle.world.proofs.Calls.{as_kind, stays}
 use Rattle.world.specs.Commands.{is_outside, is_turned_down, makes_none, only_rolls_back}
 use Rattle.world.specs.Contents.{OfStores, counted}

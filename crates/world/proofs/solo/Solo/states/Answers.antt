@@ -1,5 +1,5 @@
 -- Why `states` meets its contract.
-use Rattle.std.proofs.Common.{refl, sym, subst, ◌∙◌, inl, inr, ⊎_elim}
+use Rattle.std.proofs.Common.{refl, sym, subst, ◌∙◌, inr}
 use Rattle.world.proofs.Calls.{as_kind, is_refragmented, lone_command}
 use Rattle.world.specs.Client.{still_open}
 use Rattle.world.specs.Commands.{is_turned_down, only_states}
