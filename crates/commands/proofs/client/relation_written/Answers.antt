@@ -46,10 +46,8 @@ returns-in-Ok g c = record {
           stays_still db whole happened old new clean h c.rebuilt.ensures.still c.rebuilt.ensures.same,
           (
             found,
-            (
-              subst (λ (n : List ℕ). ShowsSerial db whole happened.entries n found) named (rows_serial db whole happened name found h.told.tells rows),
-              c.in_ok-relation_dumped-in-Ok.ensures ∙ ap (λ (over : Catalogue). dumped_text c.args.mode over name found) over ∙ ap (λ (n : List ℕ). dumped_text c.args.mode (db.catalogue old.machines.desk.volatile.version) n found) named,
-            ),
+            subst (λ (n : List ℕ). ShowsSerial db whole happened.entries n found) named (rows_serial db whole happened name found h.told.tells rows),
+            c.in_ok-relation_dumped-in-Ok.ensures ∙ ap (λ (over : Catalogue). dumped_text c.args.mode over name found) over ∙ ap (λ (n : List ℕ). dumped_text c.args.mode (db.catalogue old.machines.desk.volatile.version) n found) named,
           ),
         );
       };
