@@ -3,6 +3,7 @@ pub mod OpenerLemmas
 pub mod CatalogFilesLemmas
 pub mod SoloChainLemmas
 pub mod ClientLemmas
+pub mod ListClientLemmas
 pub mod DeliveringLemmas
 pub mod ShownLemmas
 pub mod ReachedLemmas

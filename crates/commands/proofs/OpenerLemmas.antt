@@ -10,10 +10,10 @@ use Rattle.commands.specs.CatalogFiles.{IsOfOpening, fault_alone}
 use Rattle.commands.specs.Client.{IsOfClient, Seen}
 use Rattle.commands.specs.Origin.{Begins, BeginsOver, IsLastOf, Kept, New, Origin}
 
--- the first of a chain of one catalogue is this one
-pub first_one : (chain : List (List (List ℕ) × List SplitRelation)) (first : List (List ℕ) × List SplitRelation) (rest : List (List (List ℕ) × List SplitRelation)) (catalogue : Catalogue) → chain ≡ first ∷ rest → map catalogue_of chain ≡ catalogue ∷ [] → catalogue_of first ≡ catalogue
-first_one chain first rest catalogue is one =
-    let both : catalogue_of first ∷ map catalogue_of rest ≡ catalogue ∷ [] = ap (map catalogue_of) (sym is) ∙ one in
+-- the first of a chain is this catalogue
+pub first_one : (chain : List (List (List ℕ) × List SplitRelation)) (first : List (List ℕ) × List SplitRelation) (rest : List (List (List ℕ) × List SplitRelation)) (catalogue : Catalogue) (later : List Catalogue) → chain ≡ first ∷ rest → map catalogue_of chain ≡ catalogue ∷ later → catalogue_of first ≡ catalogue
+first_one chain first rest catalogue later is one =
+    let both : catalogue_of first ∷ map catalogue_of rest ≡ catalogue ∷ later = ap (map catalogue_of) (sym is) ∙ one in
     let same : catalogue_of first ≡ catalogue = cc in
     same
 
@@ -30,4 +30,4 @@ last_alone catalogues (Kept found) catalogue one = inl one
 
 -- a database of one catalogue that was opened
 pub begins_alone : {B : Type 0} (seen : Seen B) (IsOrigin : Origin → Type 0) (catalogues : List Catalogue) (catalogue : Catalogue) (base : B) → catalogues ≡ catalogue ∷ [] → BeginsOver seen IsOrigin catalogues base → Begins seen IsOrigin catalogue base
-begins_alone seen IsOrigin catalogues catalogue base one begun = (begun.0, begun.1, begun.2 catalogue (last_alone catalogues begun.0 catalogue one))
+begins_alone seen IsOrigin catalogues catalogue base one begun = (begun.origin, begun.is_origin, begun.last catalogue (last_alone catalogues begun.origin catalogue one))

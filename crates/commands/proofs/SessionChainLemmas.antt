@@ -20,16 +20,16 @@ module _ {B : Type 0} (seen : Seen B) (IsOrigin : Origin → Type 0) where
   -- there was a session over a database of several catalogues that was opened
   pub talked_over : (old new : Option (List ℕ)) (catalogues : List Catalogue) (opened ended : B) → BeginsOver seen IsOrigin catalogues opened → MovesFollow (database (seen.catalogue opened)) → Talks seen old new opened ended → HasTalkedOver seen IsOrigin catalogues old new
   talked_over old new catalogues opened ended fresh law talks = record {
-    origin = fresh.0;
-    is_origin = fresh.1;
+    origin = fresh.origin;
+    is_origin = fresh.is_origin;
     opened = opened;
-    begun = fresh.2;
+    begun = fresh.last;
     ended = ended;
     talks = talks;
     held = λ catalogue whole last begins clean.
-        let begun = fresh.2 catalogue last in
+        let begun = fresh.last catalogue last in
         let is = (begun.goes_on whole begins (talks.clean clean)).catalog in
-        session_over seen catalogue fresh.0 old new opened ended begun (subst (λ (own : Catalogue). MovesFollow (database own)) is law) talks whole begins clean;
+        session_over seen catalogue fresh.origin old new opened ended begun (subst (λ (own : Catalogue). MovesFollow (database own)) is law) talks whole begins clean;
   }
 
   -- no database was opened

@@ -1,9 +1,12 @@
 -- Lemmas on scripts over a chain of catalogues.
-use Rattle.std.proofs.Common.{◌≡◌, ℕ, Bool, List, Option, subst}
+use Rattle.std.proofs.Common.{◌≡◌, ◌∷◌, ℕ, Bool, List, Option, subst}
 use Rattle.std.specs.Io.KnownBytes.{Keeps}
 use Rattle.catalog.specs.Catalogue.{Catalogue}
-use Rattle.desk.specs.CatalogueDatabase.{database}
+use Rattle.desk.specs.CatalogueDatabase.{database, databases}
+use Rattle.desk.specs.Database.{Database}
 use Rattle.world.specs.Commands.{MovesFollow}
+use Rattle.world.specs.Listed.{IsListed}
+use Rattle.world.specs.ListServed.{ListHeardIsSerial}
 use Rattle.shell.specs.declared.mode.Mode.{Mode}
 use Rattle.lines.specs.Script.{Reading}
 use Rattle.commands.specs.Client.{Seen}
@@ -11,22 +14,26 @@ use Rattle.commands.specs.Origin.{BeginsOver, Origin}
 use Rattle.commands.specs.Solo.{Stretches}
 use Rattle.commands.specs.SoloChain.{IsRunOver}
 use Rattle.commands.proofs.ClientLemmas.{run_over}
+use Rattle.commands.proofs.ListClientLemmas.{list_run}
 use Rattle.commands.proofs.SoloLemmas.{Appends-kept}
 
 -- tasks over a database of several catalogues that was opened have run
 pub ran_over : {B : Type 0} (seen : Seen B) (IsOrigin : Origin → Type 0) (mode : Mode) (old new : Option (List ℕ)) (catalogues : List Catalogue) (tasks : List Reading) (opened ended : B) (any_refused : Bool) → BeginsOver seen IsOrigin catalogues opened → MovesFollow (database (seen.catalogue opened)) →
-    (seen.is_clean ended → seen.is_clean opened) → Stretches seen mode tasks old new opened ended any_refused → IsRunOver seen IsOrigin mode catalogues tasks old new any_refused
-ran_over seen IsOrigin mode old new catalogues tasks opened ended any_refused fresh law was_clean works = record {
-  origin = fresh.0;
-  is_origin = fresh.1;
+    ((first : Catalogue) (rest : List Catalogue) → catalogues ≡ first ∷ rest → IsListed (databases first rest)) → ((db : Database) → IsListed db → ListHeardIsSerial db) → (seen.is_clean ended → seen.is_clean opened) → Stretches seen mode tasks old new opened ended any_refused → IsRunOver seen IsOrigin mode catalogues tasks old new any_refused
+ran_over seen IsOrigin mode old new catalogues tasks opened ended any_refused fresh law listed serial was_clean works = record {
+  origin = fresh.origin;
+  is_origin = fresh.is_origin;
   opened = opened;
-  begun = fresh.2;
+  begun = fresh.last;
   ended = ended;
   stretch = works;
   ran = λ catalogue whole last begins clean.
-      let begun = fresh.2 catalogue last in
+      let begun = fresh.last catalogue last in
       let is = (begun.goes_on whole begins (was_clean clean)).catalog in
-      run_over seen mode catalogue fresh.0 tasks works.written any_refused opened ended begun (subst (λ (own : Catalogue). MovesFollow (database own)) is law) was_clean (λ whole past clean h. works.ran catalogue whole past clean h) whole begins clean;
+      run_over seen mode catalogue fresh.origin tasks works.written any_refused opened ended begun (subst (λ (own : Catalogue). MovesFollow (database own)) is law) was_clean (λ whole past clean h. works.ran catalogue whole past clean h) whole begins clean;
+  ran_over = λ first rest chain same clean.
+      let of = listed first rest chain in
+      list_run seen mode first rest tasks works.written any_refused opened ended (fresh.new first rest chain same) of (serial (databases first rest) of) was_clean (λ whole happened clean h. works.over (databases first rest) whole happened of clean h) clean;
 }
 
 -- what was written stays so
@@ -38,6 +45,7 @@ flushed_over seen IsOrigin mode catalogues tasks others old new flushed any_refu
       opened = run.opened;
       begun = run.begun;
       ended = run.ended;
-      stretch = record { written = run.stretch.written; told = Appends-kept old new flushed run.stretch.written run.stretch.told kept; ran = run.stretch.ran };
+      stretch = record { written = run.stretch.written; told = Appends-kept old new flushed run.stretch.written run.stretch.told kept; ran = run.stretch.ran; over = run.stretch.over };
       ran = run.ran;
+      ran_over = run.ran_over;
     })

@@ -16,7 +16,7 @@ use Rattle.meaning.proofs.Kept.{put_keeps}
 use Rattle.catalog.specs.Catalogue.{Catalogue}
 use Rattle.desk.proofs.Participants.{text_is}
 use Rattle.shell.specs.declared.mode.Mode.{Mode}
-use Rattle.commands.specs.Client.{AnswersTask, Seen, Standing}
+use Rattle.commands.specs.Client.{Seen}
 use Rattle.commands.specs.Origin.{Origin}
 use Rattle.lines.specs.PlayLoad.{emptied}
 use Rattle.lines.specs.Script.{Reading, task_of}
@@ -24,7 +24,7 @@ use Rattle.lines.specs.declared.script.Item.{Item}
 use Rattle.lines.specs.declared.fault.ProgramFault.{ProgramFault}
 use Rattle.lines.specs.declared.fault.ProgramFault.TheVariants.{CannotRead, CannotWrite, Malformed, Memory, ScriptTooLong, Store}
 use Rattle.lines.specs.Reply.{Told, is_refusal, text_of}
-use Rattle.commands.specs.Solo.{AnswersTasks, IsAccepted, IsOfRead, IsOfRun, IsWork, RunsOrStops, RunsScript, StopsRun, longest}
+use Rattle.commands.specs.Solo.{AnswersInTurn, IsAccepted, IsOfRead, IsOfRun, IsWorkBy, RunsOrStops, RunsScript, StopsRun, longest}
 use Rattle.std.proofs.lemmas.Grind.{flat_map-append}
 
 -- what was written, and then more
@@ -43,33 +43,35 @@ or_false : (b : Bool) → (b || false) ≡ b
 or_false true = refl
 or_false false = refl
 
--- one more task, after others
-one_more : (mode : Mode) (catalogue : Catalogue) (answers : List (Reading × Told)) (old middle new : Standing catalogue) (task : Reading) (told : Told) → AnswersTasks mode catalogue answers old middle → AnswersTask mode catalogue task middle new told → AnswersTasks mode catalogue (answers ++ (task, told) ∷ []) old new
-one_more mode catalogue [] old middle new task told done next =
-    let P : Standing catalogue → Type 0 = λ standing. AnswersTask mode catalogue task standing new told in
-    (new, subst P done next, refl)
-one_more mode catalogue (first ∷ others) old middle new task told done next = (done.0, done.1, one_more mode catalogue others done.0 middle new task told done.2 next)
+-- Answers: what a task is answered by
+module _ {S : Type 0} (Answers : Reading → S → S → Told → Type 0) where
+  -- one more task, after others
+  one_more : (answers : List (Reading × Told)) (old middle new : S) (task : Reading) (told : Told) → AnswersInTurn Answers answers old middle → Answers task middle new told → AnswersInTurn Answers (answers ++ (task, told) ∷ []) old new
+  one_more [] old middle new task told done next =
+      let P : S → Type 0 = λ standing. Answers task standing new told in
+      (new, subst P done next, refl)
+  one_more (first ∷ others) old middle new task told done next = (done.0, done.1, one_more others done.0 middle new task told done.2 next)
 
--- nothing is done yet
-pub IsWork-none : (mode : Mode) (catalogue : Catalogue) (standing : Standing catalogue) → IsWork mode catalogue [] [] false standing standing
-IsWork-none mode catalogue standing = record { answers = []; in_order = refl; answered = refl; lines = refl; refused = refl }
+  -- nothing is done yet
+  pub IsWork-none : (standing : S) → IsWorkBy Answers [] [] false standing standing
+  IsWork-none standing = record { answers = []; in_order = refl; answered = refl; lines = refl; refused = refl }
 
--- one more answer
-IsWork-more : (mode : Mode) (catalogue : Catalogue) (tasks : List Reading) (written : List ℕ) (any_refused : Bool) (old middle new : Standing catalogue) (task : Reading) (told : Told) → IsWork mode catalogue tasks written any_refused old middle → AnswersTask mode catalogue task middle new told → IsWork mode catalogue (tasks ++ task ∷ []) (written ++ text_of told) (any_refused || is_refusal told) old new
-IsWork-more mode catalogue tasks written any_refused old middle new task told h next = record {
-  answers = h.answers ++ (task, told) ∷ [];
-  in_order = map-append (λ p. p.0) h.answers ((task, told) ∷ []) ∙ ap (λ front. front ++ task ∷ []) h.in_order;
-  answered = one_more mode catalogue h.answers old middle new task told h.answered next;
-  lines = ap₂ (λ front back. front ++ back) h.lines (sym (append-nil (text_of told)))
-      ∙ sym (flat_map-append (λ p. text_of p.1) h.answers ((task, told) ∷ []));
-  refused = ap₂ (λ front back. front || back) h.refused (sym (or_false (is_refusal told)))
-      ∙ sym (list_any-append (λ p. is_refusal p.1) h.answers ((task, told) ∷ []));
-}
+  -- one more answer
+  IsWork-more : (tasks : List Reading) (written : List ℕ) (any_refused : Bool) (old middle new : S) (task : Reading) (told : Told) → IsWorkBy Answers tasks written any_refused old middle → Answers task middle new told → IsWorkBy Answers (tasks ++ task ∷ []) (written ++ text_of told) (any_refused || is_refusal told) old new
+  IsWork-more tasks written any_refused old middle new task told h next = record {
+    answers = h.answers ++ (task, told) ∷ [];
+    in_order = map-append (λ p. p.0) h.answers ((task, told) ∷ []) ∙ ap (λ front. front ++ task ∷ []) h.in_order;
+    answered = one_more h.answers old middle new task told h.answered next;
+    lines = ap₂ (λ front back. front ++ back) h.lines (sym (append-nil (text_of told)))
+        ∙ sym (flat_map-append (λ p. text_of p.1) h.answers ((task, told) ∷ []));
+    refused = ap₂ (λ front back. front || back) h.refused (sym (or_false (is_refusal told)))
+        ∙ sym (list_any-append (λ p. is_refusal p.1) h.answers ((task, told) ∷ []));
+  }
 
--- the same, at the next of some items
-pub IsWork-next : (mode : Mode) (catalogue : Catalogue) (items : List Item) (i : ℕ) (d : Item) (written : List ℕ) (any_refused : Bool) (old middle new : Standing catalogue) (told : Told) (line : List ℕ) (is_refused : Bool) → i < length items → IsWork mode catalogue (map task_of (take i items)) written any_refused old middle → AnswersTask mode catalogue (task_of (get_or items i d)) middle new told → line ≡ text_of told → is_refused ≡ is_refusal told → IsWork mode catalogue (map task_of (take (i + 1) items)) (written ++ line) (any_refused || is_refused) old new
-IsWork-next mode catalogue items i d written any_refused old middle new told line is_refused within h next is_line is_so =
-    rw (map_more task_of items i d within, is_line, is_so) (IsWork-more mode catalogue (map task_of (take i items)) written any_refused old middle new (task_of (get_or items i d)) told h next)
+  -- the same, at the next of some items
+  pub IsWork-next : (items : List Item) (i : ℕ) (d : Item) (written : List ℕ) (any_refused : Bool) (old middle new : S) (told : Told) (line : List ℕ) (is_refused : Bool) → i < length items → IsWorkBy Answers (map task_of (take i items)) written any_refused old middle → Answers (task_of (get_or items i d)) middle new told → line ≡ text_of told → is_refused ≡ is_refusal told → IsWorkBy Answers (map task_of (take (i + 1) items)) (written ++ line) (any_refused || is_refused) old new
+  IsWork-next items i d written any_refused old middle new told line is_refused within h next is_line is_so =
+      rw (map_more task_of items i d within, is_line, is_so) (IsWork-more (map task_of (take i items)) written any_refused old middle new (task_of (get_or items i d)) told h next)
 
 -- the empty relations of a schema fit it
 keeps_none : (schemas : List RelationSchema) (whole : Relations) (name : List ℕ) → finite.get whole name ≡ Some [] → finite.get (emptied schemas whole) name ≡ Some []

@@ -181,24 +181,3 @@ pub record IsAnswered {B : Type 0} (seen : Seen B) (mode : Mode) (catalogue : Ca
 -- a fault that may stop a database, or come while its answers are put together
 abbrev pub IsOfClient : ProgramFault → Type 0
 IsOfClient fault = (fault ≡ Memory) ⊎ ((why : StoreFault) × (fault ≡ Store why))
-
--- whatever has happened before, a task is answered by what a call gives, or a fault stops the database; told_of: what is told by that. It is so where the stores are clean as the
--- call ends; then they were clean before
-pub record Serves {B T : Type 0} (seen : Seen B) (mode : Mode) (task : Reading) (told_of : T → Told) (old new : B) (result : Result T ProgramFault) : Type 0 where
-  pub clean : seen.is_clean new → seen.is_clean old
-  pub answers : (catalogue : Catalogue) (whole : Relations) (past : List (Deed (language (database catalogue)))) → seen.is_clean new → GoesOn seen catalogue whole past old → IfOk result (λ given. IsAnswered seen mode catalogue whole task past old new (told_of given))
-  pub err : IfErr result IsOfClient
-
--- a leaf is told with how many parts it keeps, and the database goes on; name: how it was asked for, bytes_of: what is told by what a call gives
-pub record CountsParts {B T : Type 0} (seen : Seen B) (mode : Mode) (name : List ℕ) (leaf : Leaf) (bytes_of : T → List ℕ) (old new : B) (result : Result T ProgramFault) : Type 0 where
-  pub clean : seen.is_clean new → seen.is_clean old
-  pub counted : (catalogue : Catalogue) (whole : Relations) (past : List (Deed (language (database catalogue)))) → seen.is_clean new → GoesOn seen catalogue whole past old →
-      IfOk result (λ given. GoesOn seen catalogue whole past new × CountsPartsOf mode catalogue name leaf (standing_of seen catalogue old past) (standing_of seen catalogue new past) (bytes_of given))
-  pub err : IfErr result IsOfClient
-
--- a leaf is shown, and the database goes on; name: how it was asked for, bytes_of: what is told by what a call gives
-pub record ShowsParts {B T : Type 0} (seen : Seen B) (mode : Mode) (name : List ℕ) (leaf : Leaf) (bytes_of : T → List ℕ) (old new : B) (result : Result T ProgramFault) : Type 0 where
-  pub clean : seen.is_clean new → seen.is_clean old
-  pub shown : (catalogue : Catalogue) (whole : Relations) (past : List (Deed (language (database catalogue)))) → seen.is_clean new → GoesOn seen catalogue whole past old →
-      IfOk result (λ given. GoesOn seen catalogue whole past new × ShowsPartsOf mode catalogue name leaf (standing_of seen catalogue old past) (standing_of seen catalogue new past) (bytes_of given))
-  pub err : IfErr result IsOfClient

@@ -4,6 +4,8 @@ pub mod Delivering
 pub mod Shown
 pub mod WorldOpener
 pub mod Client
+pub mod ListClient
+pub mod Serves
 pub mod CatalogFiles
 pub mod Origin
 pub mod SqlStores

@@ -7,7 +7,7 @@ use Rattle.catalog.specs.FragmentLeaf.{schemas_of}
 use Rattle.store.specs.DeskContent.{DeskContent}
 use Rattle.store.specs.SiteContent.{SiteContent}
 use Rattle.protocol.specs.Desk.{Deed}
-use Rattle.desk.specs.CatalogueDatabase.{database}
+use Rattle.desk.specs.CatalogueDatabase.{database, databases}
 use Rattle.desk.specs.Database.{language}
 use Rattle.desk.specs.State.{IsMemory}
 use Rattle.world.specs.Chain.{StandsLast}
@@ -16,6 +16,7 @@ use Rattle.world.specs.Machines.{Machines}
 use Rattle.world.specs.Recovery.{AreKept, HaveLeaves}
 use Rattle.world.specs.Settled.{after_committed}
 use Rattle.commands.specs.Client.{GoesOn, Seen}
+use Rattle.commands.specs.ListClient.{GoesOnOver, unhappened}
 use Rattle.lines.specs.PlayLoad.{emptied}
 
 -- what stores kept as a database was opened over them: the coordinator's, and those of the sites
@@ -67,6 +68,14 @@ abbrev pub IsLastOf : List Catalogue → Origin → Catalogue → Type 0
 IsLastOf catalogues New catalogue = catalogues ≡ catalogue ∷ []
 IsLastOf catalogues (Kept found) catalogue = StandsLast found.desk.version catalogues catalogue
 
--- a database of these catalogues that was opened, over what it may begin with: where one comes after the catalogue in force, nothing is said of it
-abbrev pub BeginsOver : {B : Type 0} → Seen B → (Origin → Type 0) → List Catalogue → B → Type 0
-BeginsOver seen IsOrigin catalogues base = (origin : Origin) × IsOrigin origin × ((catalogue : Catalogue) → IsLastOf catalogues origin catalogue → IsBegun seen catalogue origin base)
+-- a new database of these catalogues was opened, the first of which is in force: where its stores are clean it goes on from relations without rows, and nothing has happened
+pub record IsBegunOver {B : Type 0} (seen : Seen B) (first : Catalogue) (rest : List Catalogue) (base : B) : Type 0 where
+  pub idle : seen.current base ≡ None
+  pub goes_on : seen.is_clean base → GoesOnOver seen (databases first rest) (no_rows first) unhappened base
+
+-- a database of these catalogues that was opened, over what it may begin with. Where one comes after the catalogue in force, this is said of a new one
+pub record BeginsOver {B : Type 0} (seen : Seen B) (IsOrigin : Origin → Type 0) (catalogues : List Catalogue) (base : B) : Type 0 where
+  pub origin : Origin
+  pub is_origin : IsOrigin origin
+  pub last : (catalogue : Catalogue) → IsLastOf catalogues origin catalogue → IsBegun seen catalogue origin base
+  pub new : (first : Catalogue) (rest : List Catalogue) → catalogues ≡ first ∷ rest → origin ≡ New → IsBegunOver seen first rest base

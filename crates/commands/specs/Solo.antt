@@ -6,11 +6,12 @@ use Rattle.std.specs.List.{list_any}
 use Rattle.meaning.specs.Whole.{Relations}
 use Rattle.catalog.specs.Catalogue.{Catalogue, IsValidCatalogue}
 use Rattle.protocol.specs.Desk.{Deed}
-use Rattle.desk.specs.Database.{language}
+use Rattle.desk.specs.Database.{Database, language}
 use Rattle.world.specs.Course.{said_in}
 use Rattle.desk.specs.CatalogueDatabase.{database, fits}
 use Rattle.world.specs.declared.event.Entry.{Entry}
 use Rattle.world.specs.Executed.{Stands}
+use Rattle.world.specs.Listed.{IsListed}
 use Rattle.world.specs.Runs.{IsSerialRun}
 use Rattle.world.specs.Client.{IsServed}
 use Rattle.shell.specs.declared.mode.Mode.{Mode}
@@ -20,6 +21,7 @@ use Rattle.lines.specs.declared.fault.ProgramFault.{ProgramFault}
 use Rattle.lines.specs.declared.fault.ProgramFault.TheVariants.{CannotRead, CannotWrite, Malformed, Memory, ScriptTooLong, Store}
 use Rattle.lines.specs.CatalogFile.{IsCatalogueFile, RefusesFile}
 use Rattle.commands.specs.Client.{AnswersTask, GoesOn, IsOfClient, Seen, Standing, standing_of}
+use Rattle.commands.specs.ListClient.{AnswersTaskOver, GoesOnOver, Happened, IsTold, ListStanding, list_standing_of, unhappened}
 use Rattle.commands.specs.Origin.{BeginsWith, Origin}
 use Rattle.lines.specs.Input.{IsOfInput}
 use Rattle.lines.specs.Reply.{Answered, Refused, Told, is_refusal, text_of}
@@ -42,10 +44,24 @@ IsOfRun fault = IsOfClient fault ⊎ (fault ≡ CannotWrite)
 abbrev pub IsOfRead : Bor (List ℕ) → ProgramFault → Type 0
 IsOfRead file fault = (fault ≡ Memory) ⊎ ((fault ≡ ScriptTooLong) ⊎ (fault ≡ CannotRead file))
 
--- tasks, one after another, with the answer to each
+-- Answers: what a task is answered by, and where the client stands before it and after it
+module _ {S : Type 0} (Answers : Reading → S → S → Told → Type 0) where
+  -- tasks, one after another, with the answer to each
+  abbrev pub AnswersInTurn : List (Reading × Told) → S → S → Type 0
+  AnswersInTurn [] before after = after ≡ before
+  AnswersInTurn (first ∷ others) before after = (middle : S) × Answers first.0 before middle first.1 × AnswersInTurn others middle after
+
+  -- What tasks come to from where a client stands: one answer to each, in order, all of which is written, and whether a line was refused.
+  pub record IsWorkBy (tasks : List Reading) (written : List ℕ) (any_refused : Bool) (before after : S) : Type 0 where
+    pub answers : List (Reading × Told)
+    pub in_order : map (λ p. p.0) answers ≡ tasks
+    pub answered : AnswersInTurn answers before after
+    pub lines : written ≡ flat_map (λ p. text_of p.1) answers
+    pub refused : any_refused ≡ list_any (λ p. is_refusal p.1) answers
+
+-- tasks over one catalogue, one after another
 abbrev pub AnswersTasks : (mode : Mode) (catalogue : Catalogue) → List (Reading × Told) → Standing catalogue → Standing catalogue → Type 0
-AnswersTasks mode catalogue [] before after = after ≡ before
-AnswersTasks mode catalogue (first ∷ others) before after = (middle : Standing catalogue) × AnswersTask mode catalogue first.0 before middle first.1 × AnswersTasks mode catalogue others middle after
+AnswersTasks mode catalogue answers before after = AnswersInTurn (AnswersTask mode catalogue) answers before after
 
 -- the calls that a task made, each with all that was heard of it
 abbrev pub said_by : (mode : Mode) (catalogue : Catalogue) (task : Reading) (before after : Standing catalogue) (told : Told) → AnswersTask mode catalogue task before after told → List Entry
@@ -58,13 +74,13 @@ abbrev pub said_by_tasks : (mode : Mode) (catalogue : Catalogue) (answers : List
 said_by_tasks mode catalogue [] before after same = []
 said_by_tasks mode catalogue (first ∷ others) before after so = said_by mode catalogue first.0 before so.0 first.1 so.1 ++ said_by_tasks mode catalogue others so.0 after so.2
 
--- What tasks come to from where a client stands: one answer to each, in order, all of which is written, and whether a line was refused.
-pub record IsWork (mode : Mode) (catalogue : Catalogue) (tasks : List Reading) (written : List ℕ) (any_refused : Bool) (before after : Standing catalogue) : Type 0 where
-  pub answers : List (Reading × Told)
-  pub in_order : map (λ p. p.0) answers ≡ tasks
-  pub answered : AnswersTasks mode catalogue answers before after
-  pub lines : written ≡ flat_map (λ p. text_of p.1) answers
-  pub refused : any_refused ≡ list_any (λ p. is_refusal p.1) answers
+-- what tasks come to over one catalogue
+abbrev pub IsWork : (mode : Mode) (catalogue : Catalogue) → List Reading → List ℕ → Bool → Standing catalogue → Standing catalogue → Type 0
+IsWork mode catalogue tasks written any_refused before after = IsWorkBy (AnswersTask mode catalogue) tasks written any_refused before after
+
+-- so over a list of catalogues
+abbrev pub IsWorkOver : (mode : Mode) (db : Database) (whole : Relations) → List Reading → List ℕ → Bool → ListStanding db → ListStanding db → Type 0
+IsWorkOver mode db whole tasks written any_refused before after = IsWorkBy (AnswersTaskOver mode db whole) tasks written any_refused before after
 
 -- a database that was opened over these whole relations: nothing has happened, and no transaction has begun
 pub record IsOpened (catalogue : Catalogue) (whole : Relations) (standing : Standing catalogue) : Type 0 where
@@ -82,6 +98,22 @@ pub record IsRunFrom (mode : Mode) (catalogue : Catalogue) (whole : Relations) (
   pub served : IsServed (database catalogue) whole end.machines end.past
   pub stands : Stands (database catalogue) (fits catalogue) end.current end.machines end.past
   pub serial : IsSerialRun (database catalogue) whole end.machines (said_by_tasks mode catalogue work.answers opening end work.answered)
+
+-- a database of a list of catalogues that was opened over these whole relations: nothing has happened, and no transaction has begun
+pub record IsOpenedOver (db : Database) (whole : Relations) (standing : ListStanding db) : Type 0 where
+  pub told : IsTold db whole standing.machines standing.happened
+  pub none : standing.happened ≡ unhappened
+  pub idle : standing.current ≡ None
+
+-- So a run of tasks over a list of catalogues, whichever of them comes into force: the committed transactions, ordinary ones and REFRAGMENTs, one after another over whole relations, give the answers that were heard
+-- and, under the catalogue in force at the end, what the settled fragments rebuild.
+pub record IsRunFromOver (mode : Mode) (db : Database) (whole : Relations) (tasks : List Reading) (written : List ℕ) (any_refused : Bool) : Type 0 where
+  pub opening : ListStanding db
+  pub opened : IsOpenedOver db whole opening
+  pub end : ListStanding db
+  pub work : IsWorkOver mode db whole tasks written any_refused opening end
+  pub told : IsTold db whole end.machines end.happened
+  pub serial : IsSerialRun db whole end.machines end.happened.entries
 
 -- what stopped a script, of which all bytes were read
 abbrev pub StopsRun : List ℕ → Option (List ℕ) → Option (List ℕ) → ProgramFault → Type 0
@@ -113,11 +145,18 @@ pub record IsStretch {B : Type 0} (seen : Seen B) (mode : Mode) (catalogue : Cat
   pub goes_on : GoesOn seen catalogue whole later new
   pub work : IsWork mode catalogue tasks written any_refused (standing_of seen catalogue old past) (standing_of seen catalogue new later)
 
+-- so over a list of catalogues
+pub record IsStretchOver {B : Type 0} (seen : Seen B) (mode : Mode) (db : Database) (whole : Relations) (tasks : List Reading) (happened : Happened db) (old new : B) (written : List ℕ) (any_refused : Bool) : Type 0 where
+  pub later : Happened db
+  pub goes_on : GoesOnOver seen db whole later new
+  pub work : IsWorkOver mode db whole tasks written any_refused (list_standing_of seen old happened) (list_standing_of seen new later)
+
 -- something was written, and whatever has happened before, that is a run of these tasks where the stores are clean at its end
 pub record Stretches {B : Type 0} (seen : Seen B) (mode : Mode) (tasks : List Reading) (before after : Option (List ℕ)) (old new : B) (any_refused : Bool) : Type 0 where
   pub written : List ℕ
   pub told : Appends before after written
   pub ran : (catalogue : Catalogue) (whole : Relations) (past : List (Deed (language (database catalogue)))) → seen.is_clean new → GoesOn seen catalogue whole past old → IsStretch seen mode catalogue whole tasks past old new written any_refused
+  pub over : (db : Database) (whole : Relations) (happened : Happened db) → IsListed db → seen.is_clean new → GoesOnOver seen db whole happened old → IsStretchOver seen mode db whole tasks happened old new written any_refused
 
 -- seen: how databases are seen that are opened for a run; IsOrigin: what they may begin with
 module _ {B : Type 0} (seen : Seen B) (IsOrigin : Origin → Type 0) where

@@ -4,7 +4,8 @@ ghost use Rattle.std.specs.Prelude.{◌≡◌, ◌++◌, false, IfErr, IfOk, OnO
 ghost use Rattle.world.specs.Stopping.{is_stop};
 ghost use Rattle.shell.specs.Mode.{line_in};
 ghost use Rattle.commands.specs.Client as client;
-ghost use Rattle.commands.specs.Client.{CountsParts, IsOfClient, Serves, ShowsParts, seen_over};
+ghost use Rattle.commands.specs.Client.{IsOfClient, seen_over};
+ghost use Rattle.commands.specs.Serves.{CountsParts, Serves, ShowsParts};
 ghost use Rattle.lines.specs.PlayText as spec;
 ghost use Rattle.lines.specs.Reply.{Answered, Refused, told_by};
 ghost use Rattle.lines.specs.Script.{CountsLeaf, DumpsRelation, Runs, ShowsLeaf, ShowsRelation, task_of};

@@ -2,7 +2,8 @@
 
 ghost use Rattle.std.specs.Prelude.{◌≡◌, is_some, map};
 ghost use Rattle.catalog.specs.Relation.{catalogue_of};
-ghost use Rattle.commands.specs.Client.{Seen, Serves};
+ghost use Rattle.commands.specs.Client.{Seen};
+ghost use Rattle.commands.specs.Serves.{Serves};
 ghost use Rattle.lines.specs.Reply.{told_by};
 ghost use Rattle.lines.specs.Script.{task_of};
 

@@ -1,7 +1,8 @@
 //! Rows that are inserted, so many in a transaction.
 
 ghost use Rattle.std.specs.Prelude.{◌≡◌, ◌≢◌, ◌<◌, ◌==◌, ◌%◌, ◌∷◌, ℕ, [], true, false, if◌then◌else◌, None, IfErr, IfOk, IfSome, OnOk, Ok};
-ghost use Rattle.commands.specs.Client.{IsOfClient, Serves};
+ghost use Rattle.commands.specs.Client.{IsOfClient};
+ghost use Rattle.commands.specs.Serves.{Serves};
 ghost use Rattle.commands.specs.Import.{Comes, IsCutShort, RollsBack, StopsAt, StopsBefore, before_row, begins, commits, ending, import_of, insert_says};
 ghost use Rattle.lines.specs.Reply.{Answered, told_by};
 ghost use Rattle.lines.specs.declared.reply.Reply.{Reply as ReplyNow};

@@ -19,7 +19,7 @@ use shell::mode::Mode;
 use std::alloc::Global;
 use std::io;
 use std::io::{Read, Write};
-use world::laws::moves_follow;
+use world::laws::{chain_is_listed, list_served_is_serial, moves_follow};
 
 /// Runs the script that `input` gives, which `file` names in a fault, over the catalogue that `catalog` gives, which
 /// `catalog_file` names, and those that come next. The catalogues are read first.
@@ -104,6 +104,8 @@ fn run<'a, B: Database + Drop, O: Opens<B>, W: Write>(
     ensures err { IfErr result IsOfRunOver }
     ensures unchained { result ≡ Err ChainFault.Unchained → W.contents output.new ≡ W.contents output.old }
 {
+    chain_is_listed(chain);
+    list_served_is_serial();
     let mut database = opener.open(alloc, chain)?;
     moves_follow(database.catalog());
     Ok(run_items(alloc, mode, &mut database, items, output)?)

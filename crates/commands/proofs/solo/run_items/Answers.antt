@@ -2,7 +2,8 @@ use Rattle.std.proofs.Common.{◌≡◌, ◌++◌, [], ap, map, take, arith, is_
 use Rattle.std.specs.Io.KnownBytes.{Appends}
 use Rattle.std.proofs.lemmas.List.{take_all}
 use Rattle.lines.specs.declared.script.Item.{Item}
-use Rattle.commands.specs.Client.{standing_of}
+use Rattle.commands.specs.Client.{AnswersTask, standing_of}
+use Rattle.commands.specs.ListClient.{AnswersTaskOver, list_standing_of}
 use Rattle.lines.specs.Script.{task_of}
 use Rattle.commands.specs.Solo.{Stretches}
 use Rattle.lines.specs.Reply.{told_by}
@@ -15,7 +16,8 @@ loop-item-init g c = (
   record {
     written = [];
     told = search rules;
-    ran = λ catalogue whole past clean h. record { later = past; goes_on = h; work = IsWork-none c.args.mode catalogue (standing_of g.B.Database.seen catalogue c.args.database.now past) };
+    ran = λ catalogue whole past clean h. record { later = past; goes_on = h; work = IsWork-none (AnswersTask c.args.mode catalogue) (standing_of g.B.Database.seen catalogue c.args.database.now past) };
+    over = λ db whole happened listed clean h. record { later = happened; goes_on = h; work = IsWork-none (AnswersTaskOver c.args.mode db whole) (list_standing_of g.B.Database.seen c.args.database.now happened) };
   },
 )
 
@@ -37,7 +39,15 @@ loop-item-preserved g c =
             record {
               later = answered.later;
               goes_on = answered.goes_on;
-              work = IsWork-next c.args.mode catalogue c.args.items.now c.loop-item.item-index _ so_far.written c.loop-item.any_refused (standing_of seen catalogue c.args.database.now past) (standing_of seen catalogue c.loop-item.database stretch.later) (standing_of seen catalogue c.answer.new.self answered.later) (told_by c.in_ok-reply.reply) line c.is_refusal-any_refused.result (omega arith) stretch.work answered.answers c.text.ensures c.is_refusal-any_refused.ensures;
+              work = IsWork-next (AnswersTask c.args.mode catalogue) c.args.items.now c.loop-item.item-index _ so_far.written c.loop-item.any_refused (standing_of seen catalogue c.args.database.now past) (standing_of seen catalogue c.loop-item.database stretch.later) (standing_of seen catalogue c.answer.new.self answered.later) (told_by c.in_ok-reply.reply) line c.is_refusal-any_refused.result (omega arith) stretch.work answered.answers c.text.ensures c.is_refusal-any_refused.ensures;
+            };
+        over = λ db whole happened listed clean begun.
+            let stretch = so_far.over db whole happened listed (c.in_ok-reply.ensures.clean clean) begun in
+            let answered = c.in_ok-reply.ensures.over db whole stretch.later listed clean stretch.goes_on in
+            record {
+              later = answered.later;
+              goes_on = answered.goes_on;
+              work = IsWork-next (AnswersTaskOver c.args.mode db whole) c.args.items.now c.loop-item.item-index _ so_far.written c.loop-item.any_refused (list_standing_of seen c.args.database.now happened) (list_standing_of seen c.loop-item.database stretch.later) (list_standing_of seen c.answer.new.self answered.later) (told_by c.in_ok-reply.reply) line c.is_refusal-any_refused.result (omega arith) stretch.work answered.answers c.text.ensures c.is_refusal-any_refused.ensures;
             };
       },
     )

@@ -10,10 +10,11 @@ open_stores-requires g c = c.in_ok-sites.ensures.all ∙ ap (λ chain. length (s
 
 pub returns-in-Ok-clause-ok : goal.returns-in-Ok-clause-ok
 returns-in-Ok-clause-ok g c =
-    let found : Found = record { desk = desk_kept g.M.Store c.in_ok-sites.field-0.desk.conn; sites = map (λ site. kept_by g.M.Store site.leaves.items site.conn) c.in_ok-sites.field-0.sites.items } in (
-      Kept found,
-      (found, refl),
-      λ catalogue last. record {
+    let found : Found = record { desk = desk_kept g.M.Store c.in_ok-sites.field-0.desk.conn; sites = map (λ site. kept_by g.M.Store site.leaves.items site.conn) c.in_ok-sites.field-0.sites.items } in
+    record {
+      origin = Kept found;
+      is_origin = (found, refl);
+      last = λ catalogue last. record {
         idle = c.in-Ok.ensures.idle.0;
         goes_on = λ whole left clean.
             let begun = c.in-Ok.ensures.anew catalogue last clean left.first left.machines left.past left.leaves left.served left.memory left.kept in
@@ -24,5 +25,6 @@ returns-in-Ok-clause-ok g c =
               served = rw (left.is) begun.served;
               stands = rw (c.in-Ok.ensures.idle.0) begun.quiet;
             };
-      },
-    )
+      };
+      new = λ first rest chain same. absurd (cc);
+    }
