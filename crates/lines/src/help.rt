@@ -135,8 +135,7 @@ or aborted, and 1 where weave says no.";
 pub const CATALOG_HELP: &str = "A TOML file with a catalogue; else the built-in one";
 
 /// What is told of the catalogues after the first.
-pub const NEXT_HELP: &str =
-    "A catalogue that comes next; up to 15, in order";
+pub const NEXT_HELP: &str = "A catalogue that comes next; up to 15, in order";
 
 /// What is told where too many catalogues come after the first.
 pub const TOO_MANY_NEXT: &str = "at most 15 catalogues may come after the first";
@@ -144,8 +143,7 @@ pub const TOO_MANY_NEXT: &str = "at most 15 catalogues may come after the first"
 /// What is told of stores.
 pub const SQLITE_HELP: &str = "Keeps fragments in SQLite databases in memory";
 
-pub const DIR_HELP: &str =
-    "A folder of SQLite files in which data stay";
+pub const DIR_HELP: &str = "A folder of SQLite files in which data stay";
 
 /// What is told where answers are to be shown in two ways.
 pub const TWO_MODES: &str =
@@ -169,20 +167,16 @@ number, and then no row is inserted. A row whose key is there already ends the
 import, and no row of its transaction stays.";
 
 /// What is told of what a catalogue is suggested by.
-pub const KEY_HELP: &str =
-    "The key column: an integer in each row, each once";
+pub const KEY_HELP: &str = "The key column: an integer in each row, each once";
 
 pub const ROWS_HELP: &str = "The column by whose quantiles the rows are split";
 
 pub const SITES_HELP: &str = "How many sites there are to be, 1 to 16; 2 if left out";
 
-pub const NAME_HELP: &str =
-    "The relation's name; else the file's, to its first dot";
+pub const NAME_HELP: &str = "The relation's name; else the file's, to its first dot";
 
 /// What is told of the rows of a transaction.
-pub const EVERY_HELP: &str =
-    "Rows a transaction, 1 to 1000000; else all in one";
+pub const EVERY_HELP: &str = "Rows a transaction, 1 to 1000000; else all in one";
 
 /// What is told of how often a statement is run again.
-pub const RETRY_HELP: &str =
-    "Reruns of a statement after an abort, 0 to 1000000";
+pub const RETRY_HELP: &str = "Reruns of a statement after an abort, 0 to 1000000";
