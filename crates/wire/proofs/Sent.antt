@@ -19,6 +19,7 @@ use Rattle.terms.proofs.text.Text.TheSendSync as text
 use Rattle.desk.proofs.volatile.Volatile.TheSendSync as volatile
 use Rattle.desk.specs.contracts.desk.Desk as desk
 use Rattle.store.proofs.commit.DeskKept.TheSendSync as kept
+use Rattle.store.proofs.name.Txn.TheSendSync as txn
 use Rattle.store.specs.contracts.commit.DeskKept as kept_row
 use Rattle.store.specs.declared.desk_store.DeskStore
 use Rattle.history.proofs.entry.Entry.TheSendSync as entry
@@ -80,7 +81,7 @@ desk_cell_send D store s =
 front_send : (D : RattleType) (store : DeskStore.Ghosts D.Denot) → IsSend D → IsSend (front.the_row D store)
 front_send D store s =
     let own = desk_cell_send D store s in
-    declared_send (front.the_type D store) (search (own, sendable) depth 20, (search (Crossing.crosses, way.the_send, sendable) depth 20, tt))
+    declared_send (front.the_type D store) (search (own, sendable) depth 20, (search (Crossing.crosses, way.the_send, sendable) depth 20, (search (Crossing.crosses, txn.the_send, sendable) depth 20, tt)))
 
 -- what threads share
 pub shared_send : (D G : RattleType) (store : DeskStore.Ghosts D.Denot) → IsSend D → IsSend G → IsSend (shared.the_row D G store)
