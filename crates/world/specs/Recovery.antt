@@ -24,7 +24,7 @@ use Rattle.site.specs.State as site_state
 use Rattle.site.specs.State.{AreHad}
 use Rattle.desk.specs.declared.desk.Desk.{Desk as Coordinator}
 use Rattle.desk.specs.declared.refusal.Refusal.TheVariants as refusals
-use Rattle.desk.specs.CatalogueDatabase.{database}
+use Rattle.desk.specs.CatalogueDatabase.{database, databases}
 use Rattle.desk.specs.Database.{Database, language}
 use Rattle.desk.specs.Recovery.{Rises}
 use Rattle.desk.specs.Request.{IsOver}
@@ -33,9 +33,11 @@ use Rattle.world.specs.declared.fault.Fault as faults
 use Rattle.world.specs.declared.fault.Fault.TheVariants.{Desk, Site as OfSite}
 use Rattle.world.specs.Client.{IsServed}
 use Rattle.world.specs.Leaves.{known_leaves}
+use Rattle.world.specs.Listed.{FitsList}
+use Rattle.world.specs.ListServed.{IsListServed}
 use Rattle.world.specs.Machines.{AreFit, Machines, world_of}
 use Rattle.world.specs.Seated.{seats_in}
-use Rattle.world.specs.Settled.{after_committed}
+use Rattle.world.specs.Settled.{AreDecided, after_committed}
 use Rattle.world.specs.Sites.{Seat}
 
 -- the stores keep what those of these machines kept; what the machines had in memory doesn't matter
@@ -158,3 +160,26 @@ GoesOnOver catalogue of_desk of_sites machines = (whole : Relations) (old : Mach
 abbrev pub BeginsAnewOver : (catalogue : Catalogue) → DeskContent → List SiteContent → Machines → Type 0
 BeginsAnewOver catalogue of_desk of_sites machines = (whole : Relations) (old : Machines) (past : List (Deed (language (database catalogue)))) → HaveLeaves catalogue of_sites → IsServed (database catalogue) whole old past → IsMemory old.table → AreKept old of_desk of_sites
     → IsBeginning (database catalogue) (after_committed (database catalogue) past whole) machines
+
+-- ---- over a list of catalogues, whichever is in force
+-- machines that have come up over what the stores of others kept
+pub record ListComeUp (db : Database) (old new : Machines) : Type 0 where
+  pub fit : FitsList db new
+  pub sites : AllWake old.seats new.seats
+  pub rises : Rises db new.desk new.table
+  pub life : desk_content.BeginsLife old.desk new.desk
+  pub memory : IsMemory new.table
+
+-- Machines over a list that come up over what the stores of others kept go on from what those did: they are those of the same run after restarts, under the catalogue whose number the coordinator's store keeps
+abbrev pub ListComingUpLaw : Database → Type 0
+ListComingUpLaw db = (whole : Relations) (old new : Machines) (past : List (Deed (language db))) → IsListServed db whole old past → IsMemory old.table → ListComeUp db old new → IsListServed db whole new (past ++ lost_by db old)
+
+-- A database over a list goes on from what happened before: it is served, no letter waits, and no commit row is left
+pub record ListGoesOnFrom (db : Database) (whole : Relations) (past : List (Deed (language db))) (machines : Machines) : Type 0 where
+  pub more : List (Deed (language db))
+  pub served : IsListServed db whole machines (past ++ more)
+  pub settled : AreDecided machines.table []
+
+-- Something holds of whatever machines of a chain's database were served in an earlier run over what the stores keep: of their whole relations, and of what had happened
+abbrev pub OverEarlierRuns : (first : Catalogue) (rest : List Catalogue) → DeskContent → List SiteContent → (Relations → List (Deed (language (databases first rest))) → Type 0) → Type 0
+OverEarlierRuns first rest of_desk of_sites P = (whole : Relations) (old : Machines) (past : List (Deed (language (databases first rest)))) → HaveLeaves first of_sites → IsListServed (databases first rest) whole old past → IsMemory old.table → AreKept old of_desk of_sites → P whole past

@@ -23,7 +23,7 @@ ghost use Rattle.desk.specs.Database.{Database, language, statements};
 ghost use Rattle.desk.specs.CatalogueDatabase.{IsBase, database, databases, fits};
 ghost use Rattle.world.specs.Commands.{CommandsFollow, MovesFollow};
 ghost use Rattle.world.specs.Executed.{ObeysUnlessRefused};
-ghost use Rattle.world.specs.Recovery.{BeginsAnewLaw, ComingUpLaw};
+ghost use Rattle.world.specs.Recovery.{BeginsAnewLaw, ComingUpLaw, ListComingUpLaw};
 ghost use Rattle.world.specs.Listed.{IsListed};
 ghost use Rattle.world.specs.ListServed.{ListHeardIsSerial, ListServedIsSerial};
 ghost use Rattle.world.specs.Runs.{ListRunsAreSerial, RunsAreSerial, RunsHold};
@@ -294,6 +294,11 @@ pub fn machines_come_up(catalog: &Catalog)
     catalog.relations();
     one_client_is_a_run(catalog);
 }
+
+/// So over a list of catalogues: under the one whose number the coordinator's store keeps.
+pub fn list_machines_come_up()
+    ensures { (db : Database) → IsListed db → ListComingUpLaw db }
+{}
 
 /// A database that comes up again: each prepared row comes to its end, and then all is quiet.
 pub fn restarts_recover(catalog: &Catalog)

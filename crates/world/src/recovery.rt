@@ -11,6 +11,7 @@ ghost use Rattle.desk.specs.Database.{Database};
 ghost use Rattle.world.specs.Chain.{StandsAt, sites_of};
 ghost use Rattle.world.specs.Contents.{OfStores, counted, held};
 ghost use Rattle.world.specs.Frame.{LeavesDatabase, LeavesMachines, OverDatabase, OverLists, StaysAsItIs};
+ghost use Rattle.world.specs.Listed.{FitsList};
 ghost use Rattle.world.specs.ListServed.{IsListServedOn};
 ghost use Rattle.world.specs.Machines.{AreFit};
 ghost use Rattle.world.specs.Recovery.{AreUp, Inquires, IsDeskUp, IsUp, Recovers, StopsOpening};
@@ -138,6 +139,8 @@ pub(crate) fn ensure_no_commit_row<D: DeskStore, S: SiteStore>(
     ensures leaves { LeavesMachines D.is_clean S.is_clean D.is_sound S.is_sound D.refused S.refused machines.old machines.new }
     ensures same { StaysAsItIs (OfStores D.is_clean S.is_clean) (OfStores D.is_sound S.is_sound) (held D.kept S.kept) machines.old machines.new }
     ensures none { (db : Database) → OfStores D.is_clean S.is_clean machines.new → OfStores D.is_sound S.is_sound machines.old → AreFit db (held D.kept S.kept machines.old)
+        → OnOk result (AreDecided (held D.kept S.kept machines.old).table []) }
+    ensures lists { (db : Database) → OfStores D.is_clean S.is_clean machines.new → OfStores D.is_sound S.is_sound machines.old → FitsList db (held D.kept S.kept machines.old)
         → OnOk result (AreDecided (held D.kept S.kept machines.old).table []) }
     ensures own { IfErr result StopsOpening }
 {

@@ -1,20 +1,28 @@
 -- Why `open_stores` meets its contract.
-use Rattle.std.proofs.Common.{◌≡◌, sym, refl, ap, subst, ◌++◌, ◌∙◌, List, [], ℕ, length, map}
+use Rattle.std.proofs.Common.{◌≡◌, sym, refl, ap, subst, ◌++◌, ◌∙◌, append_assoc, List, [], ℕ, length, map}
 use Rattle.std.proofs.lemmas.List.{length-map}
 use Rattle.catalog.specs.declared.relation.SplitRelation.{SplitRelation}
+use Rattle.reader.specs.Printable.{AreDistinct}
+use Rattle.catalog.specs.Catalogue.{Catalogue}
+use Rattle.catalog.specs.FragmentLeaf.{schemas_of}
 use Rattle.catalog.specs.Relation.{catalogue_of}
-use Rattle.desk.specs.CatalogueDatabase.{database}
-use Rattle.world.specs.Chain.{StandsLast, sites_of}
+use Rattle.desk.specs.CatalogueDatabase.{database, databases}
+use Rattle.world.specs.Chain.{StandsAt, StandsLast, sites_of}
 use Rattle.world.specs.Contents.{OfStores, counted, held}
 use Rattle.world.specs.Counted.{counts}
+use Rattle.world.specs.Listed.{FitsList}
+use Rattle.world.specs.ListServed.{IsListServed}
 use Rattle.world.specs.Machines.{AreFit, Machines}
-use Rattle.world.specs.Recovery.{BeginsAnewOver, GoesOnOver, lost_by}
+use Rattle.world.specs.Recovery.{BeginsAnewOver, GoesOnOver, HaveLeaves, lost_by}
 use Rattle.world.specs.Settled.{AreDecided}
 use Rattle.world.specs.Start.{BeginsWithoutRows}
 use Rattle.world.proofs.Anew.{begins_on, going_on}
-use Rattle.world.proofs.ComingUp.{all_sound, came_up, stores_were_clean, up_again, up_fit, up_in_force}
+use Rattle.world.proofs.ComingUp.{all_sound, came_up, list_came_up, stores_were_clean, up_again, up_fit, up_in_force}
 use Rattle.world.proofs.Counting.{fit_uncounted}
 use Rattle.world.proofs.DatabaseIsOpened.{placed}
+use Rattle.world.proofs.ListCalls.{served_with, served_without}
+use Rattle.world.proofs.ListIsBase.{head_is, stands_at}
+use Rattle.world.proofs.Listing.{stands_as}
 use Rattle.world.proofs.OfChain.{last_by, last_of}
 use Rattle.world.proofs.Recovers.{goes_further}
 use Rattle.world.proofs.solo.Solo.open_stores.Goals as goal
@@ -127,3 +135,40 @@ returns-clause-sound g c = λ clean.
     let clean_mid = c.ensure_no_commit_row.ensures.leaves.clean clean in
     let now = c.recover.ensures.leaves.clean clean_mid in
     c.ensure_no_commit_row.ensures.leaves.sound clean (c.recover.ensures.leaves.sound clean_mid (up.leaves_store.sound now.0 (up.learnt now.0), all_sound S.is_clean S.is_sound S.kept S.refused here here.sites c.args.sites.items c.in_ok-sites.sites.items (up_in_force g.S.SiteStore.is_clean g.S.SiteStore.is_sound g.S.SiteStore.kept g.S.SiteStore.refused c.args.chain.now c.first_of.ensures.0 c.first_of.result.now c.in_ok-desk.desk.catalog c.catalog-catalog.result.now c.args.sites.items c.in_ok-sites.sites.items c.first_of.ensures.1 c.catalog-catalog.ensures c.in_ok-desk.ensures.sites c.in_ok-desk.ensures.schemas c.in_ok-sites.ensures.up) now.1))
+
+-- over every chain
+pub returns-clause-lists : goal.returns-clause-lists
+returns-clause-lists g c = λ first rest same clean whole old past have served memory kept.
+    let D = g.D.DeskStore in
+    let S = g.S.SiteStore in
+    let db = databases first rest in
+    let listed = c.chain_is_listed.ensures first rest same in
+    let of = listed.base.of_catalogue in
+    let desk = c.in_ok-desk.desk in
+    let up = c.in_ok-desk.ensures.up in
+    let mid = c.recover.new.machines in
+    let last = c.ensure_no_commit_row.new.machines in
+    let here = catalogue_of c.first_of.result.now in
+    let is : here ≡ first = head_is here first (map catalogue_of c.first_of.ensures.0) rest (sym (ap (map catalogue_of) c.first_of.ensures.1) ∙ same) in
+    let clean_mid = c.ensure_no_commit_row.ensures.leaves.clean clean in
+    let now = c.recover.ensures.leaves.clean clean_mid in
+    let named : db.sites ≡ desk.catalog.0 = sym (ap (λ (x : Catalogue). x.sites) is) ∙ sym (ap sites_of c.first_of.ensures.1) ∙ sym c.in_ok-desk.ensures.sites in
+    let rises = up.rises db (record { sites = named; distinct = subst AreDistinct (sym (of.sites 0)) (of.formed 0).distinct }) now.0 in
+    let before = record { alloc = c.args.alloc; desk = desk; sites = c.in_ok-sites.sites; traffic = c.none.result } in
+    let came = list_came_up S.is_clean S.is_sound S.kept S.refused here db of (ap (λ (x : Catalogue). x.sites) is) (ap schemas_of is) c.args.sites.items c.in_ok-sites.sites.items c.in_ok-sites.ensures.up now.1 (subst (λ x. HaveLeaves x (map S.kept c.args.sites.items)) (sym is) have)
+    (counted D.kept S.kept D.refused S.refused before) refl rises old served.fit (D.kept c.args.desk) kept (up.life now.0) up.memory in
+    let risen = c.list_machines_come_up.ensures db listed whole old (counted D.kept S.kept D.refused S.refused before) past served memory came in
+    let stands = stands_at desk.volatile.version first rest desk refl (subst (λ (catalogues : List Catalogue). StandsAt desk.volatile.version catalogues desk) same c.in_ok-desk.ensures.catalogs) in
+    let sound : OfStores D.is_sound S.is_sound before = (up.leaves_store.sound now.0 (up.learnt now.0), all_sound S.is_clean S.is_sound S.kept S.refused here here.sites c.args.sites.items c.in_ok-sites.sites.items c.in_ok-sites.ensures.up now.1) in
+    let recovered = c.in_ok-recover.ensures.lists db whole (past ++ lost_by db old) listed stands clean_mid sound risen in
+    let still = c.ensure_no_commit_row.ensures.same clean (c.recover.ensures.leaves.sound clean_mid sound) in
+    let more = lost_by db old ++ recovered.0.deeds in
+    let then = served_without db whole (held D.kept S.kept mid) (counts D.refused S.refused mid) (past ++ more) (subst (IsListServed db whole (counted D.kept S.kept D.refused S.refused mid)) (append_assoc past (lost_by db old) recovered.0.deeds) recovered.0.served) in
+    let none = c.in_ok-ensure_no_commit_row.ensures.lists db clean (c.recover.ensures.leaves.sound clean_mid sound) then.fit in (
+      record {
+        more = more;
+        served = served_with db whole (held D.kept S.kept last) (counts D.refused S.refused last) (past ++ more) (subst (λ (m : Machines). IsListServed db whole m (past ++ more)) (sym still) then);
+        settled = subst (λ (m : Machines). AreDecided m.table []) (sym still) none;
+      },
+      stands_as db mid.desk last.desk (ap (λ (m : Machines). m.table.version) still) c.ensure_no_commit_row.ensures.leaves.catalog c.ensure_no_commit_row.ensures.leaves.later recovered.1,
+    )
