@@ -154,12 +154,12 @@ returns-clause-lists g c = λ first rest same clean whole old past have served m
     let now = c.recover.ensures.leaves.clean clean_mid in
     let named : db.sites ≡ desk.catalog.0 = sym (ap (λ (x : Catalogue). x.sites) is) ∙ sym (ap sites_of c.first_of.ensures.1) ∙ sym c.in_ok-desk.ensures.sites in
     let rises = up.rises db (record { sites = named; distinct = subst AreDistinct (sym (of.sites 0)) (of.formed 0).distinct }) now.0 in
-    let before = record { alloc = c.args.alloc; desk = desk; sites = c.in_ok-sites.sites; traffic = c.none.result } in
+    let before = counted D.kept S.kept D.refused S.refused (record { alloc = c.args.alloc; desk = desk; sites = c.in_ok-sites.sites; traffic = c.none.result }) in
     let came = list_came_up S.is_clean S.is_sound S.kept S.refused here db of (ap (λ (x : Catalogue). x.sites) is) (ap schemas_of is) c.args.sites.items c.in_ok-sites.sites.items c.in_ok-sites.ensures.up now.1 (subst (λ x. HaveLeaves x (map S.kept c.args.sites.items)) (sym is) have)
-    (counted D.kept S.kept D.refused S.refused before) refl rises old served.fit (D.kept c.args.desk) kept (up.life now.0) up.memory in
-    let risen = c.list_machines_come_up.ensures db listed whole old (counted D.kept S.kept D.refused S.refused before) past served memory came in
+    before refl rises old served.fit (D.kept c.args.desk) kept (up.life now.0) up.memory in
+    let risen = c.list_machines_come_up.ensures db listed whole old before past served memory came in
     let stands = stands_at desk.volatile.version first rest desk refl (subst (λ (catalogues : List Catalogue). StandsAt desk.volatile.version catalogues desk) same c.in_ok-desk.ensures.catalogs) in
-    let sound : OfStores D.is_sound S.is_sound before = (up.leaves_store.sound now.0 (up.learnt now.0), all_sound S.is_clean S.is_sound S.kept S.refused here here.sites c.args.sites.items c.in_ok-sites.sites.items c.in_ok-sites.ensures.up now.1) in
+    let sound : OfStores D.is_sound S.is_sound (record { alloc = c.args.alloc; desk = desk; sites = c.in_ok-sites.sites; traffic = c.none.result }) = (up.leaves_store.sound now.0 (up.learnt now.0), all_sound S.is_clean S.is_sound S.kept S.refused here here.sites c.args.sites.items c.in_ok-sites.sites.items c.in_ok-sites.ensures.up now.1) in
     let recovered = c.in_ok-recover.ensures.lists db whole (past ++ lost_by db old) listed stands clean_mid sound risen in
     let still = c.ensure_no_commit_row.ensures.same clean (c.recover.ensures.leaves.sound clean_mid sound) in
     let more = lost_by db old ++ recovered.0.deeds in
