@@ -37,7 +37,7 @@ use Rattle.world.specs.Listed.{FitsList}
 use Rattle.world.specs.ListServed.{IsListServed}
 use Rattle.world.specs.Machines.{AreFit, Machines, world_of}
 use Rattle.world.specs.Seated.{seats_in}
-use Rattle.world.specs.Settled.{AreDecided, after_committed}
+use Rattle.world.specs.Settled.{after_committed}
 use Rattle.world.specs.Sites.{Seat}
 
 -- the stores keep what those of these machines kept; what the machines had in memory doesn't matter
@@ -174,11 +174,24 @@ pub record ListComeUp (db : Database) (old new : Machines) : Type 0 where
 abbrev pub ListComingUpLaw : Database → Type 0
 ListComingUpLaw db = (whole : Relations) (old new : Machines) (past : List (Deed (language db))) → IsListServed db whole old past → IsMemory old.table → ListComeUp db old new → IsListServed db whole new (past ++ lost_by db old)
 
--- A database over a list goes on from what happened before: it is served, no letter waits, and no commit row is left
+-- A database over a list goes on from what happened before: it is served, all is quiet, no ticket stands at any site, and nothing more has been stated or committed
 pub record ListGoesOnFrom (db : Database) (whole : Relations) (past : List (Deed (language db))) (machines : Machines) : Type 0 where
   pub more : List (Deed (language db))
   pub served : IsListServed db whole machines (past ++ more)
-  pub settled : AreDecided machines.table []
+  pub quiet : IsQuiet (world_of db machines [] (past ++ more))
+  pub unvisited : HaveNoTicket machines.seats
+  pub unstated : (txn : Name) → statements_of (past ++ more) txn ≡ statements_of past txn
+  pub uncommitted : committed (past ++ more) ≡ committed past
+
+-- machines over a list that have come up recover: what was prepared comes to its end, and then all is quiet
+abbrev pub ListRecovers : (db : Database) → Machines → Machines → Type 0
+ListRecovers db before after = (whole : Relations) (past : List (Deed (language db))) → AreUpAgain db before → IsListServed db whole before past → ListGoesOnFrom db whole past after
+
+-- A database over a list begins: it is served over these whole relations, nothing has happened yet, and all is quiet
+pub record IsListBeginning (db : Database) (whole : Relations) (machines : Machines) : Type 0 where
+  pub fits : FitsSchema db.schemas whole
+  pub served : IsListServed db whole machines []
+  pub quiet : IsQuiet (world_of db machines [] [])
 
 -- Something holds of whatever machines of a chain's database were served in an earlier run over what the stores keep: of their whole relations, and of what had happened
 abbrev pub OverEarlierRuns : (first : Catalogue) (rest : List Catalogue) → DeskContent → List SiteContent → (Relations → List (Deed (language (databases first rest))) → Type 0) → Type 0
