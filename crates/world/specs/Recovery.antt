@@ -33,7 +33,7 @@ use Rattle.world.specs.declared.fault.Fault as faults
 use Rattle.world.specs.declared.fault.Fault.TheVariants.{Desk, Site as OfSite}
 use Rattle.world.specs.Client.{IsServed}
 use Rattle.world.specs.Leaves.{known_leaves}
-use Rattle.world.specs.Listed.{FitsList}
+use Rattle.world.specs.Listed.{FitsList, StandsIn}
 use Rattle.world.specs.ListServed.{IsListServed}
 use Rattle.world.specs.Machines.{AreFit, Machines, world_of}
 use Rattle.world.specs.Seated.{seats_in}
@@ -193,6 +193,11 @@ pub record IsListBeginning (db : Database) (whole : Relations) (machines : Machi
   pub served : IsListServed db whole machines []
   pub quiet : IsQuiet (world_of db machines [] [])
 
--- Something holds of whatever machines of a chain's database were served in an earlier run over what the stores keep: of their whole relations, and of what had happened
-abbrev pub OverEarlierRuns : (first : Catalogue) (rest : List Catalogue) → DeskContent → List SiteContent → (Relations → List (Deed (language (databases first rest))) → Type 0) → Type 0
-OverEarlierRuns first rest of_desk of_sites P = (whole : Relations) (old : Machines) (past : List (Deed (language (databases first rest)))) → HaveLeaves first of_sites → IsListServed (databases first rest) whole old past → IsMemory old.table → AreKept old of_desk of_sites → P whole past
+-- Where nothing stands in memory, a database over a list that is served begins anew, over the whole relations that its committed transactions have made, under the catalogue in force
+abbrev pub ListBeginsAnewLaw : Database → Type 0
+ListBeginsAnewLaw db = (whole : Relations) (machines : Machines) (past : List (Deed (language db))) → IsListServed db whole machines past → NothingStands machines → IsListBeginning db (after_committed db past whole) machines
+
+-- What a database of a chain goes on from: whatever machines were served over its stores in an earlier run, under whichever catalogue. It begins anew over the whole relations that the committed transactions of that run have made. of_desk, of_sites: what the stores keep; desk: its coordinator, now
+abbrev pub ListGoesOnOver : {D : Type 0} → (first : Catalogue) (rest : List Catalogue) → DeskContent → List SiteContent → Coordinator D → Machines → Type 0
+ListGoesOnOver first rest of_desk of_sites desk machines = (whole : Relations) (old : Machines) (past : List (Deed (language (databases first rest)))) → HaveLeaves first of_sites → IsListServed (databases first rest) whole old past → IsMemory old.table → AreKept old of_desk of_sites
+    → ListGoesOnFrom (databases first rest) whole past machines × IsListBeginning (databases first rest) (after_committed (databases first rest) past whole) machines × StandsIn (databases first rest) desk

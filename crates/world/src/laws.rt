@@ -23,7 +23,7 @@ ghost use Rattle.desk.specs.Database.{Database, language, statements};
 ghost use Rattle.desk.specs.CatalogueDatabase.{IsBase, database, databases, fits};
 ghost use Rattle.world.specs.Commands.{CommandsFollow, MovesFollow};
 ghost use Rattle.world.specs.Executed.{ObeysUnlessRefused};
-ghost use Rattle.world.specs.Recovery.{BeginsAnewLaw, ComingUpLaw, ListComingUpLaw};
+ghost use Rattle.world.specs.Recovery.{BeginsAnewLaw, ComingUpLaw, ListBeginsAnewLaw, ListComingUpLaw};
 ghost use Rattle.world.specs.Listed.{IsListed};
 ghost use Rattle.world.specs.ListServed.{ListHeardIsSerial, ListServedIsSerial};
 ghost use Rattle.world.specs.Runs.{ListRunsAreSerial, RunsAreSerial, RunsHold};
@@ -314,6 +314,11 @@ pub fn begins_anew(catalog: &Catalog)
 {
     one_client_is_a_run(catalog);
 }
+
+/// So over a list of catalogues, under the one in force.
+pub fn list_begins_anew()
+    ensures { (db : Database) → IsListed db → ListBeginsAnewLaw db }
+{}
 
 /// New stores are those of machines that were served over relations without rows, and of which nothing has happened.
 pub fn new_stores_were_served(catalog: &Catalog)

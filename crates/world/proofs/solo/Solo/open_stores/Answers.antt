@@ -1,5 +1,5 @@
 -- Why `open_stores` meets its contract.
-use Rattle.std.proofs.Common.{◌≡◌, sym, refl, ap, subst, ◌++◌, ◌∙◌, append_assoc, List, [], ℕ, length, map}
+use Rattle.std.proofs.Common.{◌≡◌, sym, refl, ap, subst, ◌++◌, ◌∙◌, List, [], ℕ, length, map}
 use Rattle.std.proofs.lemmas.List.{length-map}
 use Rattle.catalog.specs.declared.relation.SplitRelation.{SplitRelation}
 use Rattle.reader.specs.Printable.{AreDistinct}
@@ -10,21 +10,19 @@ use Rattle.desk.specs.CatalogueDatabase.{database, databases}
 use Rattle.world.specs.Chain.{StandsAt, StandsLast, sites_of}
 use Rattle.world.specs.Contents.{OfStores, counted, held}
 use Rattle.world.specs.Counted.{counts}
-use Rattle.world.specs.Listed.{FitsList}
-use Rattle.world.specs.ListServed.{IsListServed}
 use Rattle.world.specs.Machines.{AreFit, Machines}
 use Rattle.world.specs.Recovery.{BeginsAnewOver, GoesOnOver, HaveLeaves, lost_by}
 use Rattle.world.specs.Settled.{AreDecided}
 use Rattle.world.specs.Start.{BeginsWithoutRows}
-use Rattle.world.proofs.Anew.{begins_on, going_on}
-use Rattle.world.proofs.ComingUp.{all_sound, came_up, list_came_up, stores_were_clean, up_again, up_fit, up_in_force}
+use Rattle.world.proofs.Anew.{begins_on, going_on, list_begins_on, list_going_on}
+use Rattle.world.proofs.ComingUp.{all_sound, came_up, list_came_up, list_up_again, stores_were_clean, up_again, up_fit, up_in_force}
 use Rattle.world.proofs.Counting.{fit_uncounted}
 use Rattle.world.proofs.DatabaseIsOpened.{placed}
-use Rattle.world.proofs.ListCalls.{served_with, served_without}
+use Rattle.world.proofs.ListCalls.{served_without}
 use Rattle.world.proofs.ListIsBase.{head_is, stands_at}
 use Rattle.world.proofs.Listing.{stands_as}
 use Rattle.world.proofs.OfChain.{last_by, last_of}
-use Rattle.world.proofs.Recovers.{goes_further}
+use Rattle.world.proofs.Recovers.{goes_further, list_further}
 use Rattle.world.proofs.solo.Solo.open_stores.Goals as goal
 
 pub sites_up-requires : goal.sites_up-requires
@@ -160,15 +158,14 @@ returns-clause-lists g c = λ first rest same clean whole old past have served m
     let risen = c.list_machines_come_up.ensures db listed whole old before past served memory came in
     let stands = stands_at desk.volatile.version first rest desk refl (subst (λ (catalogues : List Catalogue). StandsAt desk.volatile.version catalogues desk) same c.in_ok-desk.ensures.catalogs) in
     let sound : OfStores D.is_sound S.is_sound (record { alloc = c.args.alloc; desk = desk; sites = c.in_ok-sites.sites; traffic = c.none.result }) = (up.leaves_store.sound now.0 (up.learnt now.0), all_sound S.is_clean S.is_sound S.kept S.refused here here.sites c.args.sites.items c.in_ok-sites.sites.items c.in_ok-sites.ensures.up now.1) in
-    let recovered = c.in_ok-recover.ensures.lists db whole (past ++ lost_by db old) listed stands clean_mid sound risen in
-    let still = c.ensure_no_commit_row.ensures.same clean (c.recover.ensures.leaves.sound clean_mid sound) in
-    let more = lost_by db old ++ recovered.0.deeds in
-    let then = served_without db whole (held D.kept S.kept mid) (counts D.refused S.refused mid) (past ++ more) (subst (IsListServed db whole (counted D.kept S.kept D.refused S.refused mid)) (append_assoc past (lost_by db old) recovered.0.deeds) recovered.0.served) in
-    let none = c.in_ok-ensure_no_commit_row.ensures.lists db clean (c.recover.ensures.leaves.sound clean_mid sound) then.fit in (
-      record {
-        more = more;
-        served = served_with db whole (held D.kept S.kept last) (counts D.refused S.refused last) (past ++ more) (subst (λ (m : Machines). IsListServed db whole m (past ++ more)) (sym still) then);
-        settled = subst (λ (m : Machines). AreDecided m.table []) (sym still) none;
-      },
-      stands_as db mid.desk last.desk (ap (λ (m : Machines). m.table.version) still) c.ensure_no_commit_row.ensures.leaves.catalog c.ensure_no_commit_row.ensures.leaves.later recovered.1,
+    let sound_mid = c.recover.ensures.leaves.sound clean_mid sound in
+    let stands_mid = (c.in_ok-recover.ensures.lists db whole (past ++ lost_by db old) listed stands clean_mid sound risen).1 in
+    let again = list_up_again S.is_clean S.is_sound S.kept S.refused here db of (ap (λ (x : Catalogue). x.sites) is) (ap schemas_of is) c.args.sites.items c.in_ok-sites.sites.items c.in_ok-sites.ensures.up now.1 (subst (λ x. HaveLeaves x (map S.kept c.args.sites.items)) (sym is) have) before refl rises in
+    let still = c.ensure_no_commit_row.ensures.same clean sound_mid in
+    let goes_mid = list_further db whole past old (counted D.kept S.kept D.refused S.refused mid) (c.in_ok-recover.ensures.recovers db listed stands clean_mid sound whole (past ++ lost_by db old) again risen) in
+    let goes = list_going_on db whole past (held D.kept S.kept mid) (held D.kept S.kept last) (counts D.refused S.refused mid) (counts D.refused S.refused last) still goes_mid in
+    let none = subst (λ (m : Machines). AreDecided m.table []) (sym still) (c.in_ok-ensure_no_commit_row.ensures.lists db clean sound_mid (served_without db whole (held D.kept S.kept mid) (counts D.refused S.refused mid) (past ++ goes_mid.more) goes_mid.served).fit) in (
+      goes,
+      list_begins_on db (c.list_begins_anew.ensures db listed) whole past (counted D.kept S.kept D.refused S.refused last) goes none,
+      stands_as db mid.desk last.desk (ap (λ (m : Machines). m.table.version) still) c.ensure_no_commit_row.ensures.leaves.catalog c.ensure_no_commit_row.ensures.leaves.later stands_mid,
     )
