@@ -29,7 +29,7 @@ ghost use Rattle.world.specs.ListServed.{ListHeardIsSerial, ListServedIsSerial};
 ghost use Rattle.world.specs.Runs.{ListRunsAreSerial, RunsAreSerial, RunsHold};
 ghost use Rattle.world.specs.Client.{ServedIsSerial};
 ghost use Rattle.world.specs.Settling.{GrowsQuiet};
-ghost use Rattle.world.specs.Start.{NewStoresLaw};
+ghost use Rattle.world.specs.Start.{ListNewStoresLaw, NewStoresLaw};
 ghost use Rattle.world.specs.Smoothly.{ServesSmoothly, ServesUnlessRefused};
 ghost use Rattle.world.specs.Stopping.{StopsForMemory};
 ghost use Rattle.world.specs.declared.machines.Machines.{Machines as MachinesNow};
@@ -295,9 +295,12 @@ pub fn machines_come_up(catalog: &Catalog)
     one_client_is_a_run(catalog);
 }
 
-/// So over a list of catalogues: under the one whose number the coordinator's store keeps.
-pub fn list_machines_come_up()
-    ensures { (db : Database) → IsListed db → ListComingUpLaw db }
+/// So over a list of catalogues, under the one whose number the coordinator's store keeps. Where nothing stands in memory a database begins anew,
+/// and new stores are those of one without rows.
+pub fn lists_come_up()
+    ensures goes_on { (db : Database) → IsListed db → ListComingUpLaw db }
+    ensures anew { (db : Database) → IsListed db → ListBeginsAnewLaw db }
+    ensures without_rows { (first : Catalogue) (rest : List Catalogue) → IsListed (databases first rest) → ListNewStoresLaw first rest }
 {}
 
 /// A database that comes up again: each prepared row comes to its end, and then all is quiet.
@@ -314,11 +317,6 @@ pub fn begins_anew(catalog: &Catalog)
 {
     one_client_is_a_run(catalog);
 }
-
-/// So over a list of catalogues, under the one in force.
-pub fn list_begins_anew()
-    ensures { (db : Database) → IsListed db → ListBeginsAnewLaw db }
-{}
 
 /// New stores are those of machines that were served over relations without rows, and of which nothing has happened.
 pub fn new_stores_were_served(catalog: &Catalog)

@@ -155,7 +155,7 @@ returns-clause-lists g c = λ first rest same clean whole old past have served m
     let before = counted D.kept S.kept D.refused S.refused (record { alloc = c.args.alloc; desk = desk; sites = c.in_ok-sites.sites; traffic = c.none.result }) in
     let came = list_came_up S.is_clean S.is_sound S.kept S.refused here db of (ap (λ (x : Catalogue). x.sites) is) (ap schemas_of is) c.args.sites.items c.in_ok-sites.sites.items c.in_ok-sites.ensures.up now.1 (subst (λ x. HaveLeaves x (map S.kept c.args.sites.items)) (sym is) have)
     before refl rises old served.fit (D.kept c.args.desk) kept (up.life now.0) up.memory in
-    let risen = c.list_machines_come_up.ensures db listed whole old before past served memory came in
+    let risen = c.lists_come_up.ensures.goes_on db listed whole old before past served memory came in
     let stands = stands_at desk.volatile.version first rest desk refl (subst (λ (catalogues : List Catalogue). StandsAt desk.volatile.version catalogues desk) same c.in_ok-desk.ensures.catalogs) in
     let sound : OfStores D.is_sound S.is_sound (record { alloc = c.args.alloc; desk = desk; sites = c.in_ok-sites.sites; traffic = c.none.result }) = (up.leaves_store.sound now.0 (up.learnt now.0), all_sound S.is_clean S.is_sound S.kept S.refused here here.sites c.args.sites.items c.in_ok-sites.sites.items c.in_ok-sites.ensures.up now.1) in
     let sound_mid = c.recover.ensures.leaves.sound clean_mid sound in
@@ -166,6 +166,16 @@ returns-clause-lists g c = λ first rest same clean whole old past have served m
     let goes = list_going_on db whole past (held D.kept S.kept mid) (held D.kept S.kept last) (counts D.refused S.refused mid) (counts D.refused S.refused last) still goes_mid in
     let none = subst (λ (m : Machines). AreDecided m.table []) (sym still) (c.in_ok-ensure_no_commit_row.ensures.lists db clean sound_mid (served_without db whole (held D.kept S.kept mid) (counts D.refused S.refused mid) (past ++ goes_mid.more) goes_mid.served).fit) in (
       goes,
-      list_begins_on db (c.list_begins_anew.ensures db listed) whole past (counted D.kept S.kept D.refused S.refused last) goes none,
+      list_begins_on db (c.lists_come_up.ensures.anew db listed) whole past (counted D.kept S.kept D.refused S.refused last) goes none,
       stands_as db mid.desk last.desk (ap (λ (m : Machines). m.table.version) still) c.ensure_no_commit_row.ensures.leaves.catalog c.ensure_no_commit_row.ensures.leaves.later stands_mid,
     )
+
+pub returns-clause-lists_without_rows : goal.returns-clause-lists_without_rows
+returns-clause-lists_without_rows g c = λ first rest same clean whole fits empty nothing.
+    let S = g.S.SiteStore in
+    let here = catalogue_of c.first_of.result.now in
+    let is : here ≡ first = head_is here first (map catalogue_of c.first_of.ensures.0) rest (sym (ap (map catalogue_of) c.first_of.ensures.1) ∙ same) in
+    let many = length-map c.args.sites.items S.kept ∙ (c.requires ∙ ap (λ (chain : List (List (List ℕ) × List SplitRelation)). length (sites_of chain)) c.first_of.ensures.1 ∙ ap (λ (x : Catalogue). length x.sites) is) in
+    let were = c.lists_come_up.ensures.without_rows first rest (c.chain_is_listed.ensures first rest same) whole (g.D.DeskStore.kept c.args.desk) (map S.kept c.args.sites.items) fits empty many nothing in
+    let begins = returns-clause-lists g c first rest same clean whole were.machines [] nothing.leaves were.served were.memory were.kept in
+    (begins.1, begins.2)
