@@ -39,21 +39,21 @@ fn solo_command<'a>(alloc: Global) -> Result<Command<'a>, AllocError>
     let script = optional(
         alloc,
         "SCRIPT",
-        "A file with one item a line, or - for standard input; at a terminal it may be left out",
+        "A file with one item a line, or - for standard input",
     );
     let solo = with(solo, script)?;
     let explain = flag(
         alloc,
         "EXPLAIN",
         "explain",
-        "Explains on standard error why lines are refused; at a terminal that is on by itself",
+        "Tells on standard error why a line is refused",
     );
     let solo = with(solo, explain)?;
     let interactive = flag(
         alloc,
         "INTERACTIVE",
         "interactive",
-        "Asks for each line, and answers it at once, as at a terminal",
+        "Asks for each line and answers it at once",
     );
     let solo = with(solo, interactive)?;
     let solo = with_modes(alloc, with_notes(solo, AFTER_SOLO))?;
@@ -71,7 +71,7 @@ fn check_command<'a>(alloc: Global) -> Result<Command<'a>, AllocError>
         alloc,
         "EXPLAIN",
         "explain",
-        "Explains on standard error why the catalogue is refused; at a terminal that is on by itself",
+        "Explains a refusal on standard error; so at a terminal",
     );
     let check = with(check, explain)?;
     let tree = flag(
@@ -140,7 +140,7 @@ fn run_command<'a>(alloc: Global) -> Result<Command<'a>, AllocError>
 fn dump_command<'a>(alloc: Global) -> Result<Command<'a>, AllocError>
     ensures { IfOk result (IsCommand (shown (in_folder (of_relation (codes "dump"))))) }
 {
-    let about = "Writes the relations of a folder's database as statements that make them anew";
+    let about = "Writes a folder's relations as statements that make them anew";
     let dump = new_command(alloc, "dump", about);
     let catalog = option(alloc, "CATALOG", "catalog", CATALOG_HELP);
     let dump = with(dump, catalog)?;
@@ -163,7 +163,7 @@ fn import_command<'a>(alloc: Global) -> Result<Command<'a>, AllocError>
     let file = required(
         alloc,
         "FILE",
-        "A file whose first line names the relation's columns, or - for standard input",
+        "A file, column names in its first line; - for standard input",
     );
     let import = with(import, file)?;
     let import = with_folder(alloc, import)?;

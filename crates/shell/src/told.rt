@@ -53,6 +53,10 @@ fn character(around: &Around<'_>) -> Told {
         Some('\'') => {
             format!(in alloc; "the text that begins here has no end; another ' ends it")
         }
+        Some('\u{1b}') => String::from_str(
+            alloc,
+            "found an escape, which an arrow key sends; bin/fragdb lets lines be edited where rlwrap is installed",
+        ),
         Some(control) if control.is_ascii_control() => {
             let code = control as u32;
             format!(in alloc; "found the control character {code}; a text has none")

@@ -37,7 +37,7 @@ use Rattle.world.specs.Settling.{GrowsQuiet}
 use Rattle.world.specs.Replies.{Tells}
 use Rattle.world.proofs.Batches.{as_many}
 use Rattle.world.proofs.Deeds.{move_served}
-use Rattle.world.proofs.Denials.{no_commit, no_rollback}
+use Rattle.world.proofs.Denials.{no_room, no_commit, no_rollback}
 use Rattle.world.proofs.Executed.{tells_by}
 use Rattle.world.proofs.Standing.{begun, stands_still, stands_whenever}
 
@@ -158,7 +158,7 @@ module _ (db : Database) (fits : Place → Content → Bool) (reached : ReachedL
   one_fares : (transaction : Transaction) (outcome : outcomes.Outcome) (before after : Machines) (past : List (Deed (language db))) → IsServed db whole before past → Stands db fits None before past → (moves : List Move) → RunsOne transaction outcome moves → (made : Made db moves before after) → Comes transaction outcome before after past moves made
   one_fares transaction (Unbegun refusal) before after past served stands moves run = subst (λ (ms : List Move). (made : Made db ms before after) → Comes transaction (Unbegun refusal) before after past ms made) (sym run)
       (λ made. (
-        finds_no_place (ap Unbegun made.1.0.0) made.1.0.1,
+        finds_no_place (ap Unbegun (no_room db before refusal served.fit made.1.0).0) (no_room db before refusal served.fit made.1.0).1,
         stands_whenever db fits None after past (past ++ deeds_in db (Refuses call.Begin refusal ∷ []) before after made) (at_end made.0 after past [] refl made.2 (stands_still db fits None before made.0 past made.1.1 stands)),
       ))
   one_fares transaction (Ran course) before after past served stands moves run = subst (λ (ms : List Move). (made : Made db ms before after) → Comes transaction (Ran course) before after past ms made) (sym run.1)

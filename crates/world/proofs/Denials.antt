@@ -1,5 +1,5 @@
 -- Why calls of a database that stands are refused.
-use Rattle.std.proofs.Common.{◌≡◌, ◌≢◌, refl, sym, ap, ◌∙◌, subst, ℕ, Bool, true, List, [], ◌⊎◌, inl, inr, ⊎_elim, Option, Some, None, Result, Ok, Err, IfErr, OnErr}
+use Rattle.std.proofs.Common.{◌≡◌, ◌≢◌, refl, sym, ap, ◌∙◌, subst, ℕ, Bool, true, List, [], ◌⊎◌, inl, inr, ⊎_elim, Option, Some, None, Result, Ok, Err, IfErr, OnErr, false}
 use Rattle.std.specs.Option.{option_map}
 use Rattle.meaning.specs.declared.schema.RelationSchema.{RelationSchema}
 use Rattle.meaning.specs.declared.statement.Statement.{Statement}
@@ -11,7 +11,8 @@ use Rattle.reader.specs.Fault.{Fault}
 use Rattle.reader.specs.Command.{IsTextOf, OneCommandOfText}
 use Rattle.store.specs.Content.{Content}
 use Rattle.store.specs.declared.name.Txn.{Txn}
-use Rattle.protocol.specs.Desk.{Commit_call, Deed, Idle, Request, Rollback, State, refusal, refusal_at}
+use Rattle.protocol.specs.Desk.{Commit_call, Deed, Idle, Request, Rollback, State, desk_began, is_desk_within, refusal, refusal_at}
+use Rattle.protocol.proofs.Basics.{clash}
 use Rattle.protocol.specs.Letters.{txn_name}
 use Rattle.desk.specs.declared.refusal.Refusal as refusals
 use Rattle.desk.specs.declared.refusal.Refusal.TheVariants as told_as
@@ -19,6 +20,7 @@ use Rattle.desk.specs.Request.{refused_as, txn_in}
 use Rattle.desk.specs.Database.{Database, language}
 use Rattle.desk.specs.Place.{Place}
 use Rattle.desk.specs.Does.{IsRefragment, IsUnread, StatesPastLimits}
+use Rattle.desk.specs.State.{desk_of}
 use Rattle.world.specs.declared.event.Call as calls
 use Rattle.world.specs.declared.event.Call.TheVariants as call
 use Rattle.world.specs.Mailbox.{IsStill}
@@ -85,13 +87,20 @@ module _ (db : Database) (fits : Place → Content → Bool) (one : OneCommandOf
       not_rollback : Run statement ≡ Rollback_command → ⊥
       not_rollback e = cc
 
-  -- the statement of a ready transaction meets a limit, or is a REFRAGMENT
-  pub is_full : (statement : Statement) → IsTextOf db.schemas text (Run statement) → (txn : Txn) (machines : Machines) (past : List (Deed (language db))) (told : refusals.Refusal) → IsReady db fits (txn_name txn) machines past →
+  -- where nobody moves, the statement of a ready transaction meets a limit, or is a REFRAGMENT
+  pub is_full : (statement : Statement) → IsTextOf db.schemas text (Run statement) → (txn : Txn) (machines : Machines) (past : List (Deed (language db))) (told : refusals.Refusal) → AreFit db machines → IsReady db fits (txn_name txn) machines past →
       IsRefused db machines.later machines.table (call.State txn text) told → IsRefragment db.schemas text told ⊎ ((told ≡ told_as.Full) × StatesPastLimits db machines.table txn text)
-  is_full statement spelled txn machines past told ready refused = ⊎_elim
+  is_full statement spelled txn machines past told fit ready refused = ⊎_elim
+      (λ moves. clash moves.1 (fit.still (txn_name txn)))
+      (λ why. ⊎_elim
       (λ stays. absurd (no_refusal refused_as (refusal (State (machines.table.version, statement)) (txn_in db machines.table txn)) told (at_rest db fits txn machines past (State (machines.table.version, statement)) refl ready) stays))
       (λ rest. ⊎_elim (⊎_elim (λ unread. absurd (is_read statement spelled told unread)) (λ refragment. inl refragment)) (λ full. inr full) rest.1)
-      (refused statement)
+      (why statement))
+      refused
+
+-- where nobody moves, nothing begins only at a limit
+pub no_room : (db : Database) (machines : Machines) (told : refusals.Refusal) → AreFit db machines → IsRefused db machines.later machines.table call.Begin told → (told ≡ told_as.Full) × (is_desk_within (desk_began (desk_of db machines.table)) ≡ false)
+no_room db machines told fit refused = ⊎_elim (λ full. full) (λ moves. clash moves.1.1 (fit.still moves.1.0)) refused
 
 -- ---- a text that is read as no other command's
 pub only_memory : (schema : List RelationSchema) (text : List ℕ) (told : refusals.Refusal) → IsUnreadable schema text told → (given : Command) → IsTextOf schema text given → told ≡ told_as.Memory

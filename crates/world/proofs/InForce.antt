@@ -22,7 +22,7 @@ use Rattle.desk.proofs.Raised.{TurnKeeps, moving_is}
 use Rattle.protocol.specs.Letters.{txn_name}
 use Rattle.std.specs.List.{list_any}
 use Rattle.world.specs.declared.event.Call.TheVariants as calls
-use Rattle.world.specs.Refused.{IsRefused}
+use Rattle.world.specs.Refused.{IsRefused, SomebodyMoves}
 use Rattle.desk.specs.Transaction.{txn_of}
 use Rattle.world.specs.Machines.{IsForNow, Machines, world_of}
 use Rattle.meaning.specs.Statement.{is_refragment}
@@ -75,15 +75,16 @@ module _ (db : Database) (machines : Machines) (still : (t : Name) → is_moving
 pub in_force_on : (db : Database) (n m : ℕ) (was now : List (List ℕ) × List SplitRelation) → m ≡ n → now ≡ was → InForce db n was → InForce db m now
 in_force_on db n m was now same kept is = ap db.catalogue same ∙ is ∙ ap catalogue_of (sym kept)
 
--- why nothing begins: nobody moves, so only at a limit, and for want of memory
-pub begin_refused : {T : Type 0} (db : Database) (later : List (List (List ℕ) × List SplitRelation)) (kept : DeskContent) (table : VolatileState) → Fits db kept table → ((t : Name) → is_moving ((desk_of db table).txn t) ≡ false) → (result : Result T Refusal) → IfErr result (λ told. (told ≡ refusals.Memory) ⊎ (told ≡ refusals.Full) ⊎ (told ≡ refusals.NotAlone)) →
-    (result ≡ Err refusals.Full → is_desk_within (desk_began (desk_of db table)) ≡ false) → (result ≡ Err refusals.NotAlone → anyone_moves table ≡ true) → IfErr result (λ told. (told ≡ refusals.Memory) ⊎ IsRefused db later table calls.Begin told)
-begin_refused db later kept table fits still (Ok out) own full alone = tt
-begin_refused db later kept table fits still (Err told) own full alone = ⊎_elim (λ memory. inl memory) (⊎_elim (λ is. inr (is, full (ap Err is))) (λ is. clash (alone (ap Err is)) nobody)) own
-  where
-    none : (txns : List Txn) → list_any (λ txn. desk_moving (table.standing txn)) txns ≡ false
-    none [] = refl
-    none (txn ∷ txns) = (λ i. (sym (moving_is db (table.standing txn)) ∙ still (txn_name txn)) i || none txns i)
+-- who moves, where somebody does
+somebody : (db : Database) (table : VolatileState) (txns : List Txn) → list_any (λ txn. desk_moving (table.standing txn)) txns ≡ true → SomebodyMoves db table
+somebody db table [] e = absurd (cc)
+somebody db table (txn ∷ txns) e = ⊎_elim
+    (λ moves. (txn_name txn, moving_is db (table.standing txn) ∙ moves))
+    (λ stays. somebody db table txns ((λ i. sym stays i || list_any (λ txn. desk_moving (table.standing txn)) txns) ∙ e))
+    (by_test (desk_moving (table.standing txn)))
 
-    nobody : anyone_moves table ≡ false
-    nobody = none table.txns
+-- why nothing begins: at a limit, where somebody moves, and for want of memory
+pub begin_refused : {T : Type 0} (db : Database) (later : List (List (List ℕ) × List SplitRelation)) (table : VolatileState) (result : Result T Refusal) → IfErr result (λ told. (told ≡ refusals.Memory) ⊎ (told ≡ refusals.Full) ⊎ (told ≡ refusals.NotAlone)) →
+    (result ≡ Err refusals.Full → is_desk_within (desk_began (desk_of db table)) ≡ false) → (result ≡ Err refusals.NotAlone → anyone_moves table ≡ true) → IfErr result (λ told. (told ≡ refusals.Memory) ⊎ IsRefused db later table calls.Begin told)
+begin_refused db later table (Ok out) own full alone = tt
+begin_refused db later table (Err told) own full alone = ⊎_elim (λ memory. inl memory) (⊎_elim (λ is. inr (inl (is, full (ap Err is)))) (λ is. inr (inr (is, somebody db table table.txns (alone (ap Err is)))))) own

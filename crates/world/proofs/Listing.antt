@@ -322,6 +322,10 @@ stands_as db old new version catalog later stands = record {
   next = subst (AreNextOf db new.volatile.version) (sym later) (subst (λ n. AreNextOf db n old.later.items) (sym version) stands.next);
 }
 
+-- the one in force, where none comes later
+pub stands_single : {D : Type 0} (db : Database) (desk : desks.Desk D) → InForce db desk.volatile.version desk.catalog → desk.later.items ≡ [] → StandsIn db desk
+stands_single db desk is none = record { here = is; next = subst (AreNextOf db desk.volatile.version) (sym none) tt }
+
 -- a call that calls no store leaves the number that it keeps
 pub stands_by_store : {D : Type 0} (db : Database) (kept : D → DeskContent) (old new : desks.Desk D) → new.store ≡ old.store → new.catalog ≡ old.catalog → new.later.items ≡ old.later.items → Fits db (kept old.store) (volatile_of old.volatile) → Fits db (kept new.store) (volatile_of new.volatile) → StandsIn db old → StandsIn db new
 stands_by_store db kept old new store catalog later fit fits stands = stands_as db old new (fits.version ∙ ap (λ s. (kept s).version) store ∙ sym fit.version) catalog later stands

@@ -34,7 +34,7 @@ use Rattle.world.specs.Machines.{Machines}
 use Rattle.world.specs.Refused.{IsRefused}
 use Rattle.world.specs.Settling.{GrowsQuiet}
 use Rattle.world.proofs.Deeds.{CommitsNone, committed_none, move_served}
-use Rattle.world.proofs.Denials.{is_full, no_commit, no_rollback}
+use Rattle.world.proofs.Denials.{is_full, no_commit, no_rollback, no_room}
 use Rattle.world.proofs.Executed.{heard_alone, not_ended, still_there, tells_more}
 use Rattle.world.proofs.Moves.{back_cases, command_cases, decided_cases, lone_cases, refragmented_cases, stated_cases}
 use Rattle.world.proofs.RoomToBegin.{numbers_run_out}
@@ -134,7 +134,7 @@ module _ (db : Database) (fits : Place → Content → Bool) (reached : ReachedL
       ⊎_elim
       (λ refragment. absurd (no_refragment statement spelled ordinary refragment.refragment refragment.spelled))
       (λ full. inr (record { told = why; says = says; full = full.0; past_limits = full.1 }))
-      (is_full db fits one text statement spelled txn before past why ready made.1.0))
+      (is_full db fits one text statement spelled txn before past why served.fit ready made.1.0))
 
   module _ (past : List (Deed (language db))) (current later : Option Txn) (before after : Machines) (served : IsServed db whole before past) (stands : Stands db fits current before past) where
     abbrev Comes : (moves : List Move) → Made db moves before after → Type 0
@@ -155,16 +155,20 @@ module _ (db : Database) (fits : Place → Content → Bool) (reached : ReachedL
         (λ hindered. is_hindered hindered.heard hindered.says (inr hindered.some)) ended)
         (λ (limit : MeetsLimit txn made.0). is_too_much_alone limit.told limit.says (after_none ∙ sym none) limit.full txn made.0 greeted none does limit.past_limits)
         (stated_comes statement spelled ordinary more txn greeted made.0 after (move_served db whole reached (Begins txn greeted) before made.0 past served does) (stands_whenever db fits (Some txn) made.0 past more done.0) done.1 moves is made.2))
-        (λ why says made. finds_no_number why says (after_none ∙ sym none) made.1.0.0 none (inr (statement, spelled)) (numbers_run_out db before past served.fit (as_open None none) made.1.0.1))
+        (λ why says made.
+        let full = no_room db before why served.fit made.1.0 in
+        finds_no_number why says (after_none ∙ sym none) full.0 none (inr (statement, spelled)) (numbers_run_out db before past served.fit (as_open None none) full.1))
 
     -- a single call is refused
     call_refused : (moves : List Move) (made : Made db moves before after) (asked : calls.Call) (told : refusals.Refusal) → reply ≡ Err told → later ≡ current → IsCallOf db.schemas text current asked → IsRefused db before.later before.table asked told → Comes moves made
-    call_refused moves made call.Begin told says still is refused = finds_no_number told says still refused.0 is.1 (inl is.0) (numbers_run_out db before past served.fit (as_open None is.1) refused.1)
+    call_refused moves made call.Begin told says still is refused =
+        let full = no_room db before told served.fit refused in
+        finds_no_number told says still full.0 is.1 (inl is.0) (numbers_run_out db before past served.fit (as_open None is.1) full.1)
     call_refused moves made (call.State txn given) told says still is refused =
         ⊎_elim
         (λ refragment. is_refragment_inside told says still txn is.1 refragment)
         (λ full. is_too_much told says still full.0 txn is.1 full.1)
-        (is_full db fits one text is.0.0 is.0.1 txn before past told (as_open (Some txn) is.1) (subst (λ (x : List ℕ). IsRefused db before.later before.table (call.State txn x) told) is.2 refused))
+        (is_full db fits one text is.0.0 is.0.1 txn before past told served.fit (as_open (Some txn) is.1) (subst (λ (x : List ℕ). IsRefused db before.later before.table (call.State txn x) told) is.2 refused))
     call_refused moves made (call.Commit txn) told says still is refused = absurd (no_commit db fits txn before past told (as_open (Some txn) is.1) refused)
     call_refused moves made (call.Rollback txn) told says still is refused = absurd (no_rollback db fits txn before past told (as_open (Some txn) is.1) refused)
     call_refused moves made (call.GiveUp txn) told says still is refused = absurd is

@@ -50,20 +50,20 @@ Told db table txn text catalog s told = (told ≡ Memory) ⊎ WhyNotStated db ta
     ⊎ ((refusal (State (table.version, s)) (txn_in db table txn) ≡ None) × (IsNoStatement (schemas_of (catalogue_of catalog)) text told ⊎ (told ≡ Full)))
 
 pub statement_refused : {T : Type 0} (db : Database) (later : List (List (List ℕ) × List SplitRelation)) (table : VolatileState) (txn : names.Txn) (text : List ℕ) (catalog : List (List ℕ) × List SplitRelation) → db.schemas ≡ schemas_of (catalogue_of catalog) → (result : Result T Refusal) →
-    ((t : Name) → is_moving ((desk_of db table).txn t) ≡ false) → ((s : Statement) → IfErr result (Told db table txn text catalog s)) → (result ≡ Err Full → StatesPastLimits db table txn text) → IfErr result (λ told. (told ≡ Memory) ⊎ IsRefused db later table (call.State txn text) told)
-statement_refused db later table txn text catalog is (Ok out) still all past = tt
-statement_refused {T} db later table txn text catalog is (Err told) still all past = go (all some)
+    ((s : Statement) → IfErr result (Told db table txn text catalog s)) → (result ≡ Err Full → StatesPastLimits db table txn text) → IfErr result (λ told. (told ≡ Memory) ⊎ IsRefused db later table (call.State txn text) told)
+statement_refused db later table txn text catalog is (Ok out) all past = tt
+statement_refused {T} db later table txn text catalog is (Err told) all past = go (all some)
   where
     go : Told db table txn text catalog some told → (told ≡ Memory) ⊎ IsRefused db later table (call.State txn text) told
     go (inl memory) = inl memory
-    go (inr (inl (inr moving))) = clash (moving_is db (table.standing txn) ∙ moving.0) (still (txn_name txn))
-    go (inr (inl (inl refused))) = inr (λ s. inl (ap (option_map refused_as) (same_refusal (table.version, s) (table.version, some) (txn_in db table txn)) ∙ refused))
-    go (inr (inr late)) = inr (λ s. inr (
+    go (inr (inl (inr moving))) = inr (inl (moving.1, moving_is db (table.standing txn) ∙ moving.0))
+    go (inr (inl (inl refused))) = inr (inr (λ s. inl (ap (option_map refused_as) (same_refusal (table.version, s) (table.version, some) (txn_in db table txn)) ∙ refused)))
+    go (inr (inr late)) = inr (inr (λ s. inr (
       same_refusal (table.version, s) (table.version, some) (txn_in db table txn) ∙ late.0,
       ⊎_elim
           (λ unread. inl (subst (λ (schemas : List RelationSchema). IsNoStatement schemas text told) (sym is) unread))
           (λ full. inr (full, past (ap Err full))) late.1,
-    ))
+    )))
 
 -- what doesn't hold is said of no result
 pub unless_ok : {T E : Type 0} (P : T → Type 0) {Q : Type 0} (result : Result T E) → (Q → ⊥) → OnOk result Q → IfOk result P

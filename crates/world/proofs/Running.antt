@@ -37,7 +37,7 @@ use Rattle.world.specs.Machines.{AreOfPlaces, Asked, Came, IsForNow, Leads, Mach
 use Rattle.world.specs.Posted.{letters_in}
 use Rattle.protocol.specs.Accepted.{IsAccepted}
 use Rattle.world.specs.Runs.{IsRun, IsRunBy, IsSpared, Spares, StepsOn, StepsOnBy, entry_of}
-use Rattle.world.specs.Taking.{CameUnless}
+use Rattle.world.specs.Taking.{CameUnless, ListCameUnless}
 use Rattle.world.proofs.InForce.{asks_in_force}
 use Rattle.world.proofs.Placed.{placed_both}
 use Rattle.world.proofs.Reasoned.{same_passes}
@@ -106,17 +106,27 @@ comes_on db whole before after entries past out n letter kept so there came =
     (sent db letter, (sent_at db (letters_in entries) n letter there, same_passes db (is_for_desk (sent db letter).body) before (map (sent db) (letters_in entries)) past out.kept came.choice (sent db letter) ∙ came.within))
     (silent_step db before after out.letters out.replies (event.Deliver n kept) step came.leads refl refl (comes_silent (world_of db before [] []) out.kept came.choice (sent db letter) refl))
 
--- the flag of a delivery is honoured
+-- the flag of a delivery is honoured. made: whether the store call is kept with which the letter came
+spared_by : (Refused : Type 0) (db : Database) (before after : Machines) (entries : List Entry) (past : List (Deed (language db))) (out : Out) (n : ℕ) (letter : letters.Letter) (kept : Bool) → slice_get (letters_in entries) n ≡ Some letter → (made : Bool) (choice : Choice (language db)) (deeds : List (Deed (language db))) →
+    ((waiting : List (Letter (language db))) (past : List (Deed (language db))) → comes (world_of db before waiting past) made choice (sent db letter) ≡ world_of db after (waiting ++ map (sent db) out.letters) (past ++ deeds)) → (made ≡ true) ⊎ ((kept ≡ false) ⊎ Refused) →
+    IsSpared Refused db before after entries (entries ++ entry_of (event.Deliver n kept) out ∷ []) past n kept
+spared_by Refused db before after entries past out n letter kept there made choice deeds is spared = record {
+  kept = made;
+  choice = choice;
+  deeds = deeds;
+  is = ap (delivered (world_of db before (map (sent db) (letters_in entries)) past) made choice) (sent_at db (letters_in entries) n letter there) ∙ is (map (sent db) (letters_in entries)) past ∙
+      ap (λ (all : List (Letter (language db))). world_of db after all (past ++ deeds)) (sym (map-append (sent db) (letters_in entries) out.letters) ∙ ap (map (sent db)) (sym (one_more (λ (entry : Entry). entry.out.letters) entries (entry_of (event.Deliver n kept) out))));
+  spared = spared;
+}
+
 pub spared_on : (Refused : Type 0) (db : Database) (before after : Machines) (entries : List Entry) (past : List (Deed (language db))) (out : Out) (n : ℕ) (letter : letters.Letter) (kept : Bool) → slice_get (letters_in entries) n ≡ Some letter →
     CameUnless ((kept ≡ false) ⊎ Refused) db letter before after out.letters out.replies → IsSpared Refused db before after entries (entries ++ entry_of (event.Deliver n kept) out ∷ []) past n kept
-spared_on Refused db before after entries past out n letter kept there taken = record {
-  kept = taken.kept;
-  choice = taken.came.choice;
-  deeds = taken.came.leads.deeds;
-  is = ap (delivered (world_of db before (map (sent db) (letters_in entries)) past) taken.kept taken.came.choice) (sent_at db (letters_in entries) n letter there) ∙ taken.came.leads.is (map (sent db) (letters_in entries)) past ∙
-      ap (λ (all : List (Letter (language db))). world_of db after all (past ++ taken.came.leads.deeds)) (sym (map-append (sent db) (letters_in entries) out.letters) ∙ ap (map (sent db)) (sym (one_more (λ (entry : Entry). entry.out.letters) entries (entry_of (event.Deliver n kept) out))));
-  spared = taken.spared;
-}
+spared_on Refused db before after entries past out n letter kept there taken = spared_by Refused db before after entries past out n letter kept there taken.kept taken.came.choice taken.came.leads.deeds taken.came.leads.is taken.spared
+
+-- so whichever catalogue comes into force
+pub list_spared_on : (Refused : Type 0) (db : Database) (before after : Machines) (entries : List Entry) (past : List (Deed (language db))) (out : Out) (n : ℕ) (letter : letters.Letter) (kept : Bool) → slice_get (letters_in entries) n ≡ Some letter →
+    ListCameUnless ((kept ≡ false) ⊎ Refused) db letter before after out.letters out.replies → IsSpared Refused db before after entries (entries ++ entry_of (event.Deliver n kept) out ∷ []) past n kept
+list_spared_on Refused db before after entries past out n letter kept there taken = spared_by Refused db before after entries past out n letter kept there taken.kept taken.came.choice taken.came.leads.deeds taken.came.leads.is taken.spared
 
 -- entries of a log with room are those that it had, and one is put behind them
 pub step_pushed : {Fit : Machines → Type 0} (db : Database) (whole : Relations) (before after : Machines) (entries roomy more : List Entry) (past : List (Deed (language db))) (entry : Entry) → roomy ≡ entries → more ≡ roomy ++ entry ∷ [] → StepsOnBy db Fit whole before after roomy (roomy ++ entry ∷ []) past → StepsOnBy db Fit whole before after entries more past

@@ -8,14 +8,15 @@ use Rattle.store.specs.declared.order.Order.TheVariants as order
 use Rattle.store.specs.declared.order.Prepare.{Prepare as ToPrepare}
 use Rattle.store.specs.declared.prepared.Prepared.{Prepared as Row}
 use Rattle.protocol.specs.Language.{Lang, Name}
-use Rattle.protocol.specs.Letter.{Body, Open, Fetch, Write, Prepare, Commit, Abort, Ticket as GivesTicket, Rows, Refused, Voted, Ack, Inquire, is_for_desk}
+use Rattle.protocol.specs.Letter.{Body, Letter, Open, Fetch, Write, Prepare, Commit, Abort, Ticket as GivesTicket, Rows, Refused, Voted, Ack, Inquire, is_for_desk}
 use Rattle.protocol.specs.Letters.{body_of, name_of, txn_name}
 use Rattle.protocol.specs.Site.{SiteState, is_within, on_letter, on_prepare, said, site_after}
 use Rattle.protocol.specs.Catalogues.{body_at, status_at}
 use Rattle.protocol.specs.Local.{local}
 use Rattle.protocol.proofs.Placing.{empty_placed}
-use Rattle.protocol.specs.World.{World, addressed, comes_to, site_steps}
-use Rattle.protocol.specs.StatementCourse.{passes_to}
+use Rattle.protocol.specs.Desk.{Choice, Deed}
+use Rattle.protocol.specs.World.{addressed, comes, comes_to, site_steps}
+use Rattle.protocol.specs.StatementCourse.{passes, passes_to}
 use Rattle.desk.specs.declared.reply.Notice.{Notice}
 use Rattle.desk.specs.Database.{Database, language, sent, statements}
 use Rattle.site.proofs.Lawful.{local_lawful}
@@ -26,7 +27,8 @@ use Rattle.site.specs.State.{VolatileState, stands, visiting}
 use Rattle.protocol.specs.Delivery.{CallKept}
 use Rattle.world.specs.Machines.{Came, Machines, is_order, world_of}
 use Rattle.world.specs.Sites.{Seat, seat_of, state_at, states_of}
-use Rattle.world.specs.Taking.{CameUnless}
+use Rattle.world.specs.Listed.{ListCame}
+use Rattle.world.specs.Taking.{CameUnless, CameUnlessBy, ListCameUnless}
 use Rattle.world.proofs.Reasoned.{order_is}
 use Rattle.world.proofs.Seating.{state_there}
 
@@ -89,38 +91,57 @@ module _ (db : Database) where
   same_act site seat t (body.Reply reply) is kept asks_nothing = cc
 
   -- so it may be said to be kept
-  pub came_kept : (letter : letters.Letter) (before after : Machines) (seat : Seat) (out : List letters.Letter) (notices : List Notice) → seat_of letter.site before.seats ≡ Some seat → is_order letter.body ≡ true → CallKept false (sent db letter).body → (AsksToKeep seat.table letter.body → ⊥) →
-      Came db letter false before after out notices → Came db letter true before after out notices
-  came_kept letter before after seat out notices there is kept asks_nothing came = record {
-    choice = came.choice;
-    within = ap (λ (b : Bool). passes_to b w true came.choice (sent db letter)) no_desk ∙ ap (λ act. is_within (site_after (here before.seats) act)) (sym act_same)
-        ∙ sym (ap (λ (b : Bool). passes_to b w false came.choice (sent db letter)) no_desk) ∙ came.within;
-    leads = record {
-      deeds = came.leads.deeds;
-      fit = came.leads.fit;
-      is = λ waiting past.
-          let v = world_of db before waiting past in
-          ap (λ (b : Bool). comes_to b v true came.choice (sent db letter)) no_desk
-          ∙ ap (λ act. site_steps v letter.site (site_after (here before.seats) act) (addressed letter.site (txn_name letter.txn) (said (here before.seats) act))) (sym act_same)
-          ∙ sym (ap (λ (b : Bool). comes_to b v false came.choice (sent db letter)) no_desk) ∙ came.leads.is waiting past;
-      version = came.leads.version;
-      placed = came.leads.placed;
-      explained = came.leads.explained;
-      replies = came.leads.replies;
-    };
-  }
-    where
-      here : List Seat → SiteState (language db)
-      here seats = states_of (statements db) seats letter.site
+  module _ (letter : letters.Letter) (before : Machines) (seat : Seat) (there : seat_of letter.site before.seats ≡ Some seat) (is : is_order letter.body ≡ true) (ends : CallKept false (sent db letter).body) (asks_nothing : AsksToKeep seat.table letter.body → ⊥) where
+    abbrev here : List Seat → SiteState (language db)
+    here seats = states_of (statements db) seats letter.site
 
-      w : World (language db)
-      w = world_of db before [] []
+    no_desk : is_for_desk (sent db letter).body ≡ false
+    no_desk = order_is db letter.site letter.body is
 
-      no_desk : is_for_desk (sent db letter).body ≡ false
-      no_desk = order_is db letter.site letter.body is
+    act_same : on_letter (here before.seats) (txn_name letter.txn) false (sent db letter).body ≡ on_letter (here before.seats) (txn_name letter.txn) true (sent db letter).body
+    act_same = subst (λ s. on_letter s (txn_name letter.txn) false (sent db letter).body ≡ on_letter s (txn_name letter.txn) true (sent db letter).body) (sym (state_there (statements db) letter.site before.seats seat there)) (same_act letter.site seat (txn_name letter.txn) letter.body is ends asks_nothing)
 
-      act_same : on_letter (here before.seats) (txn_name letter.txn) false (sent db letter).body ≡ on_letter (here before.seats) (txn_name letter.txn) true (sent db letter).body
-      act_same = subst (λ s. on_letter s (txn_name letter.txn) false (sent db letter).body ≡ on_letter s (txn_name letter.txn) true (sent db letter).body) (sym (state_there (statements db) letter.site before.seats seat there)) (same_act letter.site seat (txn_name letter.txn) letter.body is kept asks_nothing)
+    passes_kept : (choice : Choice (language db)) → passes (world_of db before [] []) false choice (sent db letter) ≡ true → passes (world_of db before [] []) true choice (sent db letter) ≡ true
+    passes_kept choice within =
+        let w = world_of db before [] [] in
+        ap (λ (b : Bool). passes_to b w true choice (sent db letter)) no_desk ∙ ap (λ act. is_within (site_after (here before.seats) act)) (sym act_same)
+        ∙ sym (ap (λ (b : Bool). passes_to b w false choice (sent db letter)) no_desk) ∙ within
+
+    comes_kept : (choice : Choice (language db)) (waiting : List (Letter (language db))) (past : List (Deed (language db))) → comes (world_of db before waiting past) true choice (sent db letter) ≡ comes (world_of db before waiting past) false choice (sent db letter)
+    comes_kept choice waiting past =
+        let v = world_of db before waiting past in
+        ap (λ (b : Bool). comes_to b v true choice (sent db letter)) no_desk
+        ∙ ap (λ act. site_steps v letter.site (site_after (here before.seats) act) (addressed letter.site (txn_name letter.txn) (said (here before.seats) act))) (sym act_same)
+        ∙ sym (ap (λ (b : Bool). comes_to b v false choice (sent db letter)) no_desk)
+
+    pub came_kept : (after : Machines) (out : List letters.Letter) (notices : List Notice) → Came db letter false before after out notices → Came db letter true before after out notices
+    came_kept after out notices came = record {
+      choice = came.choice;
+      within = passes_kept came.choice came.within;
+      leads = record {
+        deeds = came.leads.deeds;
+        fit = came.leads.fit;
+        is = λ waiting past. comes_kept came.choice waiting past ∙ came.leads.is waiting past;
+        version = came.leads.version;
+        placed = came.leads.placed;
+        explained = came.leads.explained;
+        replies = came.leads.replies;
+      };
+    }
+
+    pub list_came_kept : (after : Machines) (out : List letters.Letter) (notices : List Notice) → ListCame db letter false before after out notices → ListCame db letter true before after out notices
+    list_came_kept after out notices came = record {
+      choice = came.choice;
+      within = passes_kept came.choice came.within;
+      leads = record {
+        deeds = came.leads.deeds;
+        fit = came.leads.fit;
+        is = λ waiting past. comes_kept came.choice waiting past ∙ came.leads.is waiting past;
+        placed = came.leads.placed;
+        explained = came.leads.explained;
+        replies = came.leads.replies;
+      };
+    }
 
 -- a store call that is kept
 true_keeps : {L : Lang} (said : Body L) → CallKept true said
@@ -141,16 +162,33 @@ kept_or : {R : Type 0} (kept : Bool) → (kept ≡ false → R) → (kept ≡ tr
 kept_or true refuses = inl refl
 kept_or false refuses = inr (refuses refl)
 
+-- it comes so, by whether its store call is kept
+module _ (R : Type 0) (db : Database) (letter : letters.Letter) (Comes : Bool → Type 0) where
+  comes_spared : (kept : Bool) → CallKept kept (sent db letter).body → Comes kept → (kept ≡ false → R) → CameUnlessBy R db letter Comes
+  comes_spared kept ends came refuses = record { kept = kept; came = came; ends = ends; spared = kept_or kept refuses }
+
+  goes_spared : (kept : Bool) (seat : Seat) → CallKept kept (sent db letter).body → Comes kept → (CallKept false (sent db letter).body → (AsksToKeep seat.table letter.body → ⊥) → Comes false → Comes true) → (AsksToKeep seat.table letter.body → kept ≡ false → R) → CameUnlessBy R db letter Comes
+  goes_spared true seat ends came same refuses = record { kept = true; came = came; ends = ends; spared = inl refl }
+  goes_spared false seat ends came same refuses = ⊎_elim
+      (λ asks. record { kept = false; came = came; ends = ends; spared = inr (refuses asks refl) })
+      (λ asks_nothing. record { kept = true; came = same ends asks_nothing came; ends = true_keeps (sent db letter).body; spared = inl refl })
+      (asks_or_not seat.table letter.body)
+
 module _ (R : Type 0) (db : Database) (letter : letters.Letter) (before after : Machines) (out : List letters.Letter) (notices : List Notice) where
   -- a reply comes to the coordinator
   pub reply_spared : (kept : Bool) → CallKept kept (sent db letter).body → Came db letter kept before after out notices → (kept ≡ false → R) → CameUnless R db letter before after out notices
-  reply_spared kept ends came refuses = record { kept = kept; came = came; ends = ends; spared = kept_or kept refuses }
+  reply_spared = comes_spared R db letter (λ kept. Came db letter kept before after out notices)
+
+  pub list_reply_spared : (kept : Bool) → CallKept kept (sent db letter).body → ListCame db letter kept before after out notices → (kept ≡ false → R) → ListCameUnless R db letter before after out notices
+  list_reply_spared = comes_spared R db letter (λ kept. ListCame db letter kept before after out notices)
 
   -- an order comes to its site
   pub order_spared : (kept : Bool) (seat : Seat) → seat_of letter.site before.seats ≡ Some seat → is_order letter.body ≡ true → CallKept kept (sent db letter).body → Came db letter kept before after out notices → (AsksToKeep seat.table letter.body → kept ≡ false → R) →
       CameUnless R db letter before after out notices
-  order_spared true seat there is ends came refuses = record { kept = true; came = came; ends = ends; spared = inl refl }
-  order_spared false seat there is ends came refuses = ⊎_elim
-      (λ asks. record { kept = false; came = came; ends = ends; spared = inr (refuses asks refl) })
-      (λ asks_nothing. record { kept = true; came = came_kept db letter before after seat out notices there is ends asks_nothing came; ends = true_keeps (sent db letter).body; spared = inl refl })
-      (asks_or_not seat.table letter.body)
+  order_spared kept seat there is ends came refuses =
+      goes_spared R db letter (λ kept. Came db letter kept before after out notices) kept seat ends came (λ unkept asks_nothing. came_kept db letter before seat there is unkept asks_nothing after out notices) refuses
+
+  pub list_order_spared : (kept : Bool) (seat : Seat) → seat_of letter.site before.seats ≡ Some seat → is_order letter.body ≡ true → CallKept kept (sent db letter).body → ListCame db letter kept before after out notices → (AsksToKeep seat.table letter.body → kept ≡ false → R) →
+      ListCameUnless R db letter before after out notices
+  list_order_spared kept seat there is ends came refuses =
+      goes_spared R db letter (λ kept. ListCame db letter kept before after out notices) kept seat ends came (λ unkept asks_nothing. list_came_kept db letter before seat there is unkept asks_nothing after out notices) refuses

@@ -17,7 +17,7 @@ use Rattle.world.specs.Counted.{HaveRefused}
 use Rattle.world.specs.EventApplied.{may_call}
 use Rattle.world.specs.Events.{is_unsent}
 use Rattle.world.specs.Frame.{CallsNoStore, SameCatalogs, StaysInForce}
-use Rattle.world.specs.Listed.{IsListed, StandsIn}
+use Rattle.world.specs.Listed.{FitsList, IsListed, StandsIn}
 use Rattle.world.specs.Machines.{Machines, world_of}
 use Rattle.world.specs.Refused.{IsRefusedFor}
 use Rattle.world.specs.Posted.{letters_in}
@@ -33,7 +33,7 @@ answer_of (Err told) = Err told.now
 -- happens has an entry, the last one, which is answered; it is accepted, the run goes on by just this event, the caller's flag is honoured (also no store is called unless it says so), and the
 -- protocol's invariant holds in the world that it leads to. One
 -- that is refused changes nothing: no letter has the number or no site the name, exactly where that is told, or memory ran out, or the coordinator refuses the
--- call as the protocol does, or the letter's machine is at a limit with it, or a restart is of the last life, or a store refused.
+-- call as the protocol does, or since a relation gets another split, or the letter's machine is at a limit with it, or a restart is of the last life, or a store refused.
 pub record Steps {D S : Type 0} (db : Database) (IsClean IsSound : code.Machines D S → Type 0) (hold count : code.Machines D S → Machines) (what : events.Event) (answer : Result Entry faults.Fault) (old new : code_world.World D S) : Type 0 where
   pub clean : IsClean new.machines → IsClean old.machines
   pub sound : IsClean new.machines → IsSound old.machines → IsSound new.machines
@@ -47,6 +47,10 @@ pub record Steps {D S : Type 0} (db : Database) (IsClean IsSound : code.Machines
   -- so over each list of catalogues in which these stand, whichever comes into force
   pub lists : (list : Database) (whole : Relations) (past : List (Deed (language list))) → IsListed list → StandsIn list old.machines.desk → IsClean new.machines → IsSound old.machines
       → IsListRun list whole (hold old.machines) old.entries.items past → OnOk answer (ListGoesOn list whole (hold old.machines) (hold new.machines) old.entries.items new.entries.items past × StandsIn list new.machines.desk)
+  pub spared_lists : (list : Database) (past : List (Deed (language list))) → IsListed list → StandsIn list old.machines.desk → IsClean new.machines → IsSound old.machines
+      → FitsList list (hold old.machines) → OnOk answer ((number : ℕ) (whether : Bool) → what ≡ event.Deliver number whether → IsSpared (HaveRefused (count old.machines).refused (count new.machines).refused) list (hold old.machines) (hold new.machines) old.entries.items new.entries.items past number whether)
+  pub refused_lists : (list : Database) → IsListed list → StandsIn list old.machines.desk → FitsList list (hold old.machines)
+      → IfErr answer (IsRefusedFor (IsClean new.machines × IsSound old.machines) list (count old.machines) (count new.machines) old.entries.items what)
   pub stays : OnErr answer (StaysInForce old.machines new.machines)
   pub uncalled : may_call what ≡ false → CallsNoStore old.machines new.machines
   pub unsent : answer ≡ Err fault.Unsent → is_unsent old.machines.desk.catalog.0 old.entries.items what ≡ true

@@ -15,6 +15,7 @@ use Rattle.world.specs.declared.fault.Fault.TheVariants.{Desk, Site, Unsent}
 use Rattle.world.specs.Mailbox.{Coming, Scene, done_with}
 use Rattle.world.specs.Counted.{HaveRefused, NoFewer}
 use Rattle.protocol.specs.Delivery.{CallKept, IsKept}
+use Rattle.world.specs.Listed.{ListCame, ListLeads}
 use Rattle.world.specs.Machines.{Came, Leads, Machines, world_of}
 use Rattle.world.specs.Reasons.{HasReason}
 
@@ -75,13 +76,20 @@ turns_away (Site site_faults.Full) = true
 turns_away (Site site_faults.Stranger) = true
 turns_away Unsent = false
 
--- a letter comes to the machine that it is for, and its step is within the limits; its store call is kept, and a Fetch's, a Commit's or an
--- Abort's always is, unless this is so
-pub record CameUnless (Refused : Type 0) (db : Database) (letter : letters.Letter) (before after : Machines) (out : List letters.Letter) (notices : List Notice) : Type 0 where
+-- a letter comes so; its store call is kept, and a Fetch's, a Commit's or an Abort's always is, unless this is so. Comes: how, by whether the call is kept
+pub record CameUnlessBy (Refused : Type 0) (db : Database) (letter : letters.Letter) (Comes : Bool → Type 0) : Type 0 where
   pub kept : Bool
-  pub came : Came db letter kept before after out notices
+  pub came : Comes kept
   pub ends : CallKept kept (sent db letter).body
   pub spared : (kept ≡ true) ⊎ Refused
+
+-- it comes to the machine that it is for, and its step is within the limits
+abbrev pub CameUnless : Type 0 → (db : Database) → letters.Letter → Machines → Machines → List letters.Letter → List Notice → Type 0
+CameUnless Refused db letter before after out notices = CameUnlessBy Refused db letter (λ kept. Came db letter kept before after out notices)
+
+-- so whichever catalogue comes into force
+abbrev pub ListCameUnless : Type 0 → (db : Database) → letters.Letter → Machines → Machines → List letters.Letter → List Notice → Type 0
+ListCameUnless Refused db letter before after out notices = CameUnlessBy Refused db letter (λ kept. ListCame db letter kept before after out notices)
 
 -- something becomes of a letter, and for a reason; its store call is kept, unless a store has refused
 pub record IsDone (db : Database) (letter : letters.Letter) (before after : Machines) (out : List letters.Letter) (notices : List Notice) : Type 0 where
@@ -90,3 +98,9 @@ pub record IsDone (db : Database) (letter : letters.Letter) (before after : Mach
   pub leads : Leads db (done_with (sent db letter) coming) before after out notices
   pub counts : NoFewer before.refused after.refused
   pub kept : IsKept coming ⊎ HaveRefused before.refused after.refused
+
+-- so whichever catalogue comes into force, whatever stores refuse
+pub record ListIsDone (db : Database) (letter : letters.Letter) (before after : Machines) (out : List letters.Letter) (notices : List Notice) : Type 0 where
+  pub coming : Coming (language db)
+  pub reason : HasReason db before letter coming
+  pub leads : ListLeads db (done_with (sent db letter) coming) before after out notices

@@ -2,7 +2,7 @@
 
 ghost use Rattle.std.specs.Prelude.{◌≡◌, [], not, ◌≢◌, ◌⊎◌, ◌++◌, ◌∷◌, false, true, List, Err, IfOk, IfErr, OnErr, nat_eq};
 ghost use Rattle.protocol.specs.Letters.{kept_in};
-ghost use Rattle.world.specs.Machines.{is_order, AreFit, is_letter};
+ghost use Rattle.world.specs.Machines.{is_order, is_letter};
 ghost use Rattle.std.specs.Cmp.Lexicographic.{pointwise};
 ghost use Rattle.std.specs.List.{list_any};
 ghost use Rattle.meaning.specs.Whole.{Relations};
@@ -11,9 +11,9 @@ ghost use Rattle.protocol.specs.Desk.{Deed};
 ghost use Rattle.desk.specs.Database.{Database, language};
 ghost use Rattle.desk.specs.OfCatalogue.{InForce, IsOfCatalogue};
 ghost use Rattle.world.specs.Frame.{CallsNoStore, LeavesDatabase, LeavesMachines, StaysInForce, StaysOnErr};
-ghost use Rattle.world.specs.Listed.{StandsIn};
+ghost use Rattle.world.specs.Listed.{FitsList, StandsIn};
 ghost use Rattle.world.specs.Contents.{OfStores, counted, held};
-ghost use Rattle.desk.specs.State.{volatile_of};
+ghost use Rattle.desk.specs.State.{Fits, volatile_of};
 ghost use Rattle.world.specs.Counted.{HaveRefused, counts};
 ghost use Rattle.desk.specs.declared.refusal.Refusal.TheVariants as refusals;
 ghost use Rattle.world.specs.declared.event.Entry.{Entry as EntryNow};
@@ -60,7 +60,7 @@ pub struct Machines<D: DeskStore, S: SiteStore> {
 impl<D: DeskStore, S: SiteStore> Machines<D, S> {
     ghost use Rattle.std.specs.Prelude.{◌≡◌, ◌≢◌, ◌⊎◌, ℕ, List, [], false, true, Some, Err, IfOk, IfErr, IfSome, OnOk, OnErr};
     ghost use Rattle.protocol.specs.Desk.{Choice, Commit_call, Give_up, Rollback, desk_began, is_desk_within};
-    ghost use Rattle.desk.specs.State.{desk_of, volatile_of};
+    ghost use Rattle.desk.specs.State.{Fits, desk_of, volatile_of};
     ghost use Rattle.desk.specs.declared.refusal.Refusal.TheVariants as refusals;
     ghost use Rattle.world.specs.declared.sites.SiteAction.TheVariants as things;
     ghost use Rattle.world.specs.declared.event.Call.TheVariants as calls;
@@ -76,7 +76,7 @@ impl<D: DeskStore, S: SiteStore> Machines<D, S> {
     ghost use Rattle.desk.specs.Database.{Database, language};
     ghost use Rattle.world.specs.Counted.{HaveRefused, counts};
     ghost use Rattle.world.specs.Stopping.{StopsFor};
-    ghost use Rattle.world.specs.Taking.{CameUnless, stop_of};
+    ghost use Rattle.world.specs.Taking.{CameUnless, ListCameUnless, stop_of};
     ghost use Rattle.site.specs.Refusals.{AsksToKeep};
     ghost use Rattle.world.specs.EventApplied.{may_call_at};
     ghost use Rattle.world.specs.Frame.{CallsNoStore, LeavesDatabase, LeavesMachines, StaysInForce, StaysOnErr};
@@ -93,9 +93,9 @@ impl<D: DeskStore, S: SiteStore> Machines<D, S> {
         ensures leaves { LeavesMachines D.is_clean S.is_clean D.is_sound S.is_sound D.refused S.refused self.old self.new }
         ensures ok { (db : Database) → IsOver db self.old.desk.catalog.0 → AreFit db (held D.kept S.kept self.old)
             → IfOk result (λ out. Leads db begins (held D.kept S.kept self.old) (held D.kept S.kept self.new) out.letters out.replies) }
-        ensures within { (db : Database) → IsOver db self.old.desk.catalog.0 → AreFit db (held D.kept S.kept self.old)
+        ensures within { (db : Database) → IsOver db self.old.desk.catalog.0 → Fits db (D.kept self.old.desk.store) (volatile_of self.old.desk.volatile)
             → IfOk result (λ out. is_desk_within (desk_began (desk_of db (held D.kept S.kept self.old).table)) ≡ true) }
-        ensures full { (db : Database) → IsOver db self.old.desk.catalog.0 → AreFit db (held D.kept S.kept self.old)
+        ensures full { (db : Database) → IsOver db self.old.desk.catalog.0 → Fits db (D.kept self.old.desk.store) (volatile_of self.old.desk.volatile)
             → IfErr result (λ told. (told ≡ refusals.Memory) ⊎ IsRefused db self.old.desk.later.items (volatile_of self.old.desk.volatile) calls.Begin told) }
         ensures lists { (db : Database) → IsOfCatalogue db → StandsIn db self.old.desk → FitsList db (held D.kept S.kept self.old)
             → IfOk result (λ out. ListBegun db (held D.kept S.kept self.old) (held D.kept S.kept self.new) out.letters out.replies × StandsIn db self.new.desk) }
@@ -171,7 +171,7 @@ impl<D: DeskStore, S: SiteStore> Machines<D, S> {
         ensures leaves { LeavesMachines D.is_clean S.is_clean D.is_sound S.is_sound D.refused S.refused self.old self.new }
         ensures ok { (db : Database) → IsOfCatalogue db → InForce db self.old.desk.volatile.version self.old.desk.catalog → AreFit db (held D.kept S.kept self.old)
             → IfOk result (λ out. Stated db txn text.now (held D.kept S.kept self.old) (held D.kept S.kept self.new) out.letters out.replies) }
-        ensures told { (db : Database) → IsOfCatalogue db → InForce db self.old.desk.volatile.version self.old.desk.catalog → AreFit db (held D.kept S.kept self.old)
+        ensures told { (db : Database) → IsOfCatalogue db → InForce db self.old.desk.volatile.version self.old.desk.catalog → Fits db (D.kept self.old.desk.store) (volatile_of self.old.desk.volatile)
             → IfErr result (λ told. (told ≡ refusals.Memory) ⊎ IsRefused db self.old.desk.later.items (volatile_of self.old.desk.volatile) (calls.State txn text.now) told) }
         ensures lists { (db : Database) → IsOfCatalogue db → StandsIn db self.old.desk → FitsList db (held D.kept S.kept self.old)
             → IfOk result (λ out. ListStated db txn text.now (held D.kept S.kept self.old) (held D.kept S.kept self.new) out.letters out.replies × StandsIn db self.new.desk) }
@@ -186,7 +186,7 @@ impl<D: DeskStore, S: SiteStore> Machines<D, S> {
     pub(crate) fn refragment(&mut self, text: &str) -> Result<Out, Refusal>
         ensures leaves { LeavesMachines D.is_clean S.is_clean D.is_sound S.is_sound D.refused S.refused self.old self.new }
         ensures next { OnOk result (self.old.desk.later.items ≢ []) }
-        ensures told { (db : Database) → IsOfCatalogue db → InForce db self.old.desk.volatile.version self.old.desk.catalog → AreFit db (held D.kept S.kept self.old)
+        ensures told { (db : Database) → IsOfCatalogue db → InForce db self.old.desk.volatile.version self.old.desk.catalog → Fits db (D.kept self.old.desk.store) (volatile_of self.old.desk.volatile)
             → IfErr result (λ told. (told ≡ refusals.Memory) ⊎ IsRefused db self.old.desk.later.items (volatile_of self.old.desk.volatile) (calls.Refragment text.now) told) }
         ensures lists { (db : Database) → IsOfCatalogue db → StandsIn db self.old.desk → FitsList db (held D.kept S.kept self.old)
             → IfOk result (λ out. ListMoved db text.now (held D.kept S.kept self.old) (held D.kept S.kept self.new) out.letters out.replies × StandsIn db self.new.desk) }
@@ -202,7 +202,7 @@ impl<D: DeskStore, S: SiteStore> Machines<D, S> {
         ensures leaves { LeavesDatabase D.is_clean S.is_clean D.is_sound S.is_sound D.refused S.refused self.old self.new }
         ensures ok { (db : Database) → IsOfCatalogue db → InForce db self.old.desk.volatile.version self.old.desk.catalog → OfStores D.is_clean S.is_clean self.new → OfStores D.is_sound S.is_sound self.old → AreFit db (held D.kept S.kept self.old) → is_order letter.now.body ≡ false → is_of_site db letter.now ≡ true
             → IfOk result (λ out. Came db letter.now out.kept (held D.kept S.kept self.old) (held D.kept S.kept self.new) out.letters out.replies) }
-        ensures told { (db : Database) → IsOfCatalogue db → InForce db self.old.desk.volatile.version self.old.desk.catalog → AreFit db (held D.kept S.kept self.old) → is_order letter.now.body ≡ false → is_of_site db letter.now ≡ true
+        ensures told { (db : Database) → IsOfCatalogue db → StandsIn db self.old.desk → FitsList db (held D.kept S.kept self.old) → is_order letter.now.body ≡ false → is_of_site db letter.now ≡ true
             → IfErr result (λ told. Tells db (held D.kept S.kept self.old) letter.now (faults.Desk told)) }
         ensures lists { (db : Database) → IsOfCatalogue db → StandsIn db self.old.desk → OfStores D.is_clean S.is_clean self.new → OfStores D.is_sound S.is_sound self.old → FitsList db (held D.kept S.kept self.old) → is_order letter.now.body ≡ false → is_of_site db letter.now ≡ true
             → IfOk result (λ out. ListCame db letter.now out.kept (held D.kept S.kept self.old) (held D.kept S.kept self.new) out.letters out.replies × StandsIn db self.new.desk) }
@@ -223,12 +223,14 @@ impl<D: DeskStore, S: SiteStore> Machines<D, S> {
         ensures lists { (db : Database) → IsOfCatalogue db → StandsIn db self.old.desk → OfStores D.is_clean S.is_clean self.new → OfStores D.is_sound S.is_sound self.old → FitsList db (held D.kept S.kept self.old) → is_of_site db letter ≡ true
             → IfOk result (λ out. ListCame db letter out.kept (held D.kept S.kept self.old) (held D.kept S.kept self.new) out.letters out.replies × StandsIn db self.new.desk) }
         ensures stays { OnErr result (StaysInForce self.old self.new) }
-        ensures keeps { (db : Database) → IsOfCatalogue db → InForce db self.old.desk.volatile.version self.old.desk.catalog → OfStores D.is_clean S.is_clean self.new → OfStores D.is_sound S.is_sound self.old → AreFit db (held D.kept S.kept self.old) → is_of_site db letter ≡ true
+        ensures keeps { (db : Database) → IsOfCatalogue db → InForce db self.old.desk.volatile.version self.old.desk.catalog → OfStores D.is_clean S.is_clean self.new → OfStores D.is_sound S.is_sound self.old → FitsList db (held D.kept S.kept self.old) → is_of_site db letter ≡ true
             → IfOk result (λ out. CallKept out.kept (sent db letter).body) }
-        ensures told { (db : Database) → IsOfCatalogue db → InForce db self.old.desk.volatile.version self.old.desk.catalog → AreFit db (held D.kept S.kept self.old) → is_of_site db letter ≡ true
+        ensures told { (db : Database) → IsOfCatalogue db → StandsIn db self.old.desk → FitsList db (held D.kept S.kept self.old) → is_of_site db letter ≡ true
             → IfErr result (Tells db (held D.kept S.kept self.old) letter) }
         ensures spared { (db : Database) → IsOfCatalogue db → InForce db self.old.desk.volatile.version self.old.desk.catalog → OfStores D.is_clean S.is_clean self.new → OfStores D.is_sound S.is_sound self.old → AreFit db (held D.kept S.kept self.old) → is_of_site db letter ≡ true
             → IfOk result (λ out. CameUnless ((kept ≡ false) ⊎ HaveRefused (counts D.refused S.refused self.old) (counts D.refused S.refused self.new)) db letter (held D.kept S.kept self.old) (held D.kept S.kept self.new) out.letters out.replies) }
+        ensures spared_lists { (db : Database) → IsOfCatalogue db → StandsIn db self.old.desk → OfStores D.is_clean S.is_clean self.new → OfStores D.is_sound S.is_sound self.old → FitsList db (held D.kept S.kept self.old) → is_of_site db letter ≡ true
+            → IfOk result (λ out. ListCameUnless ((kept ≡ false) ⊎ HaveRefused (counts D.refused S.refused self.old) (counts D.refused S.refused self.new)) db letter (held D.kept S.kept self.old) (held D.kept S.kept self.new) out.letters out.replies) }
         ensures sent { result ≢ Err faults.Unsent }
         ensures blames { kept ≡ true → OfStores D.is_clean S.is_clean self.new → OfStores D.is_sound S.is_sound self.old
             → IfErr result (λ fault. IfSome (stop_of fault) (StopsFor (counts D.refused S.refused self.old) (counts D.refused S.refused self.new))) }
@@ -260,7 +262,7 @@ impl<D: DeskStore, S: SiteStore> Machines<D, S> {
         ensures desk { self.new.desk ≡ self.old.desk }
         ensures within { (db : Database) (choice : Choice (language db)) (seat : Seat) (letter : LetterNow) → OfStores D.is_clean S.is_clean self.new → OfStores D.is_sound S.is_sound self.old → AreFit db (held D.kept S.kept self.old) → what ≡ things.Take letter
             → seat_of letter.site (held D.kept S.kept self.old).seats ≡ Some seat → IfOk result (λ out. passes (world_of db (held D.kept S.kept self.old) [] []) out.kept choice (sent db letter) ≡ true) }
-        ensures keeps { (db : Database) (seat : Seat) (letter : LetterNow) → OfStores D.is_clean S.is_clean self.new → OfStores D.is_sound S.is_sound self.old → AreFit db (held D.kept S.kept self.old) → what ≡ things.Take letter
+        ensures keeps { (db : Database) (seat : Seat) (letter : LetterNow) → OfStores D.is_clean S.is_clean self.new → OfStores D.is_sound S.is_sound self.old → FitsList db (held D.kept S.kept self.old) → what ≡ things.Take letter
             → seat_of letter.site (held D.kept S.kept self.old).seats ≡ Some seat → IfOk result (λ out. CallKept out.kept (sent db letter).body) }
         ensures told { (letter : LetterNow) (seat : Seat) → what ≡ things.Take letter → seat_of letter.site (held D.kept S.kept self.old).seats ≡ Some seat → IfErr result (SiteTells seat letter) }
         ensures vote { (letter : LetterNow) (seat : Seat) → what ≡ things.Take letter → seat_of letter.site (held D.kept S.kept self.old).seats ≡ Some seat → AsksToKeep seat.table letter.body
@@ -347,10 +349,12 @@ fn deliver<D: DeskStore, S: SiteStore>(
         → IsRun db whole (held D.kept S.kept machines.old) log.now.items past → IfOk result (λ out. IsSpared (HaveRefused (counts D.refused S.refused machines.old) (counts D.refused S.refused machines.new)) db (held D.kept S.kept machines.old) (held D.kept S.kept machines.new) log.now.items (log.now.items ++ entry_of (events.Deliver number kept) out ∷ []) past number kept) }
     ensures lists { (db : Database) (whole : Relations) (past : List (Deed (language db))) → IsOfCatalogue db → StandsIn db machines.old.desk → OfStores D.is_clean S.is_clean machines.new → OfStores D.is_sound S.is_sound machines.old
         → IsListRun db whole (held D.kept S.kept machines.old) log.now.items past → IfOk result (λ out. ListStepsOn db whole (held D.kept S.kept machines.old) (held D.kept S.kept machines.new) log.now.items (log.now.items ++ entry_of (events.Deliver number kept) out ∷ []) past × StandsIn db machines.new.desk) }
+    ensures spared_lists { (db : Database) (past : List (Deed (language db))) → IsOfCatalogue db → StandsIn db machines.old.desk → OfStores D.is_clean S.is_clean machines.new → OfStores D.is_sound S.is_sound machines.old
+        → FitsList db (held D.kept S.kept machines.old) → IfOk result (λ out. IsSpared (HaveRefused (counts D.refused S.refused machines.old) (counts D.refused S.refused machines.new)) db (held D.kept S.kept machines.old) (held D.kept S.kept machines.new) log.now.items (log.now.items ++ entry_of (events.Deliver number kept) out ∷ []) past number kept) }
     ensures stays { OnErr result (StaysInForce machines.old machines.new) }
     ensures unsent { result ≡ Err faults.Unsent → is_unsent machines.old.desk.catalog.0 log.now.items (events.Deliver number kept) ≡ true }
     ensures nowhere { is_unsent machines.old.desk.catalog.0 log.now.items (events.Deliver number kept) ≡ true → result ≡ Err faults.Unsent }
-    ensures refused { (db : Database) → IsOfCatalogue db → InForce db machines.old.desk.volatile.version machines.old.desk.catalog → AreFit db (held D.kept S.kept machines.old)
+    ensures refused { (db : Database) → IsOfCatalogue db → StandsIn db machines.old.desk → FitsList db (held D.kept S.kept machines.old)
         → IfErr result (IsRefusedFor (OfStores D.is_clean S.is_clean machines.new × OfStores D.is_sound S.is_sound machines.old) db (counted D.kept S.kept D.refused S.refused machines.old) (counted D.kept S.kept D.refused S.refused machines.new) log.now.items (events.Deliver number kept)) }
     ensures uncalled { kept ≡ false → CallsNoStore machines.old machines.new }
     ensures err { StaysOnErr (OfStores D.is_clean S.is_clean) (OfStores D.is_sound S.is_sound) (held D.kept S.kept) machines.old machines.new result }
@@ -376,7 +380,7 @@ fn call<D: DeskStore, S: SiteStore>(
     ensures lists { (db : Database) (whole : Relations) (entries : List EntryNow) (past : List (Deed (language db))) → IsOfCatalogue db → StandsIn db machines.old.desk
         → IsListRun db whole (held D.kept S.kept machines.old) entries past → IfOk result (λ out. ListStepsOn db whole (held D.kept S.kept machines.old) (held D.kept S.kept machines.new) entries (entries ++ entry_of (events.Call call.now) out ∷ []) past × StandsIn db machines.new.desk) }
     ensures stays { OnErr result (StaysInForce machines.old machines.new) }
-    ensures refused { (db : Database) → IsOfCatalogue db → InForce db machines.old.desk.volatile.version machines.old.desk.catalog → AreFit db (held D.kept S.kept machines.old)
+    ensures refused { (db : Database) → IsOfCatalogue db → InForce db machines.old.desk.volatile.version machines.old.desk.catalog → Fits db (D.kept machines.old.desk.store) (volatile_of machines.old.desk.volatile)
         → IfErr result (λ told. (told ≡ refusals.Memory) ⊎ IsRefused db machines.old.desk.later.items (volatile_of machines.old.desk.volatile) call.now told) }
     ensures uncalled { CallsNoStore machines.old machines.new }
     ensures err { OnErr result (held D.kept S.kept machines.new ≡ held D.kept S.kept machines.old) }
@@ -406,7 +410,7 @@ fn apply_event_at<D: DeskStore, S: SiteStore>(
     ensures desk { machines.new.desk ≡ machines.old.desk }
     ensures unsent { result ≡ Err faults.Unsent → is_nowhere machines.old.desk.catalog.0 (place_of what) ≡ true }
     ensures nowhere { is_nowhere machines.old.desk.catalog.0 (place_of what) ≡ true → result ≡ Err faults.Unsent }
-    ensures refused { (db : Database) (entries : List EntryNow) (at : EventNow) → IsOfCatalogue db → InForce db machines.old.desk.volatile.version machines.old.desk.catalog → AreFit db (held D.kept S.kept machines.old) → IsAtSite what kept at
+    ensures refused { (db : Database) (entries : List EntryNow) (at : EventNow) → IsOfCatalogue db → InForce db machines.old.desk.volatile.version machines.old.desk.catalog → FitsList db (held D.kept S.kept machines.old) → IsAtSite what kept at
         → IfErr result (IsRefusedFor (OfStores D.is_clean S.is_clean machines.new × OfStores D.is_sound S.is_sound machines.old) db (counted D.kept S.kept D.refused S.refused machines.old) (counted D.kept S.kept D.refused S.refused machines.new) entries at) }
     ensures uncalled { may_call_at what kept ≡ false → CallsNoStore machines.old machines.new }
     ensures err { StaysOnErr (OfStores D.is_clean S.is_clean) (OfStores D.is_sound S.is_sound) (held D.kept S.kept) machines.old machines.new result }
@@ -434,9 +438,11 @@ pub(crate) fn apply_event<D: DeskStore, S: SiteStore>(
     ensures stays { OnErr result (StaysInForce machines.old machines.new) }
     ensures spared { (db : Database) (whole : Relations) (past : List (Deed (language db))) → IsOfCatalogue db → InForce db machines.old.desk.volatile.version machines.old.desk.catalog → OfStores D.is_clean S.is_clean machines.new → OfStores D.is_sound S.is_sound machines.old
         → IsRun db whole (held D.kept S.kept machines.old) log.now.items past → IfOk result (λ out. Spares (HaveRefused (counts D.refused S.refused machines.old) (counts D.refused S.refused machines.new)) db (held D.kept S.kept machines.old) (held D.kept S.kept machines.new) log.now.items (log.now.items ++ entry_of event.now out ∷ []) past event.now) }
+    ensures spared_lists { (db : Database) (past : List (Deed (language db))) → IsOfCatalogue db → StandsIn db machines.old.desk → OfStores D.is_clean S.is_clean machines.new → OfStores D.is_sound S.is_sound machines.old
+        → FitsList db (held D.kept S.kept machines.old) → IfOk result (λ out. Spares (HaveRefused (counts D.refused S.refused machines.old) (counts D.refused S.refused machines.new)) db (held D.kept S.kept machines.old) (held D.kept S.kept machines.new) log.now.items (log.now.items ++ entry_of event.now out ∷ []) past event.now) }
     ensures unsent { result ≡ Err faults.Unsent → is_unsent machines.old.desk.catalog.0 log.now.items event.now ≡ true }
     ensures nowhere { is_unsent machines.old.desk.catalog.0 log.now.items event.now ≡ true → (result ≡ Err faults.Unsent) ⊎ (result ≡ Err (faults.Desk refusals.Memory)) }
-    ensures refused { (db : Database) → IsOfCatalogue db → InForce db machines.old.desk.volatile.version machines.old.desk.catalog → AreFit db (held D.kept S.kept machines.old)
+    ensures refused { (db : Database) → IsOfCatalogue db → StandsIn db machines.old.desk → FitsList db (held D.kept S.kept machines.old)
         → IfErr result (IsRefusedFor (OfStores D.is_clean S.is_clean machines.new × OfStores D.is_sound S.is_sound machines.old) db (counted D.kept S.kept D.refused S.refused machines.old) (counted D.kept S.kept D.refused S.refused machines.new) log.now.items event.now) }
     ensures uncalled { may_call event.now ≡ false → CallsNoStore machines.old machines.new }
     ensures err { StaysOnErr (OfStores D.is_clean S.is_clean) (OfStores D.is_sound S.is_sound) (held D.kept S.kept) machines.old machines.new result }

@@ -78,8 +78,8 @@ pub struct World<D: DeskStore, S: SiteStore> {
 }
 
 /// A world over lists is opened, under the first catalogue of a chain: the fragments rebuild these whole relations, and nothing
-/// has happened. Only want of memory is a fault. Here and below the clauses `lists` speak of every chain, and the others of
-/// runs in which no catalogue comes later.
+/// has happened. Only want of memory is a fault. Here and below the clauses `lists`, and those that end so, speak of every chain, and the
+/// others of runs in which no catalogue comes later.
 pub fn open(
     alloc: Global,
     chain: &Chain,
@@ -173,6 +173,8 @@ impl<D: DeskStore, S: SiteStore> World<D, S> {
             → OfStores D.is_clean S.is_clean self.new.machines → OfStores D.is_sound S.is_sound self.old.machines
             → IsRun (database (catalogue_of self.old.machines.desk.catalog)) whole (held D.kept S.kept self.old.machines) self.old.entries.items past
             → OnOk result ((number : ℕ) (whether : Bool) → event ≡ events.Deliver number whether → IsSpared (HaveRefused (counts D.refused S.refused self.old.machines) (counts D.refused S.refused self.new.machines)) (database (catalogue_of self.old.machines.desk.catalog)) (held D.kept S.kept self.old.machines) (held D.kept S.kept self.new.machines) self.old.entries.items self.new.entries.items past number whether) }
+        ensures spared_lists { (db : Database) (past : List (Deed (language db))) → IsListed db → StandsIn db self.old.machines.desk → OfStores D.is_clean S.is_clean self.new.machines → OfStores D.is_sound S.is_sound self.old.machines
+            → FitsList db (held D.kept S.kept self.old.machines) → OnOk result ((number : ℕ) (whether : Bool) → event ≡ events.Deliver number whether → IsSpared (HaveRefused (counts D.refused S.refused self.old.machines) (counts D.refused S.refused self.new.machines)) db (held D.kept S.kept self.old.machines) (held D.kept S.kept self.new.machines) self.old.entries.items self.new.entries.items past number whether) }
         ensures entry { OnOk result ((entry : EntryNow) × ((entry.event ≡ event) × (self.new.entries.items ≡ self.old.entries.items ++ entry ∷ []))) }
         ensures uncalled { may_call event ≡ false → CallsNoStore self.old.machines self.new.machines }
         ensures unsent { result ≡ Err faults.Unsent → is_unsent self.old.machines.desk.catalog.0 self.old.entries.items event ≡ true }
@@ -180,6 +182,8 @@ impl<D: DeskStore, S: SiteStore> World<D, S> {
         ensures refused { (whole : Relations) (past : List (Deed (language (database (catalogue_of self.old.machines.desk.catalog)))))
             → IsRun (database (catalogue_of self.old.machines.desk.catalog)) whole (held D.kept S.kept self.old.machines) self.old.entries.items past
             → IfErr result (IsRefusedFor (OfStores D.is_clean S.is_clean self.new.machines × OfStores D.is_sound S.is_sound self.old.machines) (database (catalogue_of self.old.machines.desk.catalog)) (counted D.kept S.kept D.refused S.refused self.old.machines) (counted D.kept S.kept D.refused S.refused self.new.machines) self.old.entries.items event) }
+        ensures refused_lists { (db : Database) → IsListed db → StandsIn db self.old.machines.desk → FitsList db (held D.kept S.kept self.old.machines)
+            → IfErr result (IsRefusedFor (OfStores D.is_clean S.is_clean self.new.machines × OfStores D.is_sound S.is_sound self.old.machines) db (counted D.kept S.kept D.refused S.refused self.old.machines) (counted D.kept S.kept D.refused S.refused self.new.machines) self.old.entries.items event) }
         ensures err { StaysOnErr (OfStores D.is_clean S.is_clean) (OfStores D.is_sound S.is_sound) (held D.kept S.kept) self.old.machines self.new.machines result }
         ensures same { OnErr result (self.new.entries.items ≡ self.old.entries.items) }
     {
@@ -213,6 +217,10 @@ impl<D: DeskStore, S: SiteStore> World<D, S> {
             → OfStores D.is_clean S.is_clean self.new.machines → OfStores D.is_sound S.is_sound self.old.machines
             → IsRun (database (catalogue_of self.old.machines.desk.catalog)) whole (held D.kept S.kept self.old.machines) self.old.entries.items past
             → IfErr result (λ done. FollowsAtLeast (database (catalogue_of self.old.machines.desk.catalog)) (take done events.now) (counted D.kept S.kept D.refused S.refused self.old.machines) self.old.entries.items (counted D.kept S.kept D.refused S.refused self.new.machines) self.new.entries.items) }
+        ensures all_lists { (db : Database) (whole : Relations) (past : List (Deed (language db))) → IsListed db → StandsIn db self.old.machines.desk → OfStores D.is_clean S.is_clean self.new.machines → OfStores D.is_sound S.is_sound self.old.machines
+            → IsListRun db whole (held D.kept S.kept self.old.machines) self.old.entries.items past → OnOk result (Follows db events.now (counted D.kept S.kept D.refused S.refused self.old.machines) self.old.entries.items (counted D.kept S.kept D.refused S.refused self.new.machines) self.new.entries.items) }
+        ensures some_lists { (db : Database) (whole : Relations) (past : List (Deed (language db))) → IsListed db → StandsIn db self.old.machines.desk → OfStores D.is_clean S.is_clean self.new.machines → OfStores D.is_sound S.is_sound self.old.machines
+            → IsListRun db whole (held D.kept S.kept self.old.machines) self.old.entries.items past → IfErr result (λ done. FollowsAtLeast db (take done events.now) (counted D.kept S.kept D.refused S.refused self.old.machines) self.old.entries.items (counted D.kept S.kept D.refused S.refused self.new.machines) self.new.entries.items) }
         ensures few { IfErr result (λ done. done < length events.now) }
     {
         let mut done = 0;
@@ -239,6 +247,8 @@ impl<D: DeskStore, S: SiteStore> World<D, S> {
             → OfStores D.is_clean S.is_clean self.new.machines → OfStores D.is_sound S.is_sound self.old.machines
             → IsRun (database (catalogue_of self.old.machines.desk.catalog)) whole (held D.kept S.kept self.old.machines) self.old.entries.items past
             → OnOk result (Happens (database (catalogue_of self.old.machines.desk.catalog)) event.now (counted D.kept S.kept D.refused S.refused self.old.machines) self.old.entries.items (counted D.kept S.kept D.refused S.refused self.new.machines) self.new.entries.items) }
+        ensures happens_lists { (db : Database) → IsListed db → StandsIn db self.old.machines.desk → OfStores D.is_clean S.is_clean self.new.machines → OfStores D.is_sound S.is_sound self.old.machines → FitsList db (held D.kept S.kept self.old.machines)
+            → OnOk result (Happens db event.now (counted D.kept S.kept D.refused S.refused self.old.machines) self.old.entries.items (counted D.kept S.kept D.refused S.refused self.new.machines) self.new.entries.items) }
         ensures err { StaysOnErr (OfStores D.is_clean S.is_clean) (OfStores D.is_sound S.is_sound) (held D.kept S.kept) self.old.machines self.new.machines result }
         ensures same { OnErr result (self.new.entries.items ≡ self.old.entries.items) }
     {

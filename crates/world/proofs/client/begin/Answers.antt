@@ -2,7 +2,7 @@
 use Rattle.world.specs.Contents.{counted}
 use Rattle.world.proofs.Beginning.{begin_done}
 use Rattle.world.proofs.SiteSteps.{if_both}
-use Rattle.std.proofs.Common.{inr, Err}
+use Rattle.std.proofs.Common.{inr, Err, inl}
 use Rattle.world.proofs.Beginning.{begin_still, begin_unheard}
 use Rattle.world.proofs.Denials.{if_errs}
 use Rattle.world.specs.Course.{Begins}
@@ -29,7 +29,7 @@ returns-in-Ok g c = one_call g.D.DeskStore.is_clean g.S.SiteStore.is_clean g.D.D
     let before = counted g.D.DeskStore.kept g.S.SiteStore.kept g.D.DeskStore.refused g.S.SiteStore.refused c.args.machines.now in
     let after = counted g.D.DeskStore.kept g.S.SiteStore.kept g.D.DeskStore.refused g.S.SiteStore.refused c.greet.new.machines in
     let serves = c.in-Ok.ensures.ok db of is clean sound fit in
-    if_errs c.named.result (λ told full none. inr ((full, begin_unheard db before after c.in-Ok.heard.items serves none), begin_still db before after c.in-Ok.heard.items serves none))
+    if_errs c.named.result (λ told full none. inr (inl (full, begin_unheard db before after c.in-Ok.heard.items serves none), begin_still db before after c.in-Ok.heard.items serves none))
     c.named.ensures.full c.named.ensures.none)
     (λ db whole past listed stands clean sound served.
     let after = counted g.D.DeskStore.kept g.S.SiteStore.kept g.D.DeskStore.refused g.S.SiteStore.refused c.greet.new.machines in

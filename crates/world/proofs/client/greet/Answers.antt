@@ -69,7 +69,7 @@ returns-in-Err-clause-denied g c = λ db of is clean sound fit.
     let mid = held g.D.DeskStore.kept g.S.SiteStore.kept c.begin.new.self in
     let old = counts g.D.DeskStore.refused g.S.SiteStore.refused c.args.machines.now in
     let new = counts g.D.DeskStore.refused g.S.SiteStore.refused c.begin.new.self in
-    still_denied db (with_counts before old) (with_counts mid new) call.Begin c.in-Err.refusal fit (same_counted before mid old new c.in-Err.ensures.err (uncounted g.D.DeskStore.refused g.S.SiteStore.refused c.begin.ensures.uncalled)) (c.in-Err.ensures.full db (over_of db _ c.args.machines.now.desk.catalog of is) (fit_uncounted db before old fit))
+    still_denied db (with_counts before old) (with_counts mid new) call.Begin c.in-Err.refusal fit (same_counted before mid old new c.in-Err.ensures.err (uncounted g.D.DeskStore.refused g.S.SiteStore.refused c.begin.ensures.uncalled)) (c.in-Err.ensures.full db (over_of db _ c.args.machines.now.desk.catalog of is) fit.desk)
 
 pub returns-in-Ok-clause-leaves : goal.returns-in-Ok-clause-leaves
 returns-in-Ok-clause-leaves g c = record {
@@ -101,4 +101,4 @@ returns-in-Ok-clause-lists g c = λ txn.
     begin_makes db whole (λ heard. Begins txn heard.items) (λ heard. heard.items) (hold c.args.machines.now) (hold c.begin.new.self) (hold c.deliver_all.new.machines) c.in-Ok.out past c.deliver_all.result (λ heard. refl) made.0 c.deliver_all.ensures.own came)
 
 pub returns-in-Err-clause-lists : goal.returns-in-Err-clause-lists
-returns-in-Err-clause-lists g c = λ txn. unbegun_lists g.D.DeskStore.is_clean g.S.SiteStore.is_clean g.D.DeskStore.is_sound g.S.SiteStore.is_sound g.D.DeskStore.kept g.S.SiteStore.kept g.D.DeskStore.refused g.S.SiteStore.refused (λ (heard : Vec Notice). Begins txn heard.items) (λ (heard : Vec Notice). heard.items) c.in-Err.refusal c.args.machines.now c.begin.new.self c.in-Err.ensures.err c.begin.ensures.leaves.catalog c.begin.ensures.leaves.later
+returns-in-Err-clause-lists g c = λ txn. unbegun_lists g.D.DeskStore.is_clean g.S.SiteStore.is_clean g.D.DeskStore.is_sound g.S.SiteStore.is_sound g.D.DeskStore.kept g.S.SiteStore.kept g.D.DeskStore.refused g.S.SiteStore.refused (λ (heard : Vec Notice). Begins txn heard.items) (λ (heard : Vec Notice). heard.items) c.in-Err.refusal c.args.machines.now c.begin.new.self (λ db listed stands fit. c.in-Err.ensures.full db (over_of db c.args.machines.now.desk.volatile.version c.args.machines.now.desk.catalog listed.base.of_catalogue stands.here) fit.desk) c.in-Err.ensures.err c.begin.ensures.leaves.catalog c.begin.ensures.leaves.later

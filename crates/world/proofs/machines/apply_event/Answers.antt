@@ -44,7 +44,7 @@ returns-in-DeskRestarts-clause-ok g c = λ db whole past of is clean sound so.
     (silent_step db before after out.letters out.replies what desk_restarts leads refl refl (desk_restarts_silent (world_of db before [] []) refl))) c.restart.ensures.called (c.restart.ensures.ok db (over_of db _ c.args.machines.now.desk.catalog of is) clean sound so.fit)))
 
 pub returns-in-Call-clause-refused : goal.returns-in-Call-clause-refused
-returns-in-Call-clause-refused g c = λ db of is fit.
+returns-in-Call-clause-refused g c = λ db of stands fit.
     let D = g.D.DeskStore in
     let S = g.S.SiteStore in
     let old = c.args.machines.now in
@@ -54,10 +54,10 @@ returns-in-Call-clause-refused g c = λ db of is fit.
     let after = counted D.kept S.kept D.refused S.refused new in
     subst (λ (what : events.Event). IfErr c.by_desk.result (IsRefusedFor sound db before after c.args.log.now.items what)) (sym c.in-Call.is)
     (by_desk_err (IsRefusedFor sound db before after c.args.log.now.items (event.Call c.in-Call.asked)) c.call.result c.by_desk.result c.by_desk.ensures
-    (call_refused sound db before after c.args.log.now.items c.call.result c.in-Call.asked (c.call.ensures.refused db of is fit)))
+    (call_refused sound db before after c.args.log.now.items c.call.result c.in-Call.asked (c.call.ensures.refused db of stands.here fit.desk)))
 
 pub returns-in-DeskRestarts-clause-refused : goal.returns-in-DeskRestarts-clause-refused
-returns-in-DeskRestarts-clause-refused g c = λ db of is fit.
+returns-in-DeskRestarts-clause-refused g c = λ db of stands fit.
     let D = g.D.DeskStore in
     let S = g.S.SiteStore in
     let old = c.args.machines.now in
@@ -68,7 +68,7 @@ returns-in-DeskRestarts-clause-refused g c = λ db of is fit.
     let kept = c.in-DeskRestarts.kept in
     subst (λ (what : events.Event). IfErr c.by_desk-in-DeskRestarts.result (IsRefusedFor sound db before after c.args.log.now.items what)) (sym c.in-DeskRestarts.is)
     (by_desk_err (IsRefusedFor sound db before after c.args.log.now.items (event.DeskRestarts kept)) c.restart.result c.by_desk-in-DeskRestarts.result c.by_desk-in-DeskRestarts.ensures
-    (desk_refused sound db before after c.args.log.now.items c.restart.result kept _ (of.sites _ ∙ ap (λ (cat : Catalogue). cat.sites) is) c.restart.ensures.told))
+    (desk_refused sound db before after c.args.log.now.items c.restart.result kept _ (of.sites _ ∙ ap (λ (cat : Catalogue). cat.sites) stands.here) c.restart.ensures.told))
 
 pub returns-in_ok-copy-in-SiteGivesUp-clause-ok : goal.returns-in_ok-copy-in-SiteGivesUp-clause-ok
 returns-in_ok-copy-in-SiteGivesUp-clause-ok g c = λ db whole past of is clean sound so.
@@ -79,14 +79,14 @@ returns-in_ok-copy-in-SiteGivesUp-clause-ok g c = λ db whole past of is clean s
     (c.apply_event_at.ensures.ok db whole entries (event.SiteGivesUp c.in-SiteGivesUp.site c.in-SiteGivesUp.ticket) past of is clean sound (ap (λ (site : List ℕ). event.SiteGivesUp site c.in-SiteGivesUp.ticket) (sym c.in_ok-copy-in-SiteGivesUp.ensures)) so)
 
 pub returns-in_ok-copy-in-SiteGivesUp-clause-refused : goal.returns-in_ok-copy-in-SiteGivesUp-clause-refused
-returns-in_ok-copy-in-SiteGivesUp-clause-refused g c = λ db of is fit.
+returns-in_ok-copy-in-SiteGivesUp-clause-refused g c = λ db of stands fit.
     let D = g.D.DeskStore in
     let S = g.S.SiteStore in
     let old = c.args.machines.now in
     let new = c.apply_event_at.new.machines in
     let entries = c.args.log.now.items in
     subst (λ (what : events.Event). IfErr c.apply_event_at.result (IsRefusedFor (OfStores D.is_clean S.is_clean new × OfStores D.is_sound S.is_sound old) db (counted D.kept S.kept D.refused S.refused old) (counted D.kept S.kept D.refused S.refused new) entries what)) (sym c.in-SiteGivesUp.is)
-    (c.apply_event_at.ensures.refused db entries (event.SiteGivesUp c.in-SiteGivesUp.site c.in-SiteGivesUp.ticket) of is fit (ap (λ (site : List ℕ). event.SiteGivesUp site c.in-SiteGivesUp.ticket) (sym c.in_ok-copy-in-SiteGivesUp.ensures)))
+    (c.apply_event_at.ensures.refused db entries (event.SiteGivesUp c.in-SiteGivesUp.site c.in-SiteGivesUp.ticket) of stands.here fit (ap (λ (site : List ℕ). event.SiteGivesUp site c.in-SiteGivesUp.ticket) (sym c.in_ok-copy-in-SiteGivesUp.ensures)))
 
 pub returns-in_ok-copy-in-SiteInquires-clause-ok : goal.returns-in_ok-copy-in-SiteInquires-clause-ok
 returns-in_ok-copy-in-SiteInquires-clause-ok g c = λ db whole past of is clean sound so.
@@ -97,14 +97,14 @@ returns-in_ok-copy-in-SiteInquires-clause-ok g c = λ db whole past of is clean 
     (c.apply_event_at-in-SiteInquires.ensures.ok db whole entries (event.SiteInquires c.in-SiteInquires.site) past of is clean sound (ap (λ (site : List ℕ). event.SiteInquires site) (sym c.in_ok-copy-in-SiteInquires.ensures)) so)
 
 pub returns-in_ok-copy-in-SiteInquires-clause-refused : goal.returns-in_ok-copy-in-SiteInquires-clause-refused
-returns-in_ok-copy-in-SiteInquires-clause-refused g c = λ db of is fit.
+returns-in_ok-copy-in-SiteInquires-clause-refused g c = λ db of stands fit.
     let D = g.D.DeskStore in
     let S = g.S.SiteStore in
     let old = c.args.machines.now in
     let new = c.apply_event_at-in-SiteInquires.new.machines in
     let entries = c.args.log.now.items in
     subst (λ (what : events.Event). IfErr c.apply_event_at-in-SiteInquires.result (IsRefusedFor (OfStores D.is_clean S.is_clean new × OfStores D.is_sound S.is_sound old) db (counted D.kept S.kept D.refused S.refused old) (counted D.kept S.kept D.refused S.refused new) entries what)) (sym c.in-SiteInquires.is)
-    (c.apply_event_at-in-SiteInquires.ensures.refused db entries (event.SiteInquires c.in-SiteInquires.site) of is fit (ap (λ (site : List ℕ). event.SiteInquires site) (sym c.in_ok-copy-in-SiteInquires.ensures)))
+    (c.apply_event_at-in-SiteInquires.ensures.refused db entries (event.SiteInquires c.in-SiteInquires.site) of stands.here fit (ap (λ (site : List ℕ). event.SiteInquires site) (sym c.in_ok-copy-in-SiteInquires.ensures)))
 
 pub returns-in_ok-copy-in-SiteRestarts-clause-ok : goal.returns-in_ok-copy-in-SiteRestarts-clause-ok
 returns-in_ok-copy-in-SiteRestarts-clause-ok g c = λ db whole past of is clean sound so.
@@ -115,14 +115,14 @@ returns-in_ok-copy-in-SiteRestarts-clause-ok g c = λ db whole past of is clean 
     (c.apply_event_at-in-SiteRestarts.ensures.ok db whole entries (event.SiteRestarts c.in-SiteRestarts.site c.in-SiteRestarts.kept) past of is clean sound (ap (λ (site : List ℕ). event.SiteRestarts site c.in-SiteRestarts.kept) (sym c.in_ok-copy-in-SiteRestarts.ensures)) so)
 
 pub returns-in_ok-copy-in-SiteRestarts-clause-refused : goal.returns-in_ok-copy-in-SiteRestarts-clause-refused
-returns-in_ok-copy-in-SiteRestarts-clause-refused g c = λ db of is fit.
+returns-in_ok-copy-in-SiteRestarts-clause-refused g c = λ db of stands fit.
     let D = g.D.DeskStore in
     let S = g.S.SiteStore in
     let old = c.args.machines.now in
     let new = c.apply_event_at-in-SiteRestarts.new.machines in
     let entries = c.args.log.now.items in
     subst (λ (what : events.Event). IfErr c.apply_event_at-in-SiteRestarts.result (IsRefusedFor (OfStores D.is_clean S.is_clean new × OfStores D.is_sound S.is_sound old) db (counted D.kept S.kept D.refused S.refused old) (counted D.kept S.kept D.refused S.refused new) entries what)) (sym c.in-SiteRestarts.is)
-    (c.apply_event_at-in-SiteRestarts.ensures.refused db entries (event.SiteRestarts c.in-SiteRestarts.site c.in-SiteRestarts.kept) of is fit (ap (λ (site : List ℕ). event.SiteRestarts site c.in-SiteRestarts.kept) (sym c.in_ok-copy-in-SiteRestarts.ensures)))
+    (c.apply_event_at-in-SiteRestarts.ensures.refused db entries (event.SiteRestarts c.in-SiteRestarts.site c.in-SiteRestarts.kept) of stands.here fit (ap (λ (site : List ℕ). event.SiteRestarts site c.in-SiteRestarts.kept) (sym c.in_ok-copy-in-SiteRestarts.ensures)))
 
 pub returns-in_err-copy-in-SiteGivesUp-clause-leaves : goal.returns-in_err-copy-in-SiteGivesUp-clause-leaves
 returns-in_err-copy-in-SiteGivesUp-clause-leaves g c = database_still g.D.DeskStore.is_clean g.S.SiteStore.is_clean g.D.DeskStore.is_sound g.S.SiteStore.is_sound g.D.DeskStore.refused g.S.SiteStore.refused c.args.machines.now
@@ -180,6 +180,54 @@ returns-in-Deliver-clause-spared g c = λ db whole past of is clean sound so.
     let refused = HaveRefused (counts g.D.DeskStore.refused g.S.SiteStore.refused c.args.machines.now) (counts g.D.DeskStore.refused g.S.SiteStore.refused c.deliver.new.machines) in
     let entries = c.args.log.now.items in
     subst (λ (what : events.Event). IfOk c.deliver.result (λ out. Spares refused db before after entries (entries ++ entry_of what out ∷ []) past what)) (sym c.in-Deliver.is) (c.deliver.ensures.spared db whole past of is clean sound so)
+
+pub returns-in-Call-clause-spared_lists : goal.returns-in-Call-clause-spared_lists
+returns-in-Call-clause-spared_lists g c = λ db past of stands clean sound fit.
+    let before = held g.D.DeskStore.kept g.S.SiteStore.kept c.args.machines.now in
+    let after = held g.D.DeskStore.kept g.S.SiteStore.kept c.call.new.machines in
+    let refused = HaveRefused (counts g.D.DeskStore.refused g.S.SiteStore.refused c.args.machines.now) (counts g.D.DeskStore.refused g.S.SiteStore.refused c.call.new.machines) in
+    let entries = c.args.log.now.items in
+    subst (λ (what : events.Event). IfOk c.by_desk.result (λ out. Spares refused db before after entries (entries ++ entry_of what out ∷ []) past what)) (sym c.in-Call.is) (any_ok c.by_desk.result (λ out. tt))
+
+pub returns-in-DeskRestarts-clause-spared_lists : goal.returns-in-DeskRestarts-clause-spared_lists
+returns-in-DeskRestarts-clause-spared_lists g c = λ db past of stands clean sound fit.
+    let before = held g.D.DeskStore.kept g.S.SiteStore.kept c.args.machines.now in
+    let after = held g.D.DeskStore.kept g.S.SiteStore.kept c.restart.new.self in
+    let refused = HaveRefused (counts g.D.DeskStore.refused g.S.SiteStore.refused c.args.machines.now) (counts g.D.DeskStore.refused g.S.SiteStore.refused c.restart.new.self) in
+    let entries = c.args.log.now.items in
+    subst (λ (what : events.Event). IfOk c.by_desk-in-DeskRestarts.result (λ out. Spares refused db before after entries (entries ++ entry_of what out ∷ []) past what)) (sym c.in-DeskRestarts.is) (any_ok c.by_desk-in-DeskRestarts.result (λ out. tt))
+
+pub returns-in_ok-copy-in-SiteGivesUp-clause-spared_lists : goal.returns-in_ok-copy-in-SiteGivesUp-clause-spared_lists
+returns-in_ok-copy-in-SiteGivesUp-clause-spared_lists g c = λ db past of stands clean sound fit.
+    let before = held g.D.DeskStore.kept g.S.SiteStore.kept c.args.machines.now in
+    let after = held g.D.DeskStore.kept g.S.SiteStore.kept c.apply_event_at.new.machines in
+    let refused = HaveRefused (counts g.D.DeskStore.refused g.S.SiteStore.refused c.args.machines.now) (counts g.D.DeskStore.refused g.S.SiteStore.refused c.apply_event_at.new.machines) in
+    let entries = c.args.log.now.items in
+    subst (λ (what : events.Event). IfOk c.apply_event_at.result (λ out. Spares refused db before after entries (entries ++ entry_of what out ∷ []) past what)) (sym c.in-SiteGivesUp.is) (any_ok c.apply_event_at.result (λ out. tt))
+
+pub returns-in_ok-copy-in-SiteInquires-clause-spared_lists : goal.returns-in_ok-copy-in-SiteInquires-clause-spared_lists
+returns-in_ok-copy-in-SiteInquires-clause-spared_lists g c = λ db past of stands clean sound fit.
+    let before = held g.D.DeskStore.kept g.S.SiteStore.kept c.args.machines.now in
+    let after = held g.D.DeskStore.kept g.S.SiteStore.kept c.apply_event_at-in-SiteInquires.new.machines in
+    let refused = HaveRefused (counts g.D.DeskStore.refused g.S.SiteStore.refused c.args.machines.now) (counts g.D.DeskStore.refused g.S.SiteStore.refused c.apply_event_at-in-SiteInquires.new.machines) in
+    let entries = c.args.log.now.items in
+    subst (λ (what : events.Event). IfOk c.apply_event_at-in-SiteInquires.result (λ out. Spares refused db before after entries (entries ++ entry_of what out ∷ []) past what)) (sym c.in-SiteInquires.is) (any_ok c.apply_event_at-in-SiteInquires.result (λ out. tt))
+
+pub returns-in_ok-copy-in-SiteRestarts-clause-spared_lists : goal.returns-in_ok-copy-in-SiteRestarts-clause-spared_lists
+returns-in_ok-copy-in-SiteRestarts-clause-spared_lists g c = λ db past of stands clean sound fit.
+    let before = held g.D.DeskStore.kept g.S.SiteStore.kept c.args.machines.now in
+    let after = held g.D.DeskStore.kept g.S.SiteStore.kept c.apply_event_at-in-SiteRestarts.new.machines in
+    let refused = HaveRefused (counts g.D.DeskStore.refused g.S.SiteStore.refused c.args.machines.now) (counts g.D.DeskStore.refused g.S.SiteStore.refused c.apply_event_at-in-SiteRestarts.new.machines) in
+    let entries = c.args.log.now.items in
+    subst (λ (what : events.Event). IfOk c.apply_event_at-in-SiteRestarts.result (λ out. Spares refused db before after entries (entries ++ entry_of what out ∷ []) past what)) (sym c.in-SiteRestarts.is) (any_ok c.apply_event_at-in-SiteRestarts.result (λ out. tt))
+
+pub returns-in-Deliver-clause-spared_lists : goal.returns-in-Deliver-clause-spared_lists
+returns-in-Deliver-clause-spared_lists g c = λ db past of stands clean sound fit.
+    let before = held g.D.DeskStore.kept g.S.SiteStore.kept c.args.machines.now in
+    let after = held g.D.DeskStore.kept g.S.SiteStore.kept c.deliver.new.machines in
+    let refused = HaveRefused (counts g.D.DeskStore.refused g.S.SiteStore.refused c.args.machines.now) (counts g.D.DeskStore.refused g.S.SiteStore.refused c.deliver.new.machines) in
+    let entries = c.args.log.now.items in
+    subst (λ (what : events.Event). IfOk c.deliver.result (λ out. Spares refused db before after entries (entries ++ entry_of what out ∷ []) past what)) (sym c.in-Deliver.is) (c.deliver.ensures.spared_lists db past of stands clean sound fit)
 
 pub returns-in-Call-clause-lists : goal.returns-in-Call-clause-lists
 returns-in-Call-clause-lists g c = λ db whole past of stands clean sound so.

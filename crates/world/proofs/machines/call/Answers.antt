@@ -37,7 +37,7 @@ returns-in-Begin-clause-ok g c = λ db whole entries past of is so.
     let w = world_of db before (map (sent db) (letters_in entries)) past in
     let may = begins_in_force db before so.fit.still (map (sent db) (letters_in entries)) past in
     runs_on db whole before after entries past (event.Call call.Begin) out begins Begin so leads (if_true (may_begin w) (begins w) w may) refl (may, within)
-    (silent_step db before after out.letters out.replies (event.Call call.Begin) begins leads refl refl (begins_silent (world_of db before [] []) refl))) (c.begin.ensures.ok db (over_of db _ c.args.machines.now.desk.catalog of is) so.fit) (c.begin.ensures.within db (over_of db _ c.args.machines.now.desk.catalog of is) so.fit))
+    (silent_step db before after out.letters out.replies (event.Call call.Begin) begins leads refl refl (begins_silent (world_of db before [] []) refl))) (c.begin.ensures.ok db (over_of db _ c.args.machines.now.desk.catalog of is) so.fit) (c.begin.ensures.within db (over_of db _ c.args.machines.now.desk.catalog of is) so.fit.desk))
 
 pub returns-in-Commit-clause-ok : goal.returns-in-Commit-clause-ok
 returns-in-Commit-clause-ok g c = λ db whole entries past of is so.
@@ -83,21 +83,21 @@ returns-in-State-clause-ok g c = λ db whole entries past of is so.
     (state_step db before after out.letters out.replies txn text stated.statement stated.choice what stated.asked spelled refl refl)) (c.statement.ensures.ok db of is so.fit))
 
 pub returns-in-Begin-clause-refused : goal.returns-in-Begin-clause-refused
-returns-in-Begin-clause-refused g c = λ db of is fit.
+returns-in-Begin-clause-refused g c = λ db of is fits.
     subst (λ (asked : calls.Call). IfErr c.begin.result (λ told. (told ≡ refusals.Memory) ⊎ IsRefused db c.args.machines.now.desk.later.items (volatile_of c.args.machines.now.desk.volatile) asked told)) (sym c.in-Begin.is)
-    (c.begin.ensures.full db (over_of db _ c.args.machines.now.desk.catalog of is) fit)
+    (c.begin.ensures.full db (over_of db _ c.args.machines.now.desk.catalog of is) fits)
 
 pub returns-in-State-clause-refused : goal.returns-in-State-clause-refused
-returns-in-State-clause-refused g c = λ db of is fit.
+returns-in-State-clause-refused g c = λ db of is fits.
     subst (λ (asked : calls.Call). IfErr c.statement.result (λ told. (told ≡ refusals.Memory) ⊎ IsRefused db c.args.machines.now.desk.later.items (volatile_of c.args.machines.now.desk.volatile) asked told)) (sym c.in-State.is)
-    (subst (λ text. IfErr c.statement.result (λ told. (told ≡ refusals.Memory) ⊎ IsRefused db c.args.machines.now.desk.later.items (volatile_of c.args.machines.now.desk.volatile) (call.State c.in-State.txn text) told)) c.as_str.ensures (c.statement.ensures.told db of is fit))
+    (subst (λ text. IfErr c.statement.result (λ told. (told ≡ refusals.Memory) ⊎ IsRefused db c.args.machines.now.desk.later.items (volatile_of c.args.machines.now.desk.volatile) (call.State c.in-State.txn text) told)) c.as_str.ensures (c.statement.ensures.told db of is fits))
 
 pub returns-in-Commit-clause-refused : goal.returns-in-Commit-clause-refused
-returns-in-Commit-clause-refused g c = λ db of is fit.
+returns-in-Commit-clause-refused g c = λ db of is fits.
     subst (λ (asked : calls.Call). IfErr c.commit.result (λ told. (told ≡ refusals.Memory) ⊎ IsRefused db c.args.machines.now.desk.later.items (volatile_of c.args.machines.now.desk.volatile) asked told)) (sym c.in-Commit.is) (c.commit.ensures.told db)
 
 pub returns-in-Rollback-clause-refused : goal.returns-in-Rollback-clause-refused
-returns-in-Rollback-clause-refused g c = λ db of is fit.
+returns-in-Rollback-clause-refused g c = λ db of is fits.
     subst (λ (asked : calls.Call). IfErr c.rollback.result (λ told. (told ≡ refusals.Memory) ⊎ IsRefused db c.args.machines.now.desk.later.items (volatile_of c.args.machines.now.desk.volatile) asked told)) (sym c.in-Rollback.is) (c.rollback.ensures.told db)
 
 -- where no catalogue comes next no relation gets another split
@@ -105,9 +105,9 @@ pub returns-in-Refragment-clause-ok : goal.returns-in-Refragment-clause-ok
 returns-in-Refragment-clause-ok g c = λ db whole entries past of is so. unless_ok _ c.refragment.result (λ next. next so.fit.single) c.refragment.ensures.next
 
 pub returns-in-Refragment-clause-refused : goal.returns-in-Refragment-clause-refused
-returns-in-Refragment-clause-refused g c = λ db of is fit.
+returns-in-Refragment-clause-refused g c = λ db of is fits.
     subst (λ (asked : calls.Call). IfErr c.refragment.result (λ told. (told ≡ refusals.Memory) ⊎ IsRefused db c.args.machines.now.desk.later.items (volatile_of c.args.machines.now.desk.volatile) asked told)) (sym c.in-Refragment.is)
-    (subst (λ text. IfErr c.refragment.result (λ told. (told ≡ refusals.Memory) ⊎ IsRefused db c.args.machines.now.desk.later.items (volatile_of c.args.machines.now.desk.volatile) (call.Refragment text) told)) c.as_str-in-Refragment.ensures (c.refragment.ensures.told db of is fit))
+    (subst (λ text. IfErr c.refragment.result (λ told. (told ≡ refusals.Memory) ⊎ IsRefused db c.args.machines.now.desk.later.items (volatile_of c.args.machines.now.desk.volatile) (call.Refragment text) told)) c.as_str-in-Refragment.ensures (c.refragment.ensures.told db of is fits))
 
 pub returns-in-Begin-clause-lists : goal.returns-in-Begin-clause-lists
 returns-in-Begin-clause-lists g c = λ db whole entries past of stands so.

@@ -7,6 +7,8 @@ use Rattle.world.specs.Counted.{HaveRefused, counts}
 use Rattle.world.specs.Contents.{held}
 use Rattle.world.proofs.Counting.{fit_uncounted, no_fewer, spared_so, tells_counted}
 use Rattle.world.proofs.Deliveries.{was_taken}
+use Rattle.world.proofs.Listing.{stands_single}
+use Rattle.world.proofs.Machinery.{fits_list}
 use Rattle.world.proofs.SiteSteps.{if_ok}
 use Rattle.world.proofs.Refusing.{if_err}
 use Rattle.catalog.specs.Relation.{catalogue_of}
@@ -46,7 +48,7 @@ returns-clause-told g c = λ db of is fit.
     let of_site = subst named (sym (of.sites _ ∙ ap (λ (x : Catalogue). x.sites) is)) (subst (λ x. list_any (λ site. pointwise nat_eq site c.args.letter.site) x.0 ≡ true) c.catalog.ensures there) in
     let before = held g.D.DeskStore.kept g.S.SiteStore.kept c.args.machines.now in
     let old = counts g.D.DeskStore.refused g.S.SiteStore.refused c.args.machines.now in
-    if_err c.deliver.result (λ fault why. tells_counted db before old c.args.letter fault why) (c.deliver.ensures.told db of is (fit_uncounted db before old fit) of_site)
+    if_err c.deliver.result (λ fault why. tells_counted db before old c.args.letter fault why) (c.deliver.ensures.told db of (stands_single db c.args.machines.now.desk is fit.single) (fits_list db before (fit_uncounted db before old fit)) of_site)
 
 pub returns-clause-blames : goal.returns-clause-blames
 returns-clause-blames g c = c.deliver.ensures.blames refl
@@ -58,3 +60,20 @@ returns-clause-lists g c = λ db listed stands clean sound fits.
 
 pub returns-then-not-has_site-clause-stays : goal.returns-then-not-has_site-clause-stays
 returns-then-not-has_site-clause-stays g c = record { version = refl; catalog = refl; later = refl }
+
+pub returns-clause-keeps : goal.returns-clause-keeps
+returns-clause-keeps g c = λ db listed stands clean sound fits.
+    let there = subst (λ x. list_any (λ site. pointwise nat_eq site c.args.letter.site) x.0 ≡ true) c.catalog.ensures (sym c.has_site.ensures ∙ c.if-not-has_site.false) in
+    c.deliver.ensures.keeps db listed.base.of_catalogue stands.here clean sound fits (of_site_of db _ (catalogue_of c.args.machines.now.desk.catalog) c.args.letter.site listed.base.of_catalogue stands.here there)
+
+pub returns-clause-reasons : goal.returns-clause-reasons
+returns-clause-reasons g c = λ db listed stands fits.
+    let there = subst (λ x. list_any (λ site. pointwise nat_eq site c.args.letter.site) x.0 ≡ true) c.catalog.ensures (sym c.has_site.ensures ∙ c.if-not-has_site.false) in
+    c.deliver.ensures.told db listed.base.of_catalogue stands fits (of_site_of db _ (catalogue_of c.args.machines.now.desk.catalog) c.args.letter.site listed.base.of_catalogue stands.here there)
+
+pub returns-then-not-has_site-clause-reasons : goal.returns-then-not-has_site-clause-reasons
+returns-then-not-has_site-clause-reasons g c = λ db listed stands fits.
+    let of = listed.base.of_catalogue in
+    let named : List (List ℕ) → Type 0 = λ sites. list_any (λ site. pointwise nat_eq site c.args.letter.site) sites ≡ false in
+    let apart = sym c.has_site.ensures ∙ c.if-not-has_site.true in
+    subst named (sym (of.sites _ ∙ ap (λ (x : Catalogue). x.sites) stands.here)) (subst (λ x. list_any (λ site. pointwise nat_eq site c.args.letter.site) x.0 ≡ false) c.catalog.ensures apart)

@@ -22,11 +22,11 @@ returns-clause-ok g c = λ db over fit.
     if_ok c.begin.result (λ out begun. begin_leads db before (g.D.DeskStore.kept new.store) (volatile_of new.volatile) new.later.items (c.begin.ensures.plainly.later ∙ fit.single) out.letters out.replies fit begun) (c.begin.ensures.ok db over fit.desk)
 
 pub returns-clause-within : goal.returns-clause-within
-returns-clause-within g c = λ db over fit. if_ok c.begin.result (λ out begun. ap is_desk_within (sym begun.state) ∙ begun.within) (c.begin.ensures.ok db over fit.desk)
+returns-clause-within g c = λ db over fits. if_ok c.begin.result (λ out begun. ap is_desk_within (sym begun.state) ∙ begun.within) (c.begin.ensures.ok db over fits)
 
 pub returns-clause-full : goal.returns-clause-full
-returns-clause-full g c = λ db over fit.
-    begin_refused db c.args.self.now.desk.later.items (g.D.DeskStore.kept c.args.self.now.desk.store) (volatile_of c.args.self.now.desk.volatile) fit.desk fit.still c.begin.result c.begin.ensures.own (λ full. c.begin.ensures.full db over fit.desk full) c.begin.ensures.alone
+returns-clause-full g c = λ db over fits.
+    begin_refused db c.args.self.now.desk.later.items (volatile_of c.args.self.now.desk.volatile) c.begin.result c.begin.ensures.own (λ full. c.begin.ensures.full db over fits full) c.begin.ensures.alone
 
 pub returns-clause-blames : goal.returns-clause-blames
 returns-clause-blames g c = if_err c.begin.result (begin_stops (counts g.D.DeskStore.refused g.S.SiteStore.refused c.args.self.now) (g.D.DeskStore.refused c.begin.new.self.store ∷ counts_of g.S.SiteStore.refused c.args.self.now.sites.items)) c.begin.ensures.own

@@ -6,11 +6,12 @@ use Rattle.meaning.specs.declared.answer.Answer.TheVariants.{Exists}
 use Rattle.world.specs.Counted.{HaveRefused, counts}
 use Rattle.world.specs.Contents.{held}
 use Rattle.world.specs.Reasons.{Tells}
-use Rattle.world.specs.Taking.{CameUnless, stop_of}
+use Rattle.world.specs.Taking.{CameUnless, ListCameUnless, stop_of}
 use Rattle.world.proofs.machines.Machines.deliver.Goals.{in-Ok, in-Err}
 use Rattle.world.proofs.CallsKept.{any_ok, reply_keeps}
 use Rattle.world.proofs.Seating.{seat_there}
-use Rattle.world.proofs.Spared.{order_spared, reply_spared}
+use Rattle.world.proofs.Machinery.{fits_list}
+use Rattle.world.proofs.Spared.{list_order_spared, list_reply_spared, order_spared, reply_spared}
 use Rattle.world.specs.Stopping.{StopsFor}
 use Rattle.world.proofs.Stops.{desk_stops}
 use Rattle.world.proofs.Listing.{desk_stays, stands_same}
@@ -27,16 +28,16 @@ returns-in-Ok-at_site-clause-ok g c = λ db of is clean sound fit of_site.
     record { choice = (Exists, []); within = c.in-Ok-at_site.ensures.within db (Exists, []) seat.0 c.args.letter clean sound fit refl seat.1; leads = c.in-Ok-at_site.ensures.ok db (Exists, []) seat.0 clean sound fit seat.1 }
 
 pub returns-then-not-is_order-clause-told : goal.returns-then-not-is_order-clause-told
-returns-then-not-is_order-clause-told g c = λ db of is fit of_site.
+returns-then-not-is_order-clause-told g c = λ db of stands fit of_site.
     let before = held g.D.DeskStore.kept g.S.SiteStore.kept c.args.self.now in
     let no_order = sym c.is_order.ensures ∙ c.if-not-is_order.true in
     elim c.match-reply.branch [
       | in-Ok w ↦ subst (λ result. IfErr result (Tells db before c.args.letter)) (sym w.result-is) tt
-      | in-Err w ↦ subst (λ result. IfErr result (Tells db before c.args.letter)) (sym w.result-is) (w.in-Err.ensures.told db of is fit no_order of_site)
+      | in-Err w ↦ subst (λ result. IfErr result (Tells db before c.args.letter)) (sym w.result-is) (w.in-Err.ensures.told db of stands fit no_order of_site)
     ]
 
 pub returns-in-Err-at_site-clause-told : goal.returns-in-Err-at_site-clause-told
-returns-in-Err-at_site-clause-told g c = λ db of is fit of_site.
+returns-in-Err-at_site-clause-told g c = λ db of stands fit of_site.
     let name = c.args.letter.site in
     let seat = seat_there name (held g.D.DeskStore.kept g.S.SiteStore.kept c.args.self.now).seats (subst (λ names. list_any (λ site. pointwise nat_eq site name) names ≡ true) (sym fit.names) of_site) in
     (seat.0, (seat.1, c.in-Err-at_site.ensures.told c.args.letter seat.0 refl seat.1))
@@ -59,7 +60,7 @@ returns-in-Ok-at_site-clause-spared g c = λ db of is clean sound fit of_site.
     let seat = seat_there name before.seats (subst (λ names. list_any (λ site. pointwise nat_eq site name) names ≡ true) (sym fit.names) of_site) in
     order_spared ((c.args.kept ≡ false) ⊎ HaveRefused (counts g.D.DeskStore.refused g.S.SiteStore.refused c.args.self.now) (counts g.D.DeskStore.refused g.S.SiteStore.refused c.at_site.new.self)) db c.args.letter before after out.letters out.replies out.kept seat.0 seat.1
     (sym c.is_order.ensures ∙ c.if-not-is_order.false)
-    (c.in-Ok-at_site.ensures.keeps db seat.0 c.args.letter clean sound fit refl seat.1)
+    (c.in-Ok-at_site.ensures.keeps db seat.0 c.args.letter clean sound (fits_list db before fit) refl seat.1)
     (record { choice = (Exists, []); within = c.in-Ok-at_site.ensures.within db (Exists, []) seat.0 c.args.letter clean sound fit refl seat.1; leads = c.in-Ok-at_site.ensures.ok db (Exists, []) seat.0 clean sound fit seat.1 })
     (λ asks. c.in-Ok-at_site.ensures.vote c.args.letter seat.0 refl seat.1 asks)
 
@@ -73,6 +74,32 @@ returns-then-not-is_order-clause-spared g c = λ db of is clean sound fit of_sit
       | in-Ok w ↦ subst (λ result. IfOk result (λ out. CameUnless Refused db c.args.letter before after out.letters out.replies)) (sym w.result-is)
           (reply_spared Refused db c.args.letter before after w.in-Ok.out.letters w.in-Ok.out.replies w.in-Ok.out.kept (reply_keeps db c.args.letter.site c.args.letter.body w.in-Ok.out.kept no_order) (w.in-Ok.ensures.ok db of is clean sound fit no_order of_site) w.in-Ok.ensures.refusal)
       | in-Err w ↦ subst (λ result. IfOk result (λ out. CameUnless Refused db c.args.letter before after out.letters out.replies)) (sym w.result-is) tt
+    ]
+
+-- so whichever catalogue comes into force
+pub returns-in-Ok-at_site-clause-spared_lists : goal.returns-in-Ok-at_site-clause-spared_lists
+returns-in-Ok-at_site-clause-spared_lists g c = λ db of stands clean sound fit of_site.
+    let name = c.args.letter.site in
+    let before = held g.D.DeskStore.kept g.S.SiteStore.kept c.args.self.now in
+    let after = held g.D.DeskStore.kept g.S.SiteStore.kept c.at_site.new.self in
+    let out = c.in-Ok-at_site.out in
+    let seat = seat_there name before.seats (subst (λ names. list_any (λ site. pointwise nat_eq site name) names ≡ true) (sym fit.names) of_site) in
+    list_order_spared ((c.args.kept ≡ false) ⊎ HaveRefused (counts g.D.DeskStore.refused g.S.SiteStore.refused c.args.self.now) (counts g.D.DeskStore.refused g.S.SiteStore.refused c.at_site.new.self)) db c.args.letter before after out.letters out.replies out.kept seat.0 seat.1
+    (sym c.is_order.ensures ∙ c.if-not-is_order.false)
+    (c.in-Ok-at_site.ensures.keeps db seat.0 c.args.letter clean sound fit refl seat.1)
+    (record { choice = (Exists, []); within = c.in-Ok-at_site.ensures.passes db (Exists, []) seat.0 c.args.letter clean sound fit refl seat.1; leads = c.in-Ok-at_site.ensures.lists db (Exists, []) seat.0 clean sound fit seat.1 })
+    (λ asks. c.in-Ok-at_site.ensures.vote c.args.letter seat.0 refl seat.1 asks)
+
+pub returns-then-not-is_order-clause-spared_lists : goal.returns-then-not-is_order-clause-spared_lists
+returns-then-not-is_order-clause-spared_lists g c = λ db of stands clean sound fit of_site.
+    let before = held g.D.DeskStore.kept g.S.SiteStore.kept c.args.self.now in
+    let after = held g.D.DeskStore.kept g.S.SiteStore.kept c.reply.new.self in
+    let Refused = (c.args.kept ≡ false) ⊎ HaveRefused (counts g.D.DeskStore.refused g.S.SiteStore.refused c.args.self.now) (counts g.D.DeskStore.refused g.S.SiteStore.refused c.reply.new.self) in
+    let no_order = sym c.is_order.ensures ∙ c.if-not-is_order.true in
+    elim c.match-reply.branch [
+      | in-Ok w ↦ subst (λ result. IfOk result (λ out. ListCameUnless Refused db c.args.letter before after out.letters out.replies)) (sym w.result-is)
+          (list_reply_spared Refused db c.args.letter before after w.in-Ok.out.letters w.in-Ok.out.replies w.in-Ok.out.kept (reply_keeps db c.args.letter.site c.args.letter.body w.in-Ok.out.kept no_order) (w.in-Ok.ensures.lists db of stands clean sound fit no_order of_site).0 w.in-Ok.ensures.refusal)
+      | in-Err w ↦ subst (λ result. IfOk result (λ out. ListCameUnless Refused db c.args.letter before after out.letters out.replies)) (sym w.result-is) tt
     ]
 
 pub returns-in-Err-at_site-clause-blames : goal.returns-in-Err-at_site-clause-blames

@@ -13,10 +13,10 @@ use Rattle.world.specs.Contents.{held}
 use Rattle.world.proofs.machines.Machines.refragment.Goals as goal
 
 pub returns-clause-told : goal.returns-clause-told
-returns-clause-told g c = λ db of is fit.
+returns-clause-told g c = λ db of is fits.
     let old = c.args.self.now.desk in
     let asked = c.refragment.ensures.refragments in
-    refragment_refused db old.later.items (volatile_of old.volatile) old.catalog is (of.schemas _) c.args.text.now c.refragment.result asked.own asked.alone asked.none (asked.full db fit.desk)
+    refragment_refused db old.later.items (volatile_of old.volatile) old.catalog is (of.schemas _) c.args.text.now c.refragment.result asked.own asked.alone asked.none (asked.full db fits)
 
 pub returns-clause-blames : goal.returns-clause-blames
 returns-clause-blames g c = if_err c.refragment.result (refragment_stops (counts g.D.DeskStore.refused g.S.SiteStore.refused c.args.self.now) (g.D.DeskStore.refused c.refragment.new.self.store ∷ counts_of g.S.SiteStore.refused c.args.self.now.sites.items) (schemas_of (catalogue_of c.args.self.now.desk.catalog)) c.args.text.now) c.refragment.ensures.refragments.own

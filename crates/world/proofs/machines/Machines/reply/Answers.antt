@@ -23,12 +23,12 @@ returns-clause-ok g c = λ db of is clean sound fit no_order of_site.
     (c.take_kept.ensures.takes.takes.ok db said.0 of is (no_next db old.volatile.version old.later.items fit.single) clean.0 sound.0 fit.desk said.1 of_site)
 
 pub returns-clause-told : goal.returns-clause-told
-returns-clause-told g c = λ db of is fit no_order of_site.
+returns-clause-told g c = λ db of stands fit no_order of_site.
     let before = held g.D.DeskStore.kept g.S.SiteStore.kept c.args.self.now in
     let old = c.args.self.now.desk in
     let said = reply_of c.args.letter.now.body no_order in
     let takes = c.take_kept.ensures.takes.takes in
-    desk_tells db before c.args.letter.now c.take_kept.result said.0 said.1 no_order takes.own (takes.full db said.0 of is (no_next db old.volatile.version old.later.items fit.single) fit.desk said.1 of_site)
+    desk_tells db before c.args.letter.now c.take_kept.result said.0 said.1 no_order takes.own (takes.full db said.0 of stands.here (first_next db old.volatile.version old.later.items stands.next) fit.desk said.1 of_site)
 
 pub returns-clause-leaves : goal.returns-clause-leaves
 returns-clause-leaves g c =

@@ -34,7 +34,7 @@ returns-clause-ok g c = λ db of is fit.
     }) (λ s. c.statement.ensures.states.accepted db s) (c.statement.ensures.ok db of is fit.desk)
 
 pub returns-clause-told : goal.returns-clause-told
-returns-clause-told g c = λ db of is fit. statement_refused db c.args.self.now.desk.later.items (volatile_of c.args.self.now.desk.volatile) c.args.txn c.args.text.now c.args.self.now.desk.catalog (of.schemas _ ∙ ap schemas_of is) c.statement.result fit.still (c.statement.ensures.told db) (c.statement.ensures.full db of is fit.desk)
+returns-clause-told g c = λ db of is fits. statement_refused db c.args.self.now.desk.later.items (volatile_of c.args.self.now.desk.volatile) c.args.txn c.args.text.now c.args.self.now.desk.catalog (of.schemas _ ∙ ap schemas_of is) c.statement.result (c.statement.ensures.told db) (c.statement.ensures.full db of is fits)
 
 pub returns-clause-blames : goal.returns-clause-blames
 returns-clause-blames g c = if_err c.statement.result (λ told why. statement_stops (counts g.D.DeskStore.refused g.S.SiteStore.refused c.args.self.now) (g.D.DeskStore.refused c.statement.new.self.store ∷ counts_of g.S.SiteStore.refused c.args.self.now.sites.items) told _ _ _ _ why) (c.statement.ensures.told (database (catalogue_of c.args.self.now.desk.catalog)) some)

@@ -13,7 +13,8 @@ use Rattle.world.specs.Runs.{IsRun, RunsHold, Spares, entry_of}
 use Rattle.world.proofs.Running.{spares_pushed, step_pushed}
 use Rattle.world.specs.Runs.{IsListRun}
 use Rattle.world.proofs.ListIsBase.{list_holds}
-use Rattle.world.proofs.Listing.{desk_stays}
+use Rattle.world.proofs.Listing.{desk_stays, stands_single}
+use Rattle.world.proofs.Machinery.{fits_list}
 use Rattle.world.proofs.SiteSteps.{on_any_err}
 use Rattle.world.proofs.world.World.happens.Goals as goal
 
@@ -26,7 +27,16 @@ returns-in-Err-clause-refused g c = λ whole past run.
     let db = database (catalogue_of old.desk.catalog) in
     let of = subst (λ x. IsOfCatalogue (database (catalogue_of x))) c.catalog.ensures c.database_is_of_catalogue.ensures.of_catalogue in
     subst (λ (entries : List Entry). IsRefusedFor (OfStores D.is_clean S.is_clean new × OfStores D.is_sound S.is_sound old) db (counted D.kept S.kept D.refused S.refused old) (counted D.kept S.kept D.refused S.refused new) entries c.args.event c.in-Err.fault) c.in_ok-make_room.ensures.items
-    (c.in-Err.ensures.refused db of refl run.fit)
+    (c.in-Err.ensures.refused db of (stands_single db old.desk refl run.fit.single) (fits_list db (held D.kept S.kept old) run.fit))
+
+pub returns-in-Err-clause-refused_lists : goal.returns-in-Err-clause-refused_lists
+returns-in-Err-clause-refused_lists g c = λ db listed stands fit.
+    let D = g.D.DeskStore in
+    let S = g.S.SiteStore in
+    let old = c.args.self.now.machines in
+    let new = c.apply_event.new.machines in
+    subst (λ (entries : List Entry). IsRefusedFor (OfStores D.is_clean S.is_clean new × OfStores D.is_sound S.is_sound old) db (counted D.kept S.kept D.refused S.refused old) (counted D.kept S.kept D.refused S.refused new) entries c.args.event c.in-Err.fault) c.in_ok-make_room.ensures.items
+    (c.in-Err.ensures.refused db listed.base.of_catalogue stands fit)
 
 pub returns-in-Ok-clause-goes_on : goal.returns-in-Ok-clause-goes_on
 returns-in-Ok-clause-goes_on g c = λ whole past clean sound run.
@@ -59,6 +69,15 @@ returns-in-Ok-clause-spared g c = λ whole past clean sound run.
     let refused = HaveRefused (counts g.D.DeskStore.refused g.S.SiteStore.refused c.args.self.now.machines) (counts g.D.DeskStore.refused g.S.SiteStore.refused c.apply_event.new.machines) in
     let spares = spares_pushed refused db before after _ _ _ past (entry_of c.args.event c.in-Ok.out) c.args.event c.in_ok-make_room.ensures.items c.push.ensures
     (c.in-Ok.ensures.spared db whole past of refl clean sound with_room) in
+    λ number whether is. subst (λ (what : Event). Spares refused db before after c.args.self.now.entries.items c.push.new.self.items past what) is spares
+
+pub returns-in-Ok-clause-spared_lists : goal.returns-in-Ok-clause-spared_lists
+returns-in-Ok-clause-spared_lists g c = λ db past listed stands clean sound fit.
+    let before = held g.D.DeskStore.kept g.S.SiteStore.kept c.args.self.now.machines in
+    let after = held g.D.DeskStore.kept g.S.SiteStore.kept c.apply_event.new.machines in
+    let refused = HaveRefused (counts g.D.DeskStore.refused g.S.SiteStore.refused c.args.self.now.machines) (counts g.D.DeskStore.refused g.S.SiteStore.refused c.apply_event.new.machines) in
+    let spares = spares_pushed refused db before after _ _ _ past (entry_of c.args.event c.in-Ok.out) c.args.event c.in_ok-make_room.ensures.items c.push.ensures
+    (c.in-Ok.ensures.spared_lists db past listed.base.of_catalogue stands clean sound fit) in
     λ number whether is. subst (λ (what : Event). Spares refused db before after c.args.self.now.entries.items c.push.new.self.items past what) is spares
 
 pub returns-in_err-make_room-clause-leaves : goal.returns-in_err-make_room-clause-leaves

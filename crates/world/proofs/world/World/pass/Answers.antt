@@ -46,6 +46,27 @@ returns-else-is_memory-clause-happens g c = λ whole past clean sound run.
     (refused_soundly (OfStores D.is_clean S.is_clean new.machines × OfStores D.is_sound S.is_sound old.machines) db (with_counts before a) (with_counts after b) old.entries.items c.in_ok-again.again c.in-Err.fault (clean, sound) (c.in-Err.ensures.refused whole past run))
     (c.in-Err.ensures.err clean sound) c.in-Err.ensures.same)
 
+-- so whichever catalogue comes into force
+pub returns-in-Ok-clause-happens_lists : goal.returns-in-Ok-clause-happens_lists
+returns-in-Ok-clause-happens_lists g c = λ db listed stands clean sound fit.
+    let entry = c.in-Ok.ensures.entry in
+    inl (entry.0, (entry.1.0 ∙ c.in_ok-again.ensures, entry.1.1))
+
+pub returns-else-is_memory-clause-happens_lists : goal.returns-else-is_memory-clause-happens_lists
+returns-else-is_memory-clause-happens_lists g c = λ db listed stands clean sound fit.
+    let D = g.D.DeskStore in
+    let S = g.S.SiteStore in
+    let old = c.args.self.now in
+    let new = c.happens.new.self in
+    let a = counts D.refused S.refused old.machines in
+    let b = counts D.refused S.refused new.machines in
+    let before = held D.kept S.kept old.machines in
+    let after = held D.kept S.kept new.machines in
+    subst (λ (what : Event). Happens db what (with_counts before a) old.entries.items (with_counts after b) new.entries.items) c.in_ok-again.ensures
+    (passes_by db c.in_ok-again.again before after a b old.entries.items new.entries.items c.in-Err.fault (sym c.is_memory.ensures ∙ c.if-is_memory.false)
+    (refused_soundly (OfStores D.is_clean S.is_clean new.machines × OfStores D.is_sound S.is_sound old.machines) db (with_counts before a) (with_counts after b) old.entries.items c.in_ok-again.again c.in-Err.fault (clean, sound) (c.in-Err.ensures.refused_lists db listed stands fit))
+    (c.in-Err.ensures.err clean sound) c.in-Err.ensures.same)
+
 pub returns-in_err-again-clause-leaves : goal.returns-in_err-again-clause-leaves
 returns-in_err-again-clause-leaves g c = database_still g.D.DeskStore.is_clean g.S.SiteStore.is_clean g.D.DeskStore.is_sound g.S.SiteStore.is_sound g.D.DeskStore.refused g.S.SiteStore.refused c.args.self.now.machines
 

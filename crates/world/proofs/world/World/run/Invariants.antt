@@ -23,4 +23,4 @@ invariant-loop-event g l =
     × ((whole : Relations) (past : List (Deed (language db))) → OfStores D.is_clean S.is_clean l.self.machines → OfStores D.is_sound S.is_sound l.fn.self.machines → IsRun db whole (held D.kept S.kept l.fn.self.machines) l.fn.self.entries.items past →
     RunsOn db whole (held D.kept S.kept l.self.machines) l.self.entries.items past × Follows db (take l.event-index l.events) (counted D.kept S.kept D.refused S.refused l.fn.self.machines) l.fn.self.entries.items (counted D.kept S.kept D.refused S.refused l.self.machines) l.self.entries.items)
     × ((list : Database) (whole : Relations) (past : List (Deed (language list))) → IsListed list → StandsIn list l.fn.self.machines.desk → OfStores D.is_clean S.is_clean l.self.machines → OfStores D.is_sound S.is_sound l.fn.self.machines → IsListRun list whole (held D.kept S.kept l.fn.self.machines) l.fn.self.entries.items past →
-    ListRunsOn list whole (held D.kept S.kept l.self.machines) l.self.entries.items past × StandsIn list l.self.machines.desk)
+    ListRunsOn list whole (held D.kept S.kept l.self.machines) l.self.entries.items past × StandsIn list l.self.machines.desk × Follows list (take l.event-index l.events) (counted D.kept S.kept D.refused S.refused l.fn.self.machines) l.fn.self.entries.items (counted D.kept S.kept D.refused S.refused l.self.machines) l.self.entries.items)
