@@ -1,5 +1,5 @@
 -- Lemmas on a database for one client.
-use Rattle.std.proofs.Common.{◌≡◌, ◌++◌, ◌∷◌, [], if◌then◌else◌, IfErr, IfOk, OnOk, map, ℕ, List, Option, None, Some, append_assoc, Bool, true, false, inl, inr, ◌⊎◌, Result, Ok, Err, ap, refl, subst, sym, ◌∙◌}
+use Rattle.std.proofs.Common.{◌≡◌, ◌++◌, ◌∷◌, [], if◌then◌else◌, IfErr, IfOk, OnOk, ℕ, List, Option, None, Some, append_assoc, Bool, true, false, inl, inr, ◌⊎◌, Result, Ok, Err, ap, refl, subst, sym, ◌∙◌}
 use Rattle.std.proofs.lemmas.List.{append-nil}
 use Rattle.terms.specs.declared.leaf.Leaf.{Leaf}
 use Rattle.terms.specs.declared.value.Value.{Value}

@@ -37,7 +37,7 @@ use Rattle.lines.specs.Reply.{Answered, Refused, told_by}
 use Rattle.lines.specs.Script.{Reading, Runs}
 use Rattle.commands.specs.Client.{Seen, heard_text}
 use Rattle.commands.specs.ListClient.{AreBehind, GoesOnOver, Happened, IsAnsweredOver, IsDoneOver, IsTold, StaysStill, list_standing_of, unhappened}
-use Rattle.commands.specs.Origin.{IsBegunOver, no_rows}
+use Rattle.commands.specs.Origin.{BeginsWithOver, IsBegunOver, Origin}
 use Rattle.commands.specs.Solo.{IsRunFromOver, IsStretchOver}
 use Rattle.commands.proofs.ClientLemmas.{uncounted}
 
@@ -123,7 +123,7 @@ module _ {B : Type 0} {seen : Seen B} (db : Database) (whole : Relations) (happe
   told_more text reply made = record { served = made.served; tells = made.tells happened.entries h.told.tells }
 
   is_done_over : (text : List ℕ) (reply : Result (List Notice) Refusal) (made : Makes text reply) → IsDoneOver db whole text (list_standing_of seen old happened) (list_standing_of seen new (more text reply made)) reply
-  is_done_over text reply made = record { moves = made.moves; deeds = made.deeds; command = made.is; happened = refl; told = told_more text reply made }
+  is_done_over text reply made = record { moves = made.moves; deeds = made.deeds; command = made.is; reasons = made.reasons; happened = refl; told = told_more text reply made }
 
   -- it is heard
   pub is_heard_over : (mode : Mode) (text : List ℕ) (heard : List Notice) (told : List ℕ) → Makes text (Ok heard) → seen.stopped new ≡ None → StandsNow → Sounds → told ≡ heard_text mode heard → IsAnsweredOver seen mode db whole (Runs text) happened old new (Answered told)
@@ -145,18 +145,18 @@ module _ {B : Type 0} {seen : Seen B} (db : Database) (whole : Relations) (happe
       })
   is_turned_away_over mode text refusal (Err e) makes going stands sound still goes told = tt
 
--- ---- a run of tasks over a new database of a list
-pub list_run : {B : Type 0} (seen : Seen B) (mode : Mode) (first : Catalogue) (rest : List Catalogue) (tasks : List Reading) (written : List ℕ) (any_refused : Bool) (opened ended : B) → IsBegunOver seen first rest opened → IsListed (databases first rest) → ListHeardIsSerial (databases first rest) →
+-- ---- a run of tasks over a database of a list that was opened
+pub list_run : {B : Type 0} (seen : Seen B) (mode : Mode) (first : Catalogue) (rest : List Catalogue) (origin : Origin) (tasks : List Reading) (written : List ℕ) (any_refused : Bool) (opened ended : B) → IsBegunOver seen first rest origin opened → IsListed (databases first rest) → ListHeardIsSerial (databases first rest) →
     (seen.is_clean ended → seen.is_clean opened) → ((whole : Relations) (happened : Happened (databases first rest)) → seen.is_clean ended → GoesOnOver seen (databases first rest) whole happened opened → IsStretchOver seen mode (databases first rest) whole tasks happened opened ended written any_refused) →
-    seen.is_clean ended → IsRunFromOver mode (databases first rest) (no_rows first) tasks written any_refused
-list_run seen mode first rest tasks written any_refused opened ended begun listed law was_clean works clean =
-    let fresh = begun.goes_on (was_clean clean) in
-    let stretch = works (no_rows first) unhappened clean fresh in
+    (whole : Relations) → BeginsWithOver first rest origin whole → seen.is_clean ended → IsRunFromOver mode (databases first rest) whole tasks written any_refused
+list_run seen mode first rest origin tasks written any_refused opened ended begun listed law was_clean works whole begins clean =
+    let fresh = begun.goes_on whole begins (was_clean clean) in
+    let stretch = works whole unhappened clean fresh in
     record {
       opening = list_standing_of seen opened unhappened;
       opened = record { told = fresh.told; none = refl; idle = begun.idle };
       end = list_standing_of seen ended stretch.later;
       work = stretch.work;
       told = stretch.goes_on.told;
-      serial = law (no_rows first) (seen.machines ended) stretch.later.entries stretch.later.deeds stretch.goes_on.told.tells stretch.goes_on.told.served;
+      serial = law whole (seen.machines ended) stretch.later.entries stretch.later.deeds stretch.goes_on.told.tells stretch.goes_on.told.served;
     }

@@ -1,19 +1,15 @@
 -- Lemmas on scripts and dumps in a session: a stretch of tasks is a stretch of a session.
 use Rattle.std.proofs.Common.{◌≡◌, ◌++◌, ◌∷◌, [], Bool, ap, refl, sym, subst, ◌∙◌, ℕ, List, Option}
 use Rattle.std.specs.List.{flat_map}
-use Rattle.meaning.specs.Whole.{Relations}
 use Rattle.catalog.specs.Catalogue.{Catalogue}
-use Rattle.protocol.specs.Desk.{Deed}
-use Rattle.desk.specs.Database.{language}
-use Rattle.desk.specs.CatalogueDatabase.{database}
 use Rattle.shell.specs.declared.mode.Mode.{Mode}
 use Rattle.commands.specs.declared.script_file.Answered.{Answered}
 use Rattle.commands.specs.declared.script_file.Answered.TheVariants.{All, Malformed}
-use Rattle.commands.specs.Client.{GoesOn, Seen, Standing, standing_of}
+use Rattle.commands.specs.Client.{Seen, Standing, standing_of}
 use Rattle.lines.specs.Reply.{Told, text_of}
 use Rattle.lines.specs.Script.{Reading}
 use Rattle.commands.specs.ScriptFile.{AnswersScript}
-use Rattle.commands.specs.Session.{Answer, AnswersEach, Exchange, IsTalk, Piece, Talks, exchanges_in, piece_text}
+use Rattle.commands.specs.Session.{Answer, AnswersEach, Piece, Talks, exchanges_in, piece_text}
 use Rattle.commands.specs.Solo.{AnswersTasks, Stretches}
 use Rattle.commands.proofs.SessionLemmas.{talks_none}
 

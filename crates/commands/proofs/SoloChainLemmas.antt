@@ -31,9 +31,9 @@ ran_over seen IsOrigin mode old new catalogues tasks opened ended any_refused fr
       let begun = fresh.last catalogue last in
       let is = (begun.goes_on whole begins (was_clean clean)).catalog in
       run_over seen mode catalogue fresh.origin tasks works.written any_refused opened ended begun (subst (λ (own : Catalogue). MovesFollow (database own)) is law) was_clean (λ whole past clean h. works.ran catalogue whole past clean h) whole begins clean;
-  ran_over = λ first rest chain same clean.
+  ran_over = λ first rest whole chain begins clean.
       let of = listed first rest chain in
-      list_run seen mode first rest tasks works.written any_refused opened ended (fresh.new first rest chain same) of (serial (databases first rest) of) was_clean (λ whole happened clean h. works.over (databases first rest) whole happened of clean h) clean;
+      list_run seen mode first rest fresh.origin tasks works.written any_refused opened ended (fresh.over first rest chain) of (serial (databases first rest) of) was_clean (λ whole happened clean h. works.over (databases first rest) whole happened of clean h) whole begins clean;
 }
 
 -- what was written stays so

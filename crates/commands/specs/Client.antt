@@ -1,5 +1,5 @@
 -- What the commands of a script come to over a database for one client, and what is shown of it.
-use Rattle.std.specs.Prelude.{◌≡◌, ◌⊎◌, ℕ, false, IfErr, IfOk, List, [], ◌++◌, flat_map, map, Option, Some, None, Result, Ok, Err}
+use Rattle.std.specs.Prelude.{◌≡◌, ◌⊎◌, ℕ, false, List, [], ◌++◌, flat_map, map, Option, Some, None, Result, Ok, Err}
 use Rattle.terms.specs.declared.leaf.Leaf.{Leaf}
 use Rattle.terms.specs.declared.value.Value.{Value}
 use Rattle.meaning.specs.Whole.{FitsSchema, Relations}

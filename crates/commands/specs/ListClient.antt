@@ -1,5 +1,6 @@
 -- What the commands of a script come to over a list of catalogues, of which another one may come into force.
 use Rattle.std.specs.Prelude.{◌≡◌, ⊤, ℕ, suc, false, List, [], ◌∷◌, ◌++◌, Option, Some, None, Result, Ok, Err}
+use Rattle.std.specs.List.{AllByRecursion}
 use Rattle.terms.specs.declared.leaf.Leaf.{Leaf}
 use Rattle.terms.specs.declared.value.Value.{Value}
 use Rattle.meaning.specs.Whole.{Relations}
@@ -13,7 +14,7 @@ use Rattle.desk.specs.Database.{Database, language}
 use Rattle.world.specs.declared.event.Entry.{Entry}
 use Rattle.world.specs.Commands.{IsCommand}
 use Rattle.world.specs.Course.{Move, said_in}
-use Rattle.world.specs.ListServed.{IsListServed}
+use Rattle.world.specs.ListServed.{HasReason, IsListServed}
 use Rattle.world.specs.Machines.{Machines}
 use Rattle.world.specs.Replies.{Tells}
 use Rattle.world.specs.Settled.{ShowsSerial, parts_kept}
@@ -72,11 +73,12 @@ pub record StaysStill {db : Database} (before after : ListStanding db) : Type 0 
   pub current : after.current ≡ before.current
   pub happened : after.happened ≡ before.happened
 
--- a command makes these moves, by further deeds, and comes to this reply; what was asked for and heard of the moves is added
+-- a command makes these moves, by further deeds, and comes to this reply; each move that was refused has its reason, and what was asked for and heard of them is added
 pub record IsDoneOver (db : Database) (whole : Relations) (text : List ℕ) (before after : ListStanding db) (reply : Result (List Notice) Refusal) : Type 0 where
   pub moves : List Move
   pub deeds : List (Deed (language db))
   pub command : IsCommand db.schemas text before.current after.current moves reply
+  pub reasons : AllByRecursion (HasReason db whole before.happened.deeds deeds) moves
   pub happened : after.happened ≡ record { deeds = before.happened.deeds ++ deeds; entries = before.happened.entries ++ said_in moves }
   pub told : IsTold db whole after.machines after.happened
 

@@ -12,6 +12,7 @@ use Rattle.desk.specs.Database.{language}
 use Rattle.desk.specs.State.{IsMemory}
 use Rattle.world.specs.Chain.{StandsLast}
 use Rattle.world.specs.Client.{IsServed}
+use Rattle.world.specs.ListServed.{IsListServed}
 use Rattle.world.specs.Machines.{Machines}
 use Rattle.world.specs.Recovery.{AreKept, HaveLeaves}
 use Rattle.world.specs.Settled.{after_committed}
@@ -68,14 +69,30 @@ abbrev pub IsLastOf : List Catalogue → Origin → Catalogue → Type 0
 IsLastOf catalogues New catalogue = catalogues ≡ catalogue ∷ []
 IsLastOf catalogues (Kept found) catalogue = StandsLast found.desk.version catalogues catalogue
 
--- a new database of these catalogues was opened, the first of which is in force: where its stores are clean it goes on from relations without rows, and nothing has happened
-pub record IsBegunOver {B : Type 0} (seen : Seen B) (first : Catalogue) (rest : List Catalogue) (base : B) : Type 0 where
-  pub idle : seen.current base ≡ None
-  pub goes_on : seen.is_clean base → GoesOnOver seen (databases first rest) (no_rows first) unhappened base
+-- So a run of a database of these catalogues, whichever of them came into force, has left this in the stores
+pub record LeftByOver (first : Catalogue) (rest : List Catalogue) (found : Found) (whole : Relations) : Type 0 where
+  pub began : Relations
+  pub machines : Machines
+  pub past : List (Deed (language (databases first rest)))
+  pub served : IsListServed (databases first rest) began machines past
+  pub memory : IsMemory machines.table
+  pub kept : AreKept machines found.desk found.sites
+  pub leaves : HaveLeaves first found.sites
+  pub is : whole ≡ after_committed (databases first rest) past began
 
--- a database of these catalogues that was opened, over what it may begin with. Where one comes after the catalogue in force, this is said of a new one
+-- the whole relations that a database of these catalogues begins with
+abbrev pub BeginsWithOver : (first : Catalogue) (rest : List Catalogue) → Origin → Relations → Type 0
+BeginsWithOver first rest New whole = whole ≡ no_rows first
+BeginsWithOver first rest (Kept found) whole = LeftByOver first rest found whole
+
+-- a database of these catalogues was opened, whichever of them is in force: where its stores are clean it goes on from the relations that it begins with, and no transaction has begun
+pub record IsBegunOver {B : Type 0} (seen : Seen B) (first : Catalogue) (rest : List Catalogue) (origin : Origin) (base : B) : Type 0 where
+  pub idle : seen.current base ≡ None
+  pub goes_on : (whole : Relations) → BeginsWithOver first rest origin whole → seen.is_clean base → GoesOnOver seen (databases first rest) whole unhappened base
+
+-- a database of these catalogues that was opened, over what it may begin with: over the last one, where that is in force, and over the list of them
 pub record BeginsOver {B : Type 0} (seen : Seen B) (IsOrigin : Origin → Type 0) (catalogues : List Catalogue) (base : B) : Type 0 where
   pub origin : Origin
   pub is_origin : IsOrigin origin
   pub last : (catalogue : Catalogue) → IsLastOf catalogues origin catalogue → IsBegun seen catalogue origin base
-  pub new : (first : Catalogue) (rest : List Catalogue) → catalogues ≡ first ∷ rest → origin ≡ New → IsBegunOver seen first rest base
+  pub over : (first : Catalogue) (rest : List Catalogue) → catalogues ≡ first ∷ rest → IsBegunOver seen first rest origin base

@@ -10,7 +10,7 @@ use Rattle.lines.specs.Script.{Reading, lines_of, tasks_of_lines}
 use Rattle.commands.specs.declared.catalog_files.ChainFault.{ChainFault}
 use Rattle.commands.specs.declared.catalog_files.ChainFault.TheVariants.{Program, Refused, Unchained}
 use Rattle.commands.specs.Client.{Seen}
-use Rattle.commands.specs.Origin.{BeginsWith, IsBegun, IsLastOf, New, Origin, no_rows}
+use Rattle.commands.specs.Origin.{BeginsWith, BeginsWithOver, IsBegun, IsLastOf, Origin}
 use Rattle.commands.specs.Solo.{IsAccepted, IsOfRun, IsRunFrom, IsRunFromOver, StopsRun, StopsScript, Stretches}
 
 -- a fault that may come once the script runs
@@ -22,7 +22,7 @@ IsOfRunOver Unchained = Unit {0}
 -- seen: how databases are seen that are opened for a run; IsOrigin: what they may begin with
 module _ {B : Type 0} (seen : Seen B) (IsOrigin : Origin → Type 0) where
   -- A run of tasks over a database of these catalogues that was opened for it. Where the catalogue in force as it began is the last one, and the stores are clean at its end, it is a run over this one, whatever
-  -- relations it began with; where the database is new, it is a run over the list of them, whichever comes into force
+  -- relations it began with; and so it is a run over the list of them, whichever is in force and comes into force
   pub record IsRunOver (mode : Mode) (catalogues : List Catalogue) (tasks : List Reading) (old new : Option (List ℕ)) (any_refused : Bool) : Type 0 where
     pub origin : Origin
     pub is_origin : IsOrigin origin
@@ -31,7 +31,7 @@ module _ {B : Type 0} (seen : Seen B) (IsOrigin : Origin → Type 0) where
     pub ended : B
     pub stretch : Stretches seen mode tasks old new opened ended any_refused
     pub ran : (catalogue : Catalogue) (whole : Relations) → IsLastOf catalogues origin catalogue → BeginsWith catalogue origin whole → seen.is_clean ended → IsRunFrom mode catalogue whole tasks stretch.written any_refused
-    pub ran_over : (first : Catalogue) (rest : List Catalogue) → catalogues ≡ first ∷ rest → origin ≡ New → seen.is_clean ended → IsRunFromOver mode (databases first rest) (no_rows first) tasks stretch.written any_refused
+    pub ran_over : (first : Catalogue) (rest : List Catalogue) (whole : Relations) → catalogues ≡ first ∷ rest → BeginsWithOver first rest origin whole → seen.is_clean ended → IsRunFromOver mode (databases first rest) whole tasks stretch.written any_refused
 
   -- a script that may run has run to its end, and all that its lines are answered by was written
   abbrev pub HasRunOver : Mode → List Catalogue → List ℕ → Option (List ℕ) → Option (List ℕ) → Bool → Type 0

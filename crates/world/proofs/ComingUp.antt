@@ -13,6 +13,7 @@ use Rattle.site.specs.declared.site.Site.{Site}
 use Rattle.site.specs.Recovery.{Begins}
 use Rattle.site.specs.Seat.{seat_from}
 use Rattle.desk.specs.Database.{Database}
+use Rattle.desk.specs.OfCatalogue.{IsOfCatalogue}
 use Rattle.desk.specs.Recovery.{Rises}
 use Rattle.desk.specs.State.{IsMemory, txn_at}
 use Rattle.world.specs.Machines.{AreFit, Machines}
@@ -20,11 +21,12 @@ use Rattle.world.specs.Placed.{IsPlaced}
 use Rattle.site.specs.State.{AreHad}
 use Rattle.world.specs.Chain.{sites_of}
 use Rattle.world.specs.Leaves.{known_leaves}
-use Rattle.world.specs.Recovery.{AllWake, AreKept, AreUp, AreUpAgain, ComeUp, HaveLeaves, IsUp}
+use Rattle.world.specs.Listed.{FitsList}
+use Rattle.world.specs.Recovery.{AllWake, AreKept, AreUp, AreUpAgain, ComeUp, HaveLeaves, IsUp, ListComeUp}
 use Rattle.world.specs.Seated.{seats_in}
 use Rattle.world.specs.Sites.{Seat}
 use Rattle.world.proofs.InForce.{nobody_rises}
-use Rattle.world.proofs.Openings.{all_so, has_its}
+use Rattle.world.proofs.Openings.{all_so, has_its, has_leaf}
 use Rattle.world.proofs.Seating.{HasItsLeaves}
 
 module _ {S : Type 0} (is_clean is_sound : S → Type 0) (kept : S → SiteContent) (refused : S → ℕ) (c : Catalogue) where
@@ -124,6 +126,45 @@ module _ {S : Type 0} (is_clean is_sound : S → Type 0) (kept : S → SiteConte
         life = subst (λ was. desk_content.BeginsLife was machines.desk) (sym same.desk) life;
         memory = memory;
       }
+
+-- over a list of catalogues, of which one has the sites and relations of the database
+module _ {S : Type 0} (is_clean is_sound : S → Type 0) (kept : S → SiteContent) (refused : S → ℕ) (c : Catalogue) (db : Database) (of : IsOfCatalogue db) (named : c.sites ≡ db.sites) (related : schemas_of c ≡ db.schemas) where
+  has_its_own : (seat : Seat) → seat.leaves ≡ known_leaves (schemas_of c) → HasItsLeaves db seat
+  has_its_own seat own leaf home = has_leaf (db.catalogue home.version) seat (of.formed home.version) (own ∙ ap known_leaves (related ∙ of.schemas home.version)) leaf home.there
+
+  all_have_own : (names : List (List ℕ)) (stores : List S) (sites : List (Site S)) → AreUp is_clean is_sound kept refused c names stores sites → AllByRecursion (HasItsLeaves db) (seats_in kept sites)
+  all_have_own [] [] [] up = tt
+  all_have_own [] [] (x ∷ sites) up = absurd up
+  all_have_own [] (s ∷ stores) sites up = absurd up
+  all_have_own (name ∷ names) [] sites up = absurd up
+  all_have_own (name ∷ names) (s ∷ stores) [] up = absurd up
+  all_have_own (name ∷ names) (s ∷ stores) (x ∷ sites) up = (has_its_own (seat_from kept x) up.0.leaves, all_have_own names stores sites up.1)
+
+  module _ (stores : List S) (sites : List (Site S)) (up : AreUp is_clean is_sound kept refused c c.sites stores sites) (clean : AllByRecursion (λ site. is_clean site.store) sites) (have : HaveLeaves c (map kept stores)) (machines : Machines) (seats : machines.seats ≡ seats_in kept sites) (rises : Rises db machines.desk machines.table) where
+    begin_each : AllByRecursion (λ (seat : Seat). Begins seat.kept seat.table) machines.seats
+    begin_each = subst (AllByRecursion (λ (seat : Seat). Begins seat.kept seat.table)) (sym seats) (all_begin is_clean is_sound kept refused c c.sites stores sites up clean have)
+
+    list_up_fit : FitsList db machines
+    list_up_fit = record {
+      names = ap (map (λ (seat : Seat). seat.name)) seats ∙ names_up is_clean is_sound kept refused c c.sites stores sites up ∙ named;
+      leaves = subst (AllByRecursion (HasItsLeaves db)) (sym seats) (all_have_own c.sites stores sites up);
+      desk = rises.fits;
+      within = rises.within;
+      sites = all_so machines.seats (λ seat begins. begins.fits) begin_each;
+      still = λ none t. nobody_rises db machines.desk machines.table rises (txn_at t);
+    }
+
+    pub list_up_again : AreUpAgain db machines
+    list_up_again = record { desk = rises; sites = begin_each }
+
+    pub list_came_up : (old : Machines) → FitsList db old → (of_desk : desk_content.DeskContent) → AreKept old of_desk (map kept stores) → desk_content.BeginsLife of_desk machines.desk → IsMemory machines.table → ListComeUp db old machines
+    list_came_up old fit of_desk same life memory = record {
+      fit = list_up_fit;
+      sites = subst (AllWake old.seats) (sym seats) (all_wake is_clean is_sound kept refused c c.sites stores sites old.seats up clean have (fit.names ∙ sym named) same.sites);
+      rises = rises;
+      life = subst (λ was. desk_content.BeginsLife was machines.desk) (sym same.desk) life;
+      memory = memory;
+    }
 
 -- sites that have come up for one catalogue have for another one of the same relations
 module _ {S : Type 0} (is_clean is_sound : S → Type 0) (kept : S → SiteContent) (refused : S → ℕ) (one other : Catalogue) (same : schemas_of one ≡ schemas_of other) where

@@ -33,6 +33,7 @@ use Rattle.world.specs.Reasons.{HasReason, TurnsAway}
 use Rattle.world.specs.Stopping.{is_stop}
 use Rattle.world.proofs.Reasoned.{same_passes, turned_ranks}
 use Rattle.world.proofs.Counting.{fit_counted, kept_then, leads_counted, no_fewer, no_fewer_then, with_counts}
+use Rattle.world.proofs.Machinery.{fits_list}
 use Rattle.world.proofs.Placed.{placed_both}
 use Rattle.world.proofs.Running.{all_both}
 
@@ -40,7 +41,7 @@ pub all_come_append : {L : Lang} (one other : List (Coming L)) (w : World L) →
 all_come_append [] other w = refl
 all_come_append (c ∷ one) other w = all_come_append one other (come w c)
 
-founded_append : (db : Database) (one other : List (Coming (language db))) (w : World (language db)) → AllFounded one w → AllFounded other (all_come one w) → AllFounded (one ++ other) w
+pub founded_append : (db : Database) (one other : List (Coming (language db))) (w : World (language db)) → AllFounded one w → AllFounded other (all_come one w) → AllFounded (one ++ other) w
 founded_append db [] other w first second = second
 founded_append db (c ∷ one) other w first second = (first.0, founded_append db one other (come w c) first.1 second)
 
@@ -112,11 +113,11 @@ module _ (db : Database) (step : World (language db) → World (language db)) (f
   }
 
 -- a letter of some rank leaves some rank
-one_left : (rank n : ℕ) → 2 ≤ rank → rank ≤ suc n → 1 ≤ n
+pub one_left : (rank n : ℕ) → 2 ≤ rank → rank ≤ suc n → 1 ≤ n
 one_left rank n two few = omega arith
 
 -- what becomes of a letter whose operation is of a leaf at its site has its reason in the protocol's world
-founded_here : (db : Database) (machines : Machines) (letter : letters.Letter) (waiting : List (Letter (language db))) (past : List (Deed (language db))) (coming : Coming (language db)) → IsHomed (language db) (IsPlace db) (sent db letter) → HasReason db machines letter coming → IsFounded (world_of db machines waiting past) coming (sent db letter)
+pub founded_here : (db : Database) (machines : Machines) (letter : letters.Letter) (waiting : List (Letter (language db))) (past : List (Deed (language db))) (coming : Coming (language db)) → IsHomed (language db) (IsPlace db) (sent db letter) → HasReason db machines letter coming → IsFounded (world_of db machines waiting past) coming (sent db letter)
 founded_here db machines letter waiting past (Taken kept choice) home reason = (same_passes db (is_for_desk (sent db letter).body) machines waiting past kept choice (sent db letter) ∙ reason.0, reason.1)
 founded_here db machines letter waiting past (Turned_away choice) home (inl limit) = record { choice = limit.choice; explained = limit.explained; past = same_passes db (is_for_desk (sent db letter).body) machines waiting past true limit.choice (sent db letter) ∙ limit.past }
 founded_here db machines letter waiting past (Turned_away choice) home (inr astray) = absurd (astray home)
@@ -178,7 +179,7 @@ module _ (db : Database) (letter : letters.Letter) (here : Scene) (after : Machi
           InRound (done_with (sent db letter) coming (world_of db here.machines (map (sent db) rest) [])).desk.txn n i (done_with (sent db letter) coming (world_of db here.machines (map (sent db) rest) [])).letters
       after_letter (Taken kept choice) reason all = (round_law {L = language db}).goes_on (world_of db here.machines (sent db letter ∷ map (sent db) rest) []) n i kept choice all
       after_letter (Turned_away choice) reason all =
-          let two = turned_ranks db here.machines letter fit reason in
+          let two = turned_ranks db here.machines letter (fits_list db here.machines fit) reason in
           let few = all.0 in
           (round_law {L = language db}).given_up (world_of db here.machines (map (sent db) rest) []) n i (sent db letter).txn choice (one_left _ n two few) all.1
       after_letter Passed_over reason all = all.1

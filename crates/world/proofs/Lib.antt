@@ -77,3 +77,4 @@ pub mod ListDelivering
 pub mod ListCalls
 pub mod ListSolo
 pub mod ListIsBase
+pub mod ListComings

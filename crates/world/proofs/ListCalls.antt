@@ -1,9 +1,10 @@
 -- Calls of one client over a list of catalogues: what was asked for and heard tells what has happened.
-use Rattle.std.proofs.Common.{◌≡◌, ◌≢◌, refl, sym, ap, ◌∙◌, subst, ℕ, Bool, false, true, List, [], ◌∷◌, ◌++◌, append_assoc, map, if◌then◌else◌, inl, inr, Result, Ok, Err, IfErr, IfOk, OnErr}
+use Rattle.std.proofs.Common.{◌≡◌, ◌≢◌, refl, sym, ap, ◌∙◌, subst, ℕ, Bool, false, true, List, [], ◌∷◌, ◌++◌, append_assoc, map, if◌then◌else◌, inl, inr, ◌⊎◌, Result, Ok, Err, IfErr, IfOk, OnErr}
 use Rattle.std.proofs.lemmas.List.{append-nil}
 use Rattle.std.proofs.lemmas.List.Elements.{filter_map-append}
 use Rattle.std.proofs.lemmas.Grind.{flat_map-append}
-use Rattle.std.specs.List.{filter_map}
+use Rattle.std.specs.List.{AllByRecursion, filter_map}
+use Rattle.std.specs.Prelude.{⊤}
 use Rattle.meaning.specs.Whole.{Relations}
 use Rattle.meaning.specs.declared.statement.Statement.TheVariants as kinds
 use Rattle.store.specs.declared.letter.Letter as letters
@@ -17,13 +18,14 @@ use Rattle.protocol.specs.Letters.{txn_name}
 use Rattle.protocol.specs.Serial.{phased_of, phases_of}
 use Rattle.protocol.specs.World.{World, begun, first_turn}
 use Rattle.desk.specs.declared.refusal.Refusal.{Refusal}
+use Rattle.desk.specs.declared.refusal.Refusal.TheVariants as refusal
 use Rattle.desk.specs.declared.reply.Notice.{Notice}
 use Rattle.desk.specs.declared.reply.Out.{Out}
 use Rattle.desk.specs.declared.reply.Reply.{Reply}
 use Rattle.desk.specs.declared.reply.Reply.TheVariants.{Begun}
 use Rattle.desk.specs.Database.{Database, language}
 use Rattle.desk.specs.Request.{txn_in}
-use Rattle.desk.specs.State.{desk_of, notice_of}
+use Rattle.desk.specs.State.{desk_of, notice_of, volatile_of}
 use Rattle.desk.specs.Transition.{told}
 use Rattle.world.specs.declared.event.Call as calls
 use Rattle.world.specs.declared.event.Call.TheVariants as call
@@ -32,17 +34,18 @@ use Rattle.world.specs.declared.event.Event.TheVariants as event
 use Rattle.world.specs.declared.machines.Machines as code
 use Rattle.world.specs.Contents.{OfStores, counted, held}
 use Rattle.world.specs.Commands.{heard_in}
-use Rattle.world.specs.Course.{Begins, IsOne, Move, Refragments, Refuses, said, said_in, said_of}
-use Rattle.std.specs.Prelude.{⊤}
+use Rattle.world.specs.Course.{Begins, Commits, IsOne, Move, Refragments, Refuses, Rolls_back, States, said, said_in, said_of}
 use Rattle.world.specs.Frame.{ListMakes, OverLists}
 use Rattle.world.specs.Listed.{FitsList, IsListed, ListAsked, ListBegun, ListMoved, ListStated, StandsIn}
-use Rattle.world.specs.ListServed.{IsListServed, IsListServedOn, ListGoes, ListHeardIsSerial, ListMade}
+use Rattle.world.specs.ListServed.{HasReason, IsListServed, IsListServedOn, ListGoes, ListHeardIsSerial, ListMade, RefusedOnTheWay}
 use Rattle.world.specs.Machines.{Machines, world_of}
+use Rattle.world.specs.Refused.{IsRefused}
 use Rattle.world.specs.Replies.{AreStated, Shows, Tells, phased_by, text_by}
 use Rattle.world.specs.Stopping.{is_stop}
 use Rattle.world.proofs.Counting.{with_counts}
 use Rattle.world.proofs.Heard.{serial_run}
 use Rattle.world.proofs.Listing.{stands_as}
+use Rattle.world.proofs.Running.{all_both}
 use Rattle.world.proofs.ListDelivering.{list_served_serial, on_then}
 use Rattle.world.proofs.Shown.{commit_shows, rollback_silent, state_shows}
 use Rattle.world.proofs.Told.{tells_more}
@@ -62,11 +65,70 @@ list_heard_serial db listed whole machines entries past so served =
     let serial = list_served_serial db listed whole machines past served in
     serial_run db whole machines entries past so (record { answers = serial.answers; rebuilt = serial.rebuilt })
 
+-- what holds of each item, from something else of each
+all_to : {A : Type 0} {P Q : A → Type 0} (xs : List A) → ((x : A) → P x → Q x) → AllByRecursion P xs → AllByRecursion Q xs
+all_to [] to all = tt
+all_to (x ∷ xs) to all = (to x all.0, all_to xs to all.1)
+
+-- machines refuse a call: memory ran out or a store failed, or for a reason of the coordinator's
+abbrev pub MayRefuse : Database → Machines → calls.Call → Refusal → Type 0
+MayRefuse db machines asked told = (is_stop told ≡ true) ⊎ IsRefused db machines.later machines.table asked told
+
 -- which moves are made by a call with this answer
 abbrev Kinds : Type 0 → Type 1
 Kinds T = Result T Refusal → List Move → Type 0
 
 module _ (db : Database) (whole : Relations) where
+  -- ---- why calls are refused
+  refused_front : (past one two : List (Deed (language db))) (asked : calls.Call) (told : Refusal) → (is_stop told ≡ true) ⊎ RefusedOnTheWay db whole past one asked told → (is_stop told ≡ true) ⊎ RefusedOnTheWay db whole past (one ++ two) asked told
+  refused_front past one two asked told (inl stops) = inl stops
+  refused_front past one two asked told (inr so) = inr (record { machines = so.machines; done = so.done; left = so.left ++ two; split = ap (λ ds. ds ++ two) so.split ∙ append_assoc so.done so.left two; served = so.served; reason = so.reason })
+
+  refused_back : (past one two : List (Deed (language db))) (asked : calls.Call) (told : Refusal) → (is_stop told ≡ true) ⊎ RefusedOnTheWay db whole (past ++ one) two asked told → (is_stop told ≡ true) ⊎ RefusedOnTheWay db whole past (one ++ two) asked told
+  refused_back past one two asked told (inl stops) = inl stops
+  refused_back past one two asked told (inr so) = inr (record {
+    machines = so.machines;
+    done = one ++ so.done;
+    left = so.left;
+    split = ap (λ ds. one ++ ds) so.split ∙ sym (append_assoc one so.done so.left);
+    served = subst (IsListServed db whole so.machines) (append_assoc past one so.done) so.served;
+    reason = so.reason;
+  })
+
+  -- also where more was done later, and before
+  reason_front : (past one two : List (Deed (language db))) (move : Move) → HasReason db whole past one move → HasReason db whole past (one ++ two) move
+  reason_front past one two (Begins txn heard) so = tt
+  reason_front past one two (States txn text heard) so = tt
+  reason_front past one two (Commits txn heard) so = tt
+  reason_front past one two (Rolls_back txn heard) so = tt
+  reason_front past one two (Refragments text (Ok heard)) so = tt
+  reason_front past one two (Refragments text (Err told)) so = refused_front past one two (call.Refragment text) told so
+  reason_front past one two (Refuses asked told) so = refused_front past one two asked told so
+
+  reason_back : (past one two : List (Deed (language db))) (move : Move) → HasReason db whole (past ++ one) two move → HasReason db whole past (one ++ two) move
+  reason_back past one two (Begins txn heard) so = tt
+  reason_back past one two (States txn text heard) so = tt
+  reason_back past one two (Commits txn heard) so = tt
+  reason_back past one two (Rolls_back txn heard) so = tt
+  reason_back past one two (Refragments text (Ok heard)) so = tt
+  reason_back past one two (Refragments text (Err told)) so = refused_back past one two (call.Refragment text) told so
+  reason_back past one two (Refuses asked told) so = refused_back past one two asked told so
+
+  -- of what is said nothing was refused
+  was_spoken : (past deeds : List (Deed (language db))) (move : Move) (entry : Entry) → said_of move ≡ entry ∷ [] → HasReason db whole past deeds move
+  was_spoken past deeds (Begins txn heard) entry is = tt
+  was_spoken past deeds (States txn text heard) entry is = tt
+  was_spoken past deeds (Commits txn heard) entry is = tt
+  was_spoken past deeds (Rolls_back txn heard) entry is = tt
+  was_spoken past deeds (Refragments text (Ok heard)) entry is = tt
+  was_spoken past deeds (Refragments text (Err told)) entry is = absurd (cc)
+  was_spoken past deeds (Refuses asked told) entry is = absurd (cc)
+
+  -- the machines refuse it as they stand
+  refused_here : (machines : Machines) (past : List (Deed (language db))) (asked : calls.Call) (told : Refusal) → MayRefuse db machines asked told → IsListServed db whole machines past → (is_stop told ≡ true) ⊎ RefusedOnTheWay db whole past [] asked told
+  refused_here machines past asked told (inl stops) served = inl stops
+  refused_here machines past asked told (inr reason) served = inr (record { machines = machines; done = []; left = []; split = refl; served = subst (IsListServed db whole machines) (sym (append-nil past)) served; reason = reason })
+
   -- ---- moves that are made
   pub made_on : (machines : Machines) (past : List (Deed (language db))) (kind : List Move → Type 0) → ListMade db whole machines past kind → IsListServedOn db whole machines past
   made_on machines past kind made = record { deeds = made.deeds; served = made.served }
@@ -78,7 +140,7 @@ module _ (db : Database) (whole : Relations) where
 
   -- they are of another kind too
   pub made_as : (machines : Machines) (past : List (Deed (language db))) (K M : List Move → Type 0) → ((moves : List Move) → K moves → M moves) → ListMade db whole machines past K → ListMade db whole machines past M
-  made_as machines past K M so made = record { moves = made.moves; deeds = made.deeds; served = made.served; tells = made.tells; is = so made.moves made.is }
+  made_as machines past K M so made = record { moves = made.moves; deeds = made.deeds; served = made.served; tells = made.tells; reasons = made.reasons; is = so made.moves made.is }
 
   pub makes_as : {T : Type 0} (machines : Machines) (past : List (Deed (language db))) (result : Result T Refusal) (K M : Kinds T) → ((moves : List Move) → K result moves → M result moves) → ListMakes db whole machines past result K → ListMakes db whole machines past result M
   makes_as machines past (Ok x) K M so made = made_as machines past (K (Ok x)) (M (Ok x)) so made
@@ -87,7 +149,7 @@ module _ (db : Database) (whole : Relations) where
 
   -- none is made
   pub none_made : (machines : Machines) (past : List (Deed (language db))) (kind : List Move → Type 0) → kind [] → IsListServed db whole machines past → ListMade db whole machines past kind
-  none_made machines past kind is served = record { moves = []; deeds = []; served = subst (IsListServed db whole machines) (sym (append-nil past)) served; tells = λ entries so. tells_no_more db entries past so; is = is }
+  none_made machines past kind is served = record { moves = []; deeds = []; served = subst (IsListServed db whole machines) (sym (append-nil past)) served; tells = λ entries so. tells_no_more db entries past so; reasons = tt; is = is }
 
   -- some, and then others
   pub made_then : (middle after : Machines) (past : List (Deed (language db))) (K L M : List Move → Type 0) → ((one more : List Move) → K one → L more → M (one ++ more)) → (one : ListMade db whole middle past K) → ListMade db whole after (past ++ one.deeds) L → ListMade db whole after past M
@@ -98,6 +160,7 @@ module _ (db : Database) (whole : Relations) where
     tells = λ entries so.
         subst (λ es. Tells db es (past ++ (one.deeds ++ two.deeds))) (append_assoc entries (said_in one.moves) (said_in two.moves) ∙ ap (λ more. entries ++ more) (sym (said_both one.moves two.moves)))
         (subst (Tells db ((entries ++ said_in one.moves) ++ said_in two.moves)) (append_assoc past one.deeds two.deeds) (two.tells (entries ++ said_in one.moves) (one.tells entries so)));
+    reasons = all_both (HasReason db whole past (one.deeds ++ two.deeds)) one.moves two.moves (all_to one.moves (reason_front past one.deeds two.deeds) one.reasons) (all_to two.moves (reason_back past one.deeds two.deeds) two.reasons);
     is = join one.moves two.moves one.is two.is;
   }
 
@@ -127,6 +190,7 @@ module _ (db : Database) (whole : Relations) where
         deeds = deeds;
         served = subst (IsListServed db whole after) (append_assoc past first goes.deeds) goes.served;
         tells = λ entries so. subst (λ es. Tells db (entries ++ (es ++ [])) (past ++ deeds)) (sym is) (tells_more db entries (said what heard) past deeds so shows (hears ∙ sym (filter_map-append (told db) first goes.deeds)));
+        reasons = (was_spoken past deeds move (said what heard) is, tt);
         is = (refl, opens);
       }
 
@@ -217,21 +281,22 @@ module _ (db : Database) (whole : Relations) where
           named = let is : (txn_name first.txn, first.reply) ≡ (next_txn (desk_of db before.table), Begun) = cc in ap (λ (pair : Name × Reply). pair.0) is
 
   -- a call is refused, and nothing has changed
-  none_said : (moves : List Move) (before after : Machines) (past : List (Deed (language db))) (kind : List Move → Type 0) → said_in moves ≡ [] → kind moves → after ≡ before → IsListServed db whole before past → ListMade db whole after past kind
-  none_said moves before after past kind none is same served = record {
+  none_said : (moves : List Move) (before after : Machines) (past : List (Deed (language db))) (kind : List Move → Type 0) → said_in moves ≡ [] → AllByRecursion (HasReason db whole past []) moves → kind moves → after ≡ before → IsListServed db whole before past → ListMade db whole after past kind
+  none_said moves before after past kind none reasons is same served = record {
     moves = moves;
     deeds = [];
     served = subst (λ (m : Machines). IsListServed db whole m (past ++ [])) (sym same) (subst (IsListServed db whole before) (sym (append-nil past)) served);
     tells = λ entries so. subst (λ es. Tells db (entries ++ es) (past ++ [])) (sym none) (tells_no_more db entries past so);
+    reasons = reasons;
     is = is;
   }
 
-  pub refused_makes : {T : Type 0} (move : T → Move) (asked : calls.Call) (why : Refusal) (before after : Machines) (past : List (Deed (language db))) → after ≡ before → IsListServed db whole before past → ListMakes {T = T} db whole after past (Err why) (IsOne move asked)
-  refused_makes move asked why before after past same served = inr (none_said (Refuses asked why ∷ []) before after past (λ moves. moves ≡ Refuses asked why ∷ []) refl refl same served)
+  pub refused_makes : {T : Type 0} (move : T → Move) (asked : calls.Call) (why : Refusal) (before after : Machines) (past : List (Deed (language db))) → MayRefuse db before asked why → after ≡ before → IsListServed db whole before past → ListMakes {T = T} db whole after past (Err why) (IsOne move asked)
+  refused_makes move asked why before after past may same served = inr (none_said (Refuses asked why ∷ []) before after past (λ moves. moves ≡ Refuses asked why ∷ []) refl (refused_here before past asked why may served, tt) refl same served)
 
-  pub unmoved_makes : {T : Type 0} (text : List ℕ) (items : T → List Notice) (why : Refusal) (before after : Machines) (past : List (Deed (language db))) → after ≡ before → IsListServed db whole before past →
+  pub unmoved_makes : {T : Type 0} (text : List ℕ) (items : T → List Notice) (why : Refusal) (before after : Machines) (past : List (Deed (language db))) → MayRefuse db before (call.Refragment text) why → after ≡ before → IsListServed db whole before past →
       ListMakes {T = T} db whole after past (Err why) (λ done moves. (moves ≡ Refragments text (heard_in items done) ∷ []) × IfOk done (λ x. items x ≢ []))
-  unmoved_makes text items why before after past same served = inr (none_said (Refragments text (Err why) ∷ []) before after past (λ moves. (moves ≡ Refragments text (Err why) ∷ []) × ⊤) refl (refl, tt) same served)
+  unmoved_makes text items why before after past may same served = inr (none_said (Refragments text (Err why) ∷ []) before after past (λ moves. (moves ≡ Refragments text (Err why) ∷ []) × ⊤) refl (refused_here before past (call.Refragment text) why may served, tt) (refl, tt) same served)
 
   -- ---- what is known of machines doesn't read how often media have refused
   fits_with : (machines : Machines) (counts : List ℕ) → FitsList db machines → FitsList db (with_counts machines counts)
@@ -247,7 +312,7 @@ module _ (db : Database) (whole : Relations) where
   served_without machines counts past served = record { version = served.version; reached = served.reached; fit = fits_without machines counts served.fit }
 
   made_with : (machines : Machines) (counts : List ℕ) (past : List (Deed (language db))) (kind : List Move → Type 0) → ListMade db whole machines past kind → ListMade db whole (with_counts machines counts) past kind
-  made_with machines counts past kind made = record { moves = made.moves; deeds = made.deeds; served = served_with machines counts (past ++ made.deeds) made.served; tells = made.tells; is = made.is }
+  made_with machines counts past kind made = record { moves = made.moves; deeds = made.deeds; served = served_with machines counts (past ++ made.deeds) made.served; tells = made.tells; reasons = made.reasons; is = made.is }
 
   pub makes_with : {T : Type 0} (machines : Machines) (counts : List ℕ) (past : List (Deed (language db))) (result : Result T Refusal) (kind : Kinds T) → ListMakes db whole machines past result kind → ListMakes db whole (with_counts machines counts) past result kind
   makes_with machines counts past (Ok x) kind made = made_with machines counts past (kind (Ok x)) made
@@ -275,24 +340,32 @@ module _ {D S : Type 0} (desk_is_clean : D → Type 0) (site_is_clean : S → Ty
       let made = lists db whole past listed stands clean sound (served_without db whole (hold old) (view old).refused past served) in
       (makes_with db whole (hold new) (view new).refused past result (kind db) made.0, made.1)
 
+  -- why a call is refused, as the machines of the code tell
+  abbrev RefusesBy : code.Machines D S → calls.Call → Refusal → Type 0
+  RefusesBy old asked why = (db : Database) → IsListed db → StandsIn db old.desk → FitsList db (hold old) → (why ≡ refusal.Memory) ⊎ IsRefused db old.desk.later.items (volatile_of old.desk.volatile) asked why
+
+  told_so : (db : Database) (old : code.Machines D S) (asked : calls.Call) (why : Refusal) → (why ≡ refusal.Memory) ⊎ IsRefused db old.desk.later.items (volatile_of old.desk.volatile) asked why → MayRefuse db (hold old) asked why
+  told_so db old asked why (inl memory) = inl (ap is_stop memory)
+  told_so db old asked why (inr refused) = inr refused
+
   -- a call is refused, and nothing has changed
   stands_still : (db : Database) (old new : code.Machines D S) → hold new ≡ hold old → new.desk.catalog ≡ old.desk.catalog → new.desk.later.items ≡ old.desk.later.items → StandsIn db old.desk → StandsIn db new.desk
   stands_still db old new same catalog later stands = stands_as db old.desk new.desk (ap (λ (m : Machines). m.table.version) same) catalog later stands
 
-  pub refused_lists : {T : Type 0} (move : T → Move) (asked : calls.Call) (why : Refusal) (old new : code.Machines D S) → hold new ≡ hold old → new.desk.catalog ≡ old.desk.catalog → new.desk.later.items ≡ old.desk.later.items →
+  pub refused_lists : {T : Type 0} (move : T → Move) (asked : calls.Call) (why : Refusal) (old new : code.Machines D S) → RefusesBy old asked why → hold new ≡ hold old → new.desk.catalog ≡ old.desk.catalog → new.desk.later.items ≡ old.desk.later.items →
       OverLists IsClean IsSound view old new (λ db whole past. ListMakes {T = T} db whole (view new) past (Err why) (IsOne move asked))
-  refused_lists {T} move asked why old new same catalog later = lists_counted {T = T} old new (Err why) (λ db. IsOne move asked)
-      (λ db whole past listed stands clean sound served. (refused_makes db whole move asked why (hold old) (hold new) past same served, stands_still db old new same catalog later stands))
+  refused_lists {T} move asked why old new may same catalog later = lists_counted {T = T} old new (Err why) (λ db. IsOne move asked)
+      (λ db whole past listed stands clean sound served. (refused_makes db whole move asked why (hold old) (hold new) past (told_so db old asked why (may db listed stands served.fit)) same served, stands_still db old new same catalog later stands))
 
-  pub unbegun_lists : {T : Type 0} (move : T → Move) (items : T → List Notice) (why : Refusal) (old new : code.Machines D S) → hold new ≡ hold old → new.desk.catalog ≡ old.desk.catalog → new.desk.later.items ≡ old.desk.later.items →
+  pub unbegun_lists : {T : Type 0} (move : T → Move) (items : T → List Notice) (why : Refusal) (old new : code.Machines D S) → RefusesBy old call.Begin why → hold new ≡ hold old → new.desk.catalog ≡ old.desk.catalog → new.desk.later.items ≡ old.desk.later.items →
       OverLists IsClean IsSound view old new (λ db whole past. ListMakes {T = T} db whole (view new) past (Err why) (λ done moves. IsOne move call.Begin done moves × IfOk done (λ x. items x ≢ [])))
-  unbegun_lists {T} move items why old new same catalog later = lists_counted {T = T} old new (Err why) (λ db done moves. IsOne move call.Begin done moves × IfOk done (λ x. items x ≢ []))
+  unbegun_lists {T} move items why old new may same catalog later = lists_counted {T = T} old new (Err why) (λ db done moves. IsOne move call.Begin done moves × IfOk done (λ x. items x ≢ []))
       (λ db whole past listed stands clean sound served. (
-        makes_as db whole (hold new) past (Err why) (IsOne move call.Begin) (λ done moves. IsOne move call.Begin done moves × IfOk done (λ x. items x ≢ [])) (λ moves is. (is, tt)) (refused_makes db whole move call.Begin why (hold old) (hold new) past same served),
+        makes_as db whole (hold new) past (Err why) (IsOne move call.Begin) (λ done moves. IsOne move call.Begin done moves × IfOk done (λ x. items x ≢ [])) (λ moves is. (is, tt)) (refused_makes db whole move call.Begin why (hold old) (hold new) past (told_so db old call.Begin why (may db listed stands served.fit)) same served),
         stands_still db old new same catalog later stands,
       ))
 
-  pub unmoved_lists : {T : Type 0} (text : List ℕ) (items : T → List Notice) (why : Refusal) (old new : code.Machines D S) → hold new ≡ hold old → new.desk.catalog ≡ old.desk.catalog → new.desk.later.items ≡ old.desk.later.items →
+  pub unmoved_lists : {T : Type 0} (text : List ℕ) (items : T → List Notice) (why : Refusal) (old new : code.Machines D S) → RefusesBy old (call.Refragment text) why → hold new ≡ hold old → new.desk.catalog ≡ old.desk.catalog → new.desk.later.items ≡ old.desk.later.items →
       OverLists IsClean IsSound view old new (λ db whole past. ListMakes {T = T} db whole (view new) past (Err why) (λ done moves. (moves ≡ Refragments text (heard_in items done) ∷ []) × IfOk done (λ x. items x ≢ [])))
-  unmoved_lists {T} text items why old new same catalog later = lists_counted {T = T} old new (Err why) (λ db done moves. (moves ≡ Refragments text (heard_in items done) ∷ []) × IfOk done (λ x. items x ≢ []))
-      (λ db whole past listed stands clean sound served. (unmoved_makes db whole text items why (hold old) (hold new) past same served, stands_still db old new same catalog later stands))
+  unmoved_lists {T} text items why old new may same catalog later = lists_counted {T = T} old new (Err why) (λ db done moves. (moves ≡ Refragments text (heard_in items done) ∷ []) × IfOk done (λ x. items x ≢ []))
+      (λ db whole past listed stands clean sound served. (unmoved_makes db whole text items why (hold old) (hold new) past (told_so db old (call.Refragment text) why (may db listed stands served.fit)) same served, stands_still db old new same catalog later stands))

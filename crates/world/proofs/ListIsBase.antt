@@ -29,8 +29,9 @@ use Rattle.world.specs.Runs.{IsListRun}
 use Rattle.catalog.specs.FragmentLeaf.{schemas_of}
 use Rattle.store.specs.declared.name.Txn as txns
 use Rattle.desk.specs.declared.desk.Desk.{Desk}
-use Rattle.desk.specs.OfCatalogue.{AreNextOf}
+use Rattle.desk.specs.OfCatalogue.{AreNextOf, InForce, from_number}
 use Rattle.desk.specs.Recovery as desk_starting
+use Rattle.world.specs.Chain.{StandsAt}
 use Rattle.world.specs.Leaves.{known_leaves}
 use Rattle.world.specs.Placed.{ListOpens, ListPlaced}
 use Rattle.world.specs.Sites.{Seat}
@@ -136,6 +137,24 @@ stands_first first rest desk one same = record {
   here = ap (numbered first rest) one ∙ first_numbered first rest ∙ sym (head_is (catalogue_of desk.catalog) first (map catalogue_of desk.later.items) rest same);
   next = subst (λ n. AreNextOf (databases first rest) n desk.later.items) (sym one) (next_numbered (databases first rest) first rest 1 desk.later.items (tail_is (catalogue_of desk.catalog) first (map catalogue_of desk.later.items) rest same) (λ n. ap (numbered first rest) (up_one n)));
 }
+
+-- so where the one in force has another number in the chain
+in_force_numbered : (db : Database) (first : Catalogue) (rest : List Catalogue) (k n : ℕ) (catalog : List (List ℕ) × List code.SplitRelation) (later : Catalogs) → catalogue_of catalog ∷ map catalogue_of later ≡ from_number (suc n) (first ∷ rest) → ((m : ℕ) → db.catalogue (up m k) ≡ numbered first rest (suc m)) →
+    InForce db (up n k) catalog × AreNextOf db (up n k) later
+in_force_numbered db first rest k zero catalog later same there = (
+  there 0 ∙ first_numbered first rest ∙ sym (head_is (catalogue_of catalog) first (map catalogue_of later) rest same),
+  next_numbered db first rest k later (tail_is (catalogue_of catalog) first (map catalogue_of later) rest same) there,
+)
+in_force_numbered db first [] k (suc n) catalog later same there = absurd (cc)
+in_force_numbered db first (next ∷ rest) k (suc n) catalog later same there = in_force_numbered db next rest (suc k) n catalog later same (λ m. there (suc m))
+
+pub stands_at : {D : Type 0} (n : ℕ) (first : Catalogue) (rest : List Catalogue) (desk : Desk D) → desk.volatile.version ≡ n → StandsAt n (first ∷ rest) desk → StandsIn (databases first rest) desk
+stands_at zero first rest desk is stands = absurd (cc)
+stands_at (suc n) first rest desk is stands =
+    let db = databases first rest in
+    let so = in_force_numbered db first rest 1 n desk.catalog desk.later.items stands (λ m. ap (numbered first rest) (up_one m)) in
+    let same : up n 1 ≡ desk.volatile.version = up_one n ∙ sym is in
+    record { here = subst (λ v. InForce db v desk.catalog) same so.0; next = subst (λ v. AreNextOf db v desk.later.items) same so.1 }
 
 -- a database of a chain is placed under each of its catalogues
 pub list_placed : (first : Catalogue) (rest : List Catalogue) → Follow first rest → (n : ℕ) (whole : Relations) → FitsSchema (schemas_of first) whole → ListPlaced (databases first rest) n (numbered first rest n) whole

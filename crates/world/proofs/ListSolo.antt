@@ -9,8 +9,10 @@ use Rattle.protocol.specs.Client.{IsReached}
 use Rattle.protocol.specs.Desk.{Deed}
 use Rattle.protocol.specs.Letters.{letter_of}
 use Rattle.protocol.specs.Local.{local}
+use Rattle.protocol.specs.Recovery.{RecoveryLaw}
 use Rattle.protocol.specs.Serial.{committed}
-use Rattle.protocol.proofs.ListLaw.{serial_whole_is}
+use Rattle.protocol.proofs.ListLaw.{list_lawful, serial_whole_is}
+use Rattle.protocol.proofs.Recovering.{recovery_law}
 use Rattle.protocol.specs.Site.{inquiries}
 use Rattle.protocol.specs.World.{desk_restarts}
 use Rattle.site.specs.State.{state_of}
@@ -21,6 +23,7 @@ use Rattle.world.specs.ListServed.{IsListServed, IsListServedOn, IsListWaiting, 
 use Rattle.world.specs.Machines.{Machines, world_of}
 use Rattle.world.specs.Settled.{AreThoseOf, after_committed}
 use Rattle.world.specs.Placed.{ListOpens}
+use Rattle.world.specs.Recovery.{ListGoesOnFrom}
 use Rattle.world.proofs.Counting.{with_counts}
 use Rattle.world.proofs.ListCalls.{served_with}
 use Rattle.world.proofs.ListDelivering.{list_reached, list_served_serial}
@@ -51,10 +54,23 @@ module _ (db : Database) (listed : IsListed db) (whole : Relations) (machines : 
   list_served_rebuilds = (list_served_serial db listed whole machines past served).rebuilt
 
 -- ---- machines that come up recover
+pub list_recovery : (db : Database) → IsListed db → RecoveryLaw (language db)
+list_recovery db listed = recovery_law (list_lawful local (statements db) listed.lawful)
+
 module _ (db : Database) (whole : Relations) where
   -- how often media have refused doesn't matter
   pub on_with : (machines : Machines) (counts : List ℕ) (past : List (Deed (language db))) → IsListServedOn db whole machines past → IsListServedOn db whole (with_counts machines counts) past
   on_with machines counts past on = record { deeds = on.deeds; served = served_with db whole machines counts (past ++ on.deeds) on.served }
+
+  pub recovers_with : (past : List (Deed (language db))) (machines : Machines) (counts : List ℕ) → ListGoesOnFrom db whole past machines → ListGoesOnFrom db whole past (with_counts machines counts)
+  recovers_with past machines counts goes = record {
+    more = goes.more;
+    served = served_with db whole machines counts (past ++ goes.more) goes.served;
+    quiet = goes.quiet;
+    unvisited = goes.unvisited;
+    unstated = goes.unstated;
+    uncommitted = goes.uncommitted;
+  }
 
   pub goes_on : (machines : Machines) (past : List (Deed (language db))) (was now : List Notice) → ListGoes db whole machines [] past was now → IsListServedOn db whole machines past
   goes_on machines past was now goes = record { deeds = goes.deeds; served = goes.served }

@@ -287,6 +287,9 @@ module _ (db : Database) (before : Machines) (seat : Seat) (after : List Seat) (
 pub fits_list : (db : Database) (machines : Machines) → AreFit db machines → FitsList db machines
 fits_list db machines fit = record { names = fit.names; leaves = fit.leaves; desk = fit.desk; within = fit.within; sites = fit.sites; still = λ none t. fit.still t }
 
+pub leads_list : (db : Database) (step : World (language db) → World (language db)) (before after : Machines) (out : List letters.Letter) (notices : List Notice) → Leads db step before after out notices → ListLeads db step before after out notices
+leads_list db step before after out notices leads = record { deeds = leads.deeds; fit = fits_list db after leads.fit; is = leads.is; placed = leads.placed; explained = leads.explained; replies = leads.replies }
+
 at_site_alone : (db : Database) (step : World (language db) → World (language db)) (before : Machines) (after : List Seat) (out : List letters.Letter) (notices : List Notice) → AreFit db before → ListLeads db step before (with_seats before after) out notices → Leads db step before (with_seats before after) out notices
 at_site_alone db step before after out notices fit leads = record {
   deeds = leads.deeds;

@@ -45,7 +45,8 @@ use Rattle.desk.specs.Does.{IsPastLimits}
 use Rattle.desk.specs.State.{desk_of}
 use Rattle.world.specs.declared.fault.Fault as faults
 use Rattle.world.specs.declared.fault.Fault.TheVariants as fault
-use Rattle.world.specs.Machines.{AreFit, Machines, is_of_site, is_order, world_of}
+use Rattle.world.specs.Listed.{FitsList}
+use Rattle.world.specs.Machines.{Machines, is_of_site, is_order, world_of}
 use Rattle.world.specs.Reasons.{SiteTells, Tells, TurnsAway}
 use Rattle.world.specs.declared.sites.SiteAction as doing
 use Rattle.world.specs.declared.sites.SiteAction.TheVariants.{Take}
@@ -184,7 +185,7 @@ reply_within s t (reply_kinds.Voted voted) = refl
 reply_within s t (reply_kinds.Ack ticket) = refl
 reply_within s t (reply_kinds.Inquire ticket) = refl
 
-module _ (db : Database) (machines : Machines) (letter : letters.Letter) (fit : AreFit db machines) (seat : Seat) (there : seat_of letter.site machines.seats ≡ Some seat) where
+module _ (db : Database) (machines : Machines) (letter : letters.Letter) (fit : FitsList db machines) (seat : Seat) (there : seat_of letter.site machines.seats ≡ Some seat) where
   abbrev here : SiteState local
   here = state_of seat.kept seat.table
 
@@ -234,7 +235,7 @@ module _ (db : Database) (machines : Machines) (letter : letters.Letter) (fit : 
       go (body.Reply reply) none home = none
 
 -- ---- which case it is
-pub turned_away : (db : Database) (machines : Machines) (letter : letters.Letter) → AreFit db machines → (told : faults.Fault) → Tells db machines letter told → turns_away told ≡ true → TurnsAway db machines letter
+pub turned_away : (db : Database) (machines : Machines) (letter : letters.Letter) → FitsList db machines → (told : faults.Fault) → Tells db machines letter told → turns_away told ≡ true → TurnsAway db machines letter
 turned_away db machines letter fit (fault.Desk told) (inl memory) is = clash is (ap (λ t. turns_away (fault.Desk t)) memory)
 turned_away db machines letter fit (fault.Desk told) (inr full) is = inl full.1
 turned_away db machines letter fit (fault.Site site_fault.Full) tells is = inl (limit_at db machines letter fit tells.0 tells.1.0 (tells.1.1 (seat_has IsSeated letter.site machines.seats tells.0 tells.1.0 fit.sites)))
@@ -307,7 +308,7 @@ module _ {L : Lang} where
   calms_within : (d : Desk L) (t : Name) (y : Txn L) → Calms (d.txn t) y → is_desk_within d ≡ true → is_desk_within (desk_after d t y) ≡ true
   calms_within d t y calms within = turn_within d t y calms.0 calms.1 within
 
-pub turned_ranks : (db : Database) (machines : Machines) (letter : letters.Letter) → AreFit db machines → TurnsAway db machines letter → 2 ≤ rank_in (desk_of db machines.table).txn (sent db letter)
+pub turned_ranks : (db : Database) (machines : Machines) (letter : letters.Letter) → FitsList db machines → TurnsAway db machines letter → 2 ≤ rank_in (desk_of db machines.table).txn (sent db letter)
 turned_ranks db machines letter fit why = by_reason why
   where
     d : Desk (language db)

@@ -12,6 +12,7 @@ use Rattle.store.specs.declared.letter.Letter as letters
 use Rattle.store.specs.declared.name.Ticket.{Ticket}
 use Rattle.store.specs.declared.prepared.Prepared.{Prepared as Kept_row}
 use Rattle.store.specs.DeskContent.{Voters}
+use Rattle.protocol.specs.AfterAbort.{Within}
 use Rattle.protocol.specs.Client.{IsQuiet, IsReached, ReachedLaw}
 use Rattle.protocol.specs.Delivery.{all_come}
 use Rattle.protocol.specs.Desk.{Deed, Txn, Unknown, Known, Row, commits, desk_restarted, is_desk_within, is_undecided, txn_restarted}
@@ -47,15 +48,18 @@ use Rattle.desk.specs.State.{desk_of, txn_at}
 use Rattle.desk.specs.Transaction.{txn_of, voter_of}
 use Rattle.world.specs.Client.{IsServed}
 use Rattle.world.specs.Machines.{AreFit, Leads, Machines, world_of}
-use Rattle.world.specs.Mailbox.{Goes, Scene, settled}
-use Rattle.world.specs.Recovery.{AreUpAgain, GoesOnFrom, HaveNoTicket, lost_by}
+use Rattle.world.specs.Listed.{FitsList, ListLeads}
+use Rattle.world.specs.ListServed.{IsListServed}
+use Rattle.world.specs.Mailbox.{Goes, ListComes, Scene, settled}
+use Rattle.world.specs.Recovery.{AreUpAgain, GoesOnFrom, HaveNoTicket, ListGoesOnFrom, lost_by}
 use Rattle.world.specs.Sites.{IsSeated, Seat, is_called, nobody, state_at, states_of}
 use Rattle.site.proofs.Lawful.{local_lawful}
+use Rattle.world.proofs.Machinery.{fits_list, leads_list}
 use Rattle.world.proofs.Openings.{at_each}
 use Rattle.world.proofs.Reaching.{all_reached}
+use Rattle.world.proofs.Reasoned.{seats_within}
 use Rattle.world.proofs.Running.{all_both}
 use Rattle.world.proofs.Seating.{name_is, name_self, state_there}
-use Rattle.world.proofs.Smoothly.{fit_within}
 use Rattle.world.proofs.Waking.{OneEach, one_each, seat_behind}
 
 -- ---- what a site is as it comes up
@@ -182,7 +186,7 @@ module _ (db : Database) where
   all_homed (l ∷ letters) all = (homed l.body all.0.0, all_homed letters all.1)
 
   -- ---- machines that have come up
-  module _ (machines : Machines) (fit : AreFit db machines) (up : AreUpAgain db machines) (past : List (Deed L)) where
+  module _ (machines : Machines) (fit : FitsList db machines) (up : AreUpAgain db machines) (past : List (Deed L)) where
     abbrev w : World L
     w = world_of db machines [] past
 
@@ -207,7 +211,7 @@ module _ (db : Database) where
         (λ full. record { decided = stands_decided; unvisited = λ a. (rests_at a).unvisited; listed = λ a. (rests_at a).listed; nowhere = nowhere_else; only = tt })
 
     -- nothing is committed by it
-    restart_vain : (after : Machines) (out : List letters.Letter) (notices : List Notice) (leads : Leads db desk_restarts machines after out notices) → committed (past ++ leads.deeds) ≡ committed past
+    restart_vain : (after : Machines) (out : List letters.Letter) (notices : List Notice) (leads : ListLeads db desk_restarts machines after out notices) → committed (past ++ leads.deeds) ≡ committed past
     restart_vain after out notices leads =
         sym (ap (λ (v : World L). committed v.past) (leads.is [] past))
         ∙ either_if (λ (v : World L). committed v.past ≡ committed past) (is_desk_within (desk_restarted w.desk)) (desk_lives w) w
@@ -215,7 +219,7 @@ module _ (db : Database) where
         (λ full. refl)
 
     -- and nothing is stated
-    restart_mute : (after : Machines) (out : List letters.Letter) (notices : List Notice) (leads : Leads db desk_restarts machines after out notices) (t : Name) → statements_of (past ++ leads.deeds) t ≡ statements_of past t
+    restart_mute : (after : Machines) (out : List letters.Letter) (notices : List Notice) (leads : ListLeads db desk_restarts machines after out notices) (t : Name) → statements_of (past ++ leads.deeds) t ≡ statements_of past t
     restart_mute after out notices leads t =
         sym (ap (λ (v : World L). statements_of v.past t) (leads.is [] past))
         ∙ either_if (λ (v : World L). statements_of v.past t ≡ statements_of past t) (is_desk_within (desk_restarted w.desk)) (desk_lives w) w
@@ -313,19 +317,27 @@ module _ (db : Database) where
       (none_listed seat fits.0 (λ k. subst (λ (s : SiteState L). is_dead (s.status k) ≡ true) own.0 (dead seat.name k)), no_ticket seats rest own.1 fits.1 dead)
 
   -- ---- all together
-  pub recovers : (law : ReachedLaw L) (recovery : RecoveryLaw L) (distinct : AreDistinct db.sites) (whole : Relations) (past : List (Deed L)) (before mid after : Machines) (commits asked : List letters.Letter) (notices heard : List Notice) (scene : Scene) →
-      IsServed db whole before past → AreUpAgain db before → Leads db desk_restarts before mid commits notices →
+  -- what has become of a reached world, all of it quiet
+  pub record Recovered (opened : L.Whole) (past : List (Deed L)) (after : Machines) : Type 0 where
+    pub more : List (Deed L)
+    pub reached : IsReached opened (world_of db after [] (past ++ more))
+    pub quiet : IsQuiet (world_of db after [] (past ++ more))
+    pub unvisited : HaveNoTicket after.seats
+    pub unstated : (txn : Name) → statements_of (past ++ more) txn ≡ statements_of past txn
+    pub uncommitted : committed (past ++ more) ≡ committed past
+
+  recovered : (law : ReachedLaw L) (recovery : RecoveryLaw L) (distinct : AreDistinct db.sites) (opened : L.Whole) (past : List (Deed L)) (before mid after : Machines) (commits asked : List letters.Letter) (notices heard : List Notice) (scene : Scene) →
+      IsReached opened (world_of db before [] past) → FitsList db before → AreUpAgain db before → ListLeads db desk_restarts before mid commits notices →
       map letter_of asked ≡ map letter_of commits ++ flat_map (λ seat. inquiries seat.name (state_of seat.kept seat.table)) mid.seats →
-      scene.waiting ≡ asked → (same : (ls : List (Letter L)) (ds : List (Deed L)) → world_of db scene.machines ls ds ≡ world_of db mid ls ds) → AreFit db scene.machines →
-      Goes db (λ w. w) scene (settled after heard) → GoesOnFrom db whole past after
-  recovers law recovery distinct whole past before mid after commits asked notices heard scene served up leads more waits same fit goes =
-      let opened : L.Whole = (served.version, whole) in
+      scene.waiting ≡ asked → (same : (ls : List (Letter L)) (ds : List (Deed L)) → world_of db scene.machines ls ds ≡ world_of db mid ls ds) → FitsList db scene.machines →
+      ListComes db scene (settled after heard) → Recovered opened past after
+  recovered law recovery distinct opened past before mid after commits asked notices heard scene was_reached fits up leads more waits same fit goes =
       let now = past ++ leads.deeds in
       let w1 = world_of db before [] past in
       let w2 = world_of db mid (map (sent db) commits) now in
       let w3 = world_of db mid (map (sent db) asked) now in
-      let rest : AtRest w2 = subst AtRest (leads.is [] past) (restart_rests before served.fit up past) in
-      let reached2 : IsReached opened w2 = subst (IsReached opened) (leads.is [] past) (law.desk_restarted opened w1 served.reached) in
+      let rest : AtRest w2 = subst AtRest (leads.is [] past) (restart_rests before fits up past) in
+      let reached2 : IsReached opened w2 = subst (IsReached opened) (leads.is [] past) (law.desk_restarted opened w1 was_reached) in
       let each : OneEach [] mid.seats = one_each db.sites distinct [] mid.seats leads.fit.names (λ name here. tt) in
       let all_ask : all_inquire db.sites w2 ≡ w3 =
       subst (λ (names : List (List ℕ)). all_inquire names w2 ≡ w3) leads.fit.names
@@ -336,7 +348,7 @@ module _ (db : Database) where
       let start = world_of db scene.machines (map (sent db) scene.waiting) now in
       let recovering = subst (Recovering now) (sym begins) recovering3 in
       let reached = subst (IsReached opened) (sym begins) reached3 in
-      let within = fit_within db scene.machines (map (sent db) scene.waiting) now fit in
+      let within : Within start = record { desk = fit.within; sites = λ name. seats_within db scene.machines.seats name fit.sites } in
       let founded = goes.founded (all_homed (map (sent db) scene.waiting) recovering.only) now in
       let ended : Recovering now (world_of db after [] (now ++ goes.deeds)) = subst (Recovering now) (goes.is now) (recovery.come now goes.comings start within founded recovering) in
       let quiet = recovery.quiet now (world_of db after [] (now ++ goes.deeds)) ended refl in
@@ -345,23 +357,60 @@ module _ (db : Database) where
       let reached_last : IsReached opened (world_of db after [] (now ++ goes.deeds)) = subst (IsReached opened) (goes.is now) (all_reached law opened goes.comings start reached all_here) in
       record {
         more = leads.deeds;
-        served = record { version = served.version; reached = subst (λ ds. IsReached opened (world_of db after [] ds)) quiet.1 reached_last; fit = goes.fit };
+        reached = subst (λ ds. IsReached opened (world_of db after [] ds)) quiet.1 reached_last;
         quiet = subst (λ ds. IsQuiet (world_of db after [] ds)) quiet.1 quiet.0;
         unvisited = no_ticket after.seats after.seats (own_states [] after.seats (one_each db.sites distinct [] after.seats goes.fit.names (λ name here. tt))) goes.fit.sites (all_dead now (world_of db after [] (now ++ goes.deeds)) ended refl);
-        unstated = restart_mute before served.fit up past mid commits notices leads;
-        uncommitted = restart_vain before served.fit up past mid commits notices leads;
+        unstated = restart_mute before fits up past mid commits notices leads;
+        uncommitted = restart_vain before fits up past mid commits notices leads;
       }
 
-  -- what was lost as machines came up commits nobody
+  pub recovers : (law : ReachedLaw L) (recovery : RecoveryLaw L) (distinct : AreDistinct db.sites) (whole : Relations) (past : List (Deed L)) (before mid after : Machines) (commits asked : List letters.Letter) (notices heard : List Notice) (scene : Scene) →
+      IsServed db whole before past → AreUpAgain db before → Leads db desk_restarts before mid commits notices →
+      map letter_of asked ≡ map letter_of commits ++ flat_map (λ seat. inquiries seat.name (state_of seat.kept seat.table)) mid.seats →
+      scene.waiting ≡ asked → (same : (ls : List (Letter L)) (ds : List (Deed L)) → world_of db scene.machines ls ds ≡ world_of db mid ls ds) → AreFit db scene.machines →
+      Goes db (λ w. w) scene (settled after heard) → GoesOnFrom db whole past after
+  recovers law recovery distinct whole past before mid after commits asked notices heard scene served up leads more waits same fit goes =
+      let so = recovered law recovery distinct (served.version, whole) past before mid after commits asked notices heard scene served.reached (fits_list db before served.fit) up (leads_list db desk_restarts before mid commits notices leads) more waits same (fits_list db scene.machines fit)
+      (record { comings = goes.comings; deeds = goes.deeds; fit = fits_list db after goes.fit; is = goes.is; placed = goes.placed; founded = goes.founded; explained = goes.explained; replies = goes.replies }) in
+      record { more = so.more; served = record { version = served.version; reached = so.reached; fit = goes.fit }; quiet = so.quiet; unvisited = so.unvisited; unstated = so.unstated; uncommitted = so.uncommitted }
+
+  -- so over a list of catalogues
+  pub list_recovers : (law : ReachedLaw L) (recovery : RecoveryLaw L) (distinct : AreDistinct db.sites) (whole : Relations) (past : List (Deed L)) (before mid after : Machines) (commits asked : List letters.Letter) (notices heard : List Notice) (scene : Scene) →
+      IsListServed db whole before past → AreUpAgain db before → ListLeads db desk_restarts before mid commits notices →
+      map letter_of asked ≡ map letter_of commits ++ flat_map (λ seat. inquiries seat.name (state_of seat.kept seat.table)) mid.seats →
+      scene.waiting ≡ asked → (same : (ls : List (Letter L)) (ds : List (Deed L)) → world_of db scene.machines ls ds ≡ world_of db mid ls ds) → FitsList db scene.machines →
+      ListComes db scene (settled after heard) → ListGoesOnFrom db whole past after
+  list_recovers law recovery distinct whole past before mid after commits asked notices heard scene served up leads more waits same fit goes =
+      let so = recovered law recovery distinct (served.version, whole) past before mid after commits asked notices heard scene served.reached served.fit up leads more waits same fit goes in
+      record { more = so.more; served = record { version = served.version; reached = so.reached; fit = goes.fit }; quiet = so.quiet; unvisited = so.unvisited; unstated = so.unstated; uncommitted = so.uncommitted }
+
+  -- what was lost as machines came up commits nobody, and states nothing
+  lost_mute : (past : List (Deed L)) (old : Machines) (t : Name) → statements_of (past ++ lost_by db old) t ≡ statements_of past t
+  lost_mute past old t = statements_still past (lost_by db old) t (every_flat IsMute (λ t. (txn_restarted t ((desk_of db old.table).txn t)).deeds) (desk_of db old.table).known (λ t. restarted_mute t ((desk_of db old.table).txn t)))
+
+  lost_vain : (past : List (Deed L)) (old : Machines) → committed (past ++ lost_by db old) ≡ committed past
+  lost_vain past old = committed_still past (lost_by db old) (every_flat (λ d. is_of_commit d ≡ false) (λ t. (txn_restarted t ((desk_of db old.table).txn t)).deeds) (desk_of db old.table).known (λ t. restarted_vain t ((desk_of db old.table).txn t)))
+
   pub goes_further : (whole : Relations) (past : List (Deed L)) (old machines : Machines) → GoesOnFrom db whole (past ++ lost_by db old) machines → GoesOnFrom db whole past machines
   goes_further whole past old machines goes =
-      let more = lost_by db old ++ goes.more in
       let same = append_assoc past (lost_by db old) goes.more in
       record {
-        more = more;
+        more = lost_by db old ++ goes.more;
         served = subst (IsServed db whole machines) same goes.served;
         quiet = subst (λ ds. IsQuiet (world_of db machines [] ds)) same goes.quiet;
         unvisited = goes.unvisited;
-        unstated = λ t. ap (λ ds. statements_of ds t) (sym same) ∙ goes.unstated t ∙ statements_still past (lost_by db old) t (every_flat IsMute (λ t. (txn_restarted t ((desk_of db old.table).txn t)).deeds) (desk_of db old.table).known (λ t. restarted_mute t ((desk_of db old.table).txn t)));
-        uncommitted = ap committed (sym same) ∙ goes.uncommitted ∙ committed_still past (lost_by db old) (every_flat (λ d. is_of_commit d ≡ false) (λ t. (txn_restarted t ((desk_of db old.table).txn t)).deeds) (desk_of db old.table).known (λ t. restarted_vain t ((desk_of db old.table).txn t)));
+        unstated = λ t. ap (λ ds. statements_of ds t) (sym same) ∙ goes.unstated t ∙ lost_mute past old t;
+        uncommitted = ap committed (sym same) ∙ goes.uncommitted ∙ lost_vain past old;
+      }
+
+  pub list_further : (whole : Relations) (past : List (Deed L)) (old machines : Machines) → ListGoesOnFrom db whole (past ++ lost_by db old) machines → ListGoesOnFrom db whole past machines
+  list_further whole past old machines goes =
+      let same = append_assoc past (lost_by db old) goes.more in
+      record {
+        more = lost_by db old ++ goes.more;
+        served = subst (IsListServed db whole machines) same goes.served;
+        quiet = subst (λ ds. IsQuiet (world_of db machines [] ds)) same goes.quiet;
+        unvisited = goes.unvisited;
+        unstated = λ t. ap (λ ds. statements_of ds t) (sym same) ∙ goes.unstated t ∙ lost_mute past old t;
+        uncommitted = ap committed (sym same) ∙ goes.uncommitted ∙ lost_vain past old;
       }

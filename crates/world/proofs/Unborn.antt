@@ -28,7 +28,7 @@ use Rattle.site.specs.Recovery.{resting}
 use Rattle.site.specs.State as site_state
 use Rattle.site.specs.State.{AreHad, stands}
 use Rattle.site.proofs.PreparedRows.{all_leaves, all_write, none_read, none_released}
-use Rattle.desk.specs.CatalogueDatabase.{database}
+use Rattle.desk.specs.CatalogueDatabase.{database, databases, numbered}
 use Rattle.desk.specs.Database.{Database}
 use Rattle.desk.specs.Recovery as desk_recovery
 use Rattle.desk.specs.Recovery.{Rises}
@@ -36,13 +36,17 @@ use Rattle.desk.specs.State.{Fits, VolatileState, volatile_from}
 use Rattle.desk.proofs.Settled.{is_within}
 use Rattle.world.specs.Filling.{filled, kept_with}
 use Rattle.world.specs.Leaves.{known_leaves}
+use Rattle.world.specs.Listed.{IsListed}
 use Rattle.world.specs.Machines.{Machines, world_of}
+use Rattle.world.specs.Placed.{ListPlaced}
 use Rattle.world.specs.Recovery.{HaveLeaves}
 use Rattle.world.specs.Sites.{Seat}
-use Rattle.world.specs.Start.{AllStarted, HasNoRows, IsAtRest, KeepNothing, KeepsNothing, NewStoresLaw, WereServed}
+use Rattle.world.specs.Start.{AllStarted, HasNoRows, IsAtRest, KeepNothing, KeepsNothing, ListNewStoresLaw, NewStoresLaw, WereServed}
 use Rattle.world.proofs.DatabaseIsOpened.{placed}
+use Rattle.world.proofs.DatabasePlaces.{content_none, content_there}
 use Rattle.world.proofs.Filled.{no_row}
-use Rattle.world.proofs.Openings.{opens_of}
+use Rattle.world.proofs.ListSolo.{opens_served}
+use Rattle.world.proofs.Openings.{has_leaf, list_opens_of, opens_of}
 
 none_sorted : {K : Type 0} (cmp : K → K → Ordering) → IsStrictlySortedBy cmp []
 unfolding IsStrictlySortedBy
@@ -163,3 +167,32 @@ module _ (c : Catalogue) (whole : Relations) (empty : HasNoRows whole) where
 
 pub new_stores_law : (c : Catalogue) → IsFormed c → NewStoresLaw c
 new_stores_law c formed whole of_desk of_sites fits empty size nothing = were_served c whole empty formed of_desk of_sites fits size nothing
+
+-- ---- over a list of catalogues
+-- the one in force has its leaves at its sites
+list_placed_at : (first : Catalogue) (rest : List Catalogue) → IsListed (databases first rest) → (n : ℕ) (whole : Relations) → FitsSchema (schemas_of first) whole → ListPlaced (databases first rest) n (numbered first rest n) whole
+list_placed_at first rest listed n whole fits = record {
+  sites = listed.base.of_catalogue.sites n;
+  fits = fits;
+  has = λ name leaf site there is. content_there (numbered first rest n) site name whole leaf there is;
+  nowhere = λ place none. content_none (numbered first rest n) place.0 place.1 whole none;
+}
+
+pub list_new_stores : (first : Catalogue) (rest : List Catalogue) → IsListed (databases first rest) → ListNewStoresLaw first rest
+list_new_stores first rest listed whole of_desk of_sites fits empty size nothing =
+    let db = databases first rest in
+    let of = listed.base.of_catalogue in
+    let n = of_desk.version in
+    let c = numbered first rest n in
+    let have : HaveLeaves c of_sites = subst (λ schemas. AllByRecursion (λ (kept : SiteContent). AreHad (known_leaves schemas) kept) of_sites) (of.schemas n) nothing.leaves in
+    let many : length of_sites ≡ length c.sites = size ∙ ap (λ (sites : List (List ℕ)). length sites) (of.sites n) in
+    let seats = unborn_seats c whole empty c.sites of_sites in
+    let machines : Machines = record { desk = of_desk; table = unborn_table db of_desk nothing.commits nothing.life; seats = seats; later = []; refused = [] } in
+    let opens = list_opens_of db c whole machines (of.formed n) (list_placed_at first rest listed n whole fits) (λ seat own leaf home. has_leaf (db.catalogue home.version) seat (of.formed home.version) (own ∙ ap known_leaves (sym (of.schemas n) ∙ of.schemas home.version)) leaf home.there)
+    (unborn_started c whole empty 0 c.sites of_sites many have nothing.sites) (unborn_rises db of_desk nothing.commits nothing.life) nothing.commits in
+    record {
+      machines = machines;
+      kept = record { desk = refl; sites = unborn_kept c whole empty c.sites of_sites many };
+      memory = record { entries = []; is = refl; ascend = none_sorted txn_cmp };
+      served = opens_served db whole machines opens;
+    }

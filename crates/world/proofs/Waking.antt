@@ -23,11 +23,14 @@ use Rattle.desk.specs.State.{IsMemory, desk_of}
 use Rattle.desk.proofs.Restarted.{risen}
 use Rattle.world.specs.Client.{IsServed}
 use Rattle.world.specs.declared.sites.SiteAction.TheVariants.{Restart}
-use Rattle.world.specs.Machines.{AreFit, Leads, Machines, world_of}
-use Rattle.world.specs.Recovery.{AllWake, ComeUp, ComingUpLaw, Wakes, lost_by}
+use Rattle.world.specs.Listed.{FitsList, IsListed, ListLeads}
+use Rattle.world.specs.ListServed.{IsListServed}
+use Rattle.world.specs.Machines.{Machines, world_of}
+use Rattle.world.specs.Recovery.{AllWake, ComeUp, ComingUpLaw, ListComeUp, ListComingUpLaw, Wakes, lost_by}
 use Rattle.world.specs.Seated.{SomeSeatDoes}
 use Rattle.world.specs.Sites.{IsSeated, Seat, is_called, reseated, seat_of, states_of}
-use Rattle.world.proofs.Machinery.{done_leads, with_seats}
+use Rattle.world.proofs.ListDelivering.{list_reached}
+use Rattle.world.proofs.Machinery.{fits_list, list_done, with_seats}
 use Rattle.world.proofs.Reasoned.{no_choice}
 use Rattle.world.proofs.Seating.{name_is, name_self}
 
@@ -66,7 +69,7 @@ module _ (db : Database) (law : ReachedLaw (language db)) (whole : (language db)
   -- machines that stand after a run
   pub record Reached (machines : Machines) (past : List (Deed (language db))) : Type 0 where
     pub reached : IsReached whole (world_of db machines [] past)
-    pub fit : AreFit db machines
+    pub fit : FitsList db machines
 
   among : (name : List ℕ) (names : List (List ℕ)) (seats : List Seat) (seat : Seat) → map (λ (s : Seat). s.name) seats ≡ names → seat_of name seats ≡ Some seat → list_any (λ b. pointwise nat_eq b name) names ≡ true
   among name names [] seat same there = cc
@@ -90,7 +93,7 @@ module _ (db : Database) (law : ReachedLaw (language db)) (whole : (language db)
           moves = record { there = there; is = reseated_behind name (rekept old new) done old rest none (name_self name); named = refl; leaves = refl; seated = restarted.fits };
           does = (restarted, refl);
         } in
-        let leads : Leads db (λ w. restarts w name) before (with_seats before after) [] [] = done_leads db before old after [] here.fit (Restart name) (no_choice db) refl did in
+        let leads : ListLeads db (λ w. restarts w name) before (with_seats before after) [] [] = list_done db before old after [] here.fit (Restart name) (no_choice db) refl did in
         let w = world_of db before [] past in
         let same : past ≡ past ++ leads.deeds = sym (steps_past w name (site_restarted (w.sites name)) []) ∙ ap (λ (v : World (language db)). v.past) (leads.is [] past) in
         record {
@@ -172,11 +175,8 @@ one_each (n ∷ names) distinct done (s ∷ rest) same apart =
     more name (d ∷ done) s none here = (none.0, more name done s none.1 here)
 
 -- ---- the machines together
-module _ (db : Database) (law : ReachedLaw (language db)) (whole : Relations) where
-  module _ (distinct : AreDistinct db.sites) (old new : Machines) (past : List (Deed (language db))) (served : IsServed db whole old past) (memory : IsMemory old.table) (up : ComeUp db old new) where
-    abbrev opened : (language db).Whole
-    opened = (served.version, whole)
-
+module _ (db : Database) (law : ReachedLaw (language db)) (opened : (language db).Whole) where
+  module _ (distinct : AreDistinct db.sites) (old new : Machines) (past : List (Deed (language db))) (is_reached : IsReached opened (world_of db old [] past)) (fit : FitsList db old) (memory : IsMemory old.table) (up : ListComeUp db old new) where
     abbrev before : Desk (language db)
     before = desk_of db old.table
 
@@ -185,10 +185,10 @@ module _ (db : Database) (law : ReachedLaw (language db)) (whole : Relations) wh
 
     sites_woken : Reached db law opened woken past
     sites_woken =
-        all_wake db law opened old past [] old.seats new.seats (one_each db.sites distinct [] old.seats served.fit.names (λ name here. tt)) served.fit.sites up.sites (record { reached = served.reached; fit = served.fit })
+        all_wake db law opened old past [] old.seats new.seats (one_each db.sites distinct [] old.seats fit.names (λ name here. tt)) fit.sites up.sites (record { reached = is_reached; fit = fit })
 
     is_risen : desk_of db new.table ≡ desk_restarted before
-    is_risen = risen db old.desk new.desk old.table new.table memory served.fit.desk (subst (λ table. IsStrictlySortedBy txn_cmp table.txns) (sym up.memory.is) up.memory.ascend) up.rises up.life
+    is_risen = risen db old.desk new.desk old.table new.table memory fit.desk (subst (λ table. IsStrictlySortedBy txn_cmp table.txns) (sym up.memory.is) up.memory.ascend) up.rises up.life
 
     desk_woken : IsReached opened (desk_lives (world_of db woken [] past))
     desk_woken =
@@ -201,11 +201,27 @@ module _ (db : Database) (law : ReachedLaw (language db)) (whole : Relations) wh
       sites = fun_ext (states_same db law opened old past old.seats new.seats up.sites) i;
       letters = [];
       past = past ++ lost_by db old;
-      version = (served.fit.desk.version ∙ sym up.life.version ∙ sym up.fit.desk.version) i;
+      version = (fit.desk.version ∙ sym up.life.version ∙ sym up.fit.desk.version) i;
     }
 
-    pub come_up : IsServed db whole new (past ++ lost_by db old)
-    come_up = record { version = served.version; reached = subst (IsReached opened) same_world (law.silenced opened (desk_lives (world_of db woken [] past)) desk_woken); fit = up.fit }
+    pub come_up : IsReached opened (world_of db new [] (past ++ lost_by db old))
+    come_up = subst (IsReached opened) same_world (law.silenced opened (desk_lives (world_of db woken [] past)) desk_woken)
 
 pub coming_up_law : (db : Database) → ReachedLaw (language db) → AreDistinct db.sites → ComingUpLaw db
-coming_up_law db law distinct = record { served = λ whole old new past served memory up. come_up db law whole distinct old new past served memory up }
+coming_up_law db law distinct = record {
+  served = λ whole old new past served memory up. record {
+    version = served.version;
+    reached = come_up db law (served.version, whole) distinct old new past served.reached (fits_list db old served.fit) memory (record { fit = fits_list db new up.fit; sites = up.sites; rises = up.rises; life = up.life; memory = up.memory });
+    fit = up.fit;
+  };
+}
+
+-- so over a list
+pub list_coming_up : (db : Database) → IsListed db → ListComingUpLaw db
+list_coming_up db listed whole old new past served memory up =
+    let distinct : AreDistinct db.sites = subst AreDistinct (sym (listed.base.of_catalogue.sites 0)) (listed.base.of_catalogue.formed 0).distinct in
+    record {
+      version = served.version;
+      reached = come_up db (list_reached db listed) (served.version, whole) distinct old new past served.reached served.fit memory up;
+      fit = up.fit;
+    }

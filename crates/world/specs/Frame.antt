@@ -18,7 +18,7 @@ use Rattle.world.specs.Machines.{AreFit, Machines}
 use Rattle.world.specs.Client.{IsServed, IsServedOn}
 use Rattle.world.specs.Course.{Made, Move}
 use Rattle.world.specs.ListServed.{IsListServed, IsListServedOn, IsListWaiting, ListGoes, ListMade}
-use Rattle.world.specs.Listed.{IsListed, StandsIn}
+use Rattle.world.specs.Listed.{FitsList, IsListed, StandsIn}
 use Rattle.world.specs.Stopping.{StopsFor, is_stop}
 
 -- the catalogue in force stays so, where none comes after it. later: those that come after it
@@ -95,6 +95,10 @@ MakesMoves db before after (Err told) kind = (is_stop told ≡ true) ⊎ HasMade
 -- something holds of each database in whose list the machines stand and that had served one client, with what had happened; and they stand in it after the call
 abbrev pub OverLists : {D S : Type 0} → (code.Machines D S → Type 0) → (code.Machines D S → Type 0) → (code.Machines D S → Machines) → code.Machines D S → code.Machines D S → ((db : Database) → Relations → List (Deed (language db)) → Type 0) → Type 0
 OverLists clean sound view old new P = (db : Database) (whole : Relations) (past : List (Deed (language db))) → IsListed db → StandsIn db old.desk → clean new → sound old → IsListServed db whole (view old) past → P db whole past × StandsIn db new.desk
+
+-- so whatever has happened, where memory fitted the stores
+abbrev pub OverFitting : {D S : Type 0} → (code.Machines D S → Type 0) → (code.Machines D S → Type 0) → (code.Machines D S → Machines) → code.Machines D S → code.Machines D S → (Database → Machines → Machines → Type 0) → Type 0
+OverFitting clean sound view old new P = (db : Database) → IsListed db → StandsIn db old.desk → clean new → sound old → FitsList db (view old) → P db (view old) (view new)
 
 -- moves of this kind are made by a call that answers this, unless it stops the database: then more was done, and of what was heard nothing is said
 abbrev pub ListMakes : {T : Type 0} → (db : Database) → Relations → Machines → List (Deed (language db)) → Result T Refusal → (Result T Refusal → List Move → Type 0) → Type 0

@@ -1,6 +1,6 @@
 -- One client's database over a list of catalogues, of which another one may come into force: what it has been through, and what its calls do.
-use Rattle.std.specs.Prelude.{◌≡◌, ℕ, List, [], ◌++◌, map}
-use Rattle.std.specs.List.{filter_map}
+use Rattle.std.specs.Prelude.{◌≡◌, ◌⊎◌, ⊤, ℕ, true, List, [], ◌++◌, map, Ok, Err}
+use Rattle.std.specs.List.{AllByRecursion, filter_map}
 use Rattle.meaning.specs.Whole.{Relations}
 use Rattle.store.specs.declared.letter.Letter as letters
 use Rattle.protocol.specs.Accepted.{stated_of}
@@ -9,16 +9,21 @@ use Rattle.protocol.specs.Client.{IsReached}
 use Rattle.protocol.specs.Desk.{Deed}
 use Rattle.protocol.specs.Local.{local}
 use Rattle.protocol.specs.Serial.{phases_of}
+use Rattle.desk.specs.declared.refusal.Refusal.{Refusal}
 use Rattle.desk.specs.declared.reply.Notice.{Notice}
 use Rattle.desk.specs.Database.{Database, language, sent, statements}
 use Rattle.desk.specs.State.{notice_of}
 use Rattle.desk.specs.Transition.{told}
+use Rattle.world.specs.declared.event.Call as calls
+use Rattle.world.specs.declared.event.Call.TheVariants as call
 use Rattle.world.specs.declared.event.Entry.{Entry}
-use Rattle.world.specs.Course.{Move, said_in}
+use Rattle.world.specs.Course.{Begins, Commits, Move, Refragments, Refuses, Rolls_back, States, said_in}
 use Rattle.world.specs.Listed.{FitsList}
 use Rattle.world.specs.Machines.{Machines, world_of}
+use Rattle.world.specs.Refused.{IsRefused}
 use Rattle.world.specs.Replies.{Tells}
 use Rattle.world.specs.Runs.{IsSerialRun}
+use Rattle.world.specs.Stopping.{is_stop}
 
 -- after some list of events, of which one client forgets the letters that have gone, the world is that of these machines, of these letters that wait, and of these deeds. version: the number of the catalogue in force as it opened
 pub record IsListWaiting (db : Database) (whole : Relations) (machines : Machines) (waiting : List letters.Letter) (past : List (Deed (language db))) : Type 0 where
@@ -43,12 +48,32 @@ pub record ListGoes (db : Database) (whole : Relations) (machines : Machines) (w
   pub unstated : stated_of deeds ≡ []
   pub replies : map notice_of now ≡ map notice_of was ++ filter_map (told db) deeds
 
--- moves of this kind were made, by further deeds: what was asked for and heard tells of them, with all that was asked for and heard before
+-- the machines that were served once some of the deeds had been done refuse a call, for a reason of the coordinator's. past: what had happened before them
+pub record RefusedOnTheWay (db : Database) (whole : Relations) (past deeds : List (Deed (language db))) (asked : calls.Call) (told : Refusal) : Type 0 where
+  pub machines : Machines
+  pub done : List (Deed (language db))
+  pub left : List (Deed (language db))
+  pub split : deeds ≡ done ++ left
+  pub served : IsListServed db whole machines (past ++ done)
+  pub reason : IsRefused db machines.later machines.table asked told
+
+-- why a move was refused, if it was: memory ran out or a store failed, or the coordinator refuses it
+abbrev pub HasReason : (db : Database) → Relations → (past deeds : List (Deed (language db))) → Move → Type 0
+HasReason db whole past deeds (Begins txn heard) = ⊤
+HasReason db whole past deeds (States txn text heard) = ⊤
+HasReason db whole past deeds (Commits txn heard) = ⊤
+HasReason db whole past deeds (Rolls_back txn heard) = ⊤
+HasReason db whole past deeds (Refragments text (Ok heard)) = ⊤
+HasReason db whole past deeds (Refragments text (Err told)) = (is_stop told ≡ true) ⊎ RefusedOnTheWay db whole past deeds (call.Refragment text) told
+HasReason db whole past deeds (Refuses asked told) = (is_stop told ≡ true) ⊎ RefusedOnTheWay db whole past deeds asked told
+
+-- moves of this kind were made, by further deeds: what was asked for and heard tells of them, with all that was asked for and heard before; and each that was refused has its reason
 pub record ListMade (db : Database) (whole : Relations) (machines : Machines) (past : List (Deed (language db))) (kind : List Move → Type 0) : Type 0 where
   pub moves : List Move
   pub deeds : List (Deed (language db))
   pub served : IsListServed db whole machines (past ++ deeds)
   pub tells : (entries : List Entry) → Tells db entries past → Tells db (entries ++ said_in moves) (past ++ deeds)
+  pub reasons : AllByRecursion (HasReason db whole past deeds) moves
   pub is : kind moves
 
 -- the serial law of a client's database over this list: the committed transactions, ordinary ones and REFRAGMENTs, one after another over the whole relations, give the answers that were given and, under the catalogue in force, what the settled fragments rebuild

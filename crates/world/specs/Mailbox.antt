@@ -13,6 +13,7 @@ use Rattle.desk.specs.Database.{Database, language, sent}
 use Rattle.desk.specs.State.{notice_of}
 use Rattle.desk.specs.Transition.{told}
 use Rattle.world.specs.Counted.{HaveRefused, KeptUnless, NoFewer}
+use Rattle.world.specs.Listed.{FitsList}
 use Rattle.world.specs.Machines.{AreFit, AreOfPlaces, IsForNow, Machines, world_of}
 
 -- machines, the letters that wait, oldest first, and what the client has heard
@@ -44,6 +45,17 @@ pub record Breaks (db : Database) (step : World (language db) → World (languag
   pub is : (past : List (Deed (language db))) → all_come comings (step (world_of db before.machines (map (sent db) before.waiting) past)) ≡ world_of db after left (past ++ deeds)
   pub version : after.table.version ≡ before.machines.table.version
   pub explained : AllExplained deeds
+
+-- so some letters come over a list of catalogues, of which another one may come into force; whatever stores refuse
+pub record ListComes (db : Database) (before after : Scene) : Type 0 where
+  pub comings : List (Coming (language db))
+  pub deeds : List (Deed (language db))
+  pub fit : FitsList db after.machines
+  pub is : (past : List (Deed (language db))) → all_come comings (world_of db before.machines (map (sent db) before.waiting) past) ≡ world_of db after.machines (map (sent db) after.waiting) (past ++ deeds)
+  pub placed : AreOfPlaces db before.waiting → AreOfPlaces db after.waiting
+  pub founded : AreOfPlaces db before.waiting → (past : List (Deed (language db))) → AllFounded comings (world_of db before.machines (map (sent db) before.waiting) past)
+  pub explained : AllExplained deeds
+  pub replies : map notice_of after.heard ≡ map notice_of before.heard ++ filter_map (told db) deeds
 
 -- machines at rest: nothing waits, and nothing was heard
 abbrev pub at_rest : Machines → Scene

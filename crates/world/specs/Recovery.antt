@@ -24,7 +24,7 @@ use Rattle.site.specs.State as site_state
 use Rattle.site.specs.State.{AreHad}
 use Rattle.desk.specs.declared.desk.Desk.{Desk as Coordinator}
 use Rattle.desk.specs.declared.refusal.Refusal.TheVariants as refusals
-use Rattle.desk.specs.CatalogueDatabase.{database}
+use Rattle.desk.specs.CatalogueDatabase.{database, databases}
 use Rattle.desk.specs.Database.{Database, language}
 use Rattle.desk.specs.Recovery.{Rises}
 use Rattle.desk.specs.Request.{IsOver}
@@ -33,6 +33,8 @@ use Rattle.world.specs.declared.fault.Fault as faults
 use Rattle.world.specs.declared.fault.Fault.TheVariants.{Desk, Site as OfSite}
 use Rattle.world.specs.Client.{IsServed}
 use Rattle.world.specs.Leaves.{known_leaves}
+use Rattle.world.specs.Listed.{FitsList, StandsIn}
+use Rattle.world.specs.ListServed.{IsListServed}
 use Rattle.world.specs.Machines.{AreFit, Machines, world_of}
 use Rattle.world.specs.Seated.{seats_in}
 use Rattle.world.specs.Settled.{after_committed}
@@ -158,3 +160,44 @@ GoesOnOver catalogue of_desk of_sites machines = (whole : Relations) (old : Mach
 abbrev pub BeginsAnewOver : (catalogue : Catalogue) → DeskContent → List SiteContent → Machines → Type 0
 BeginsAnewOver catalogue of_desk of_sites machines = (whole : Relations) (old : Machines) (past : List (Deed (language (database catalogue)))) → HaveLeaves catalogue of_sites → IsServed (database catalogue) whole old past → IsMemory old.table → AreKept old of_desk of_sites
     → IsBeginning (database catalogue) (after_committed (database catalogue) past whole) machines
+
+-- ---- over a list of catalogues, whichever is in force
+-- machines that have come up over what the stores of others kept
+pub record ListComeUp (db : Database) (old new : Machines) : Type 0 where
+  pub fit : FitsList db new
+  pub sites : AllWake old.seats new.seats
+  pub rises : Rises db new.desk new.table
+  pub life : desk_content.BeginsLife old.desk new.desk
+  pub memory : IsMemory new.table
+
+-- Machines over a list that come up over what the stores of others kept go on from what those did: they are those of the same run after restarts, under the catalogue whose number the coordinator's store keeps
+abbrev pub ListComingUpLaw : Database → Type 0
+ListComingUpLaw db = (whole : Relations) (old new : Machines) (past : List (Deed (language db))) → IsListServed db whole old past → IsMemory old.table → ListComeUp db old new → IsListServed db whole new (past ++ lost_by db old)
+
+-- A database over a list goes on from what happened before: it is served, all is quiet, no ticket stands at any site, and nothing more has been stated or committed
+pub record ListGoesOnFrom (db : Database) (whole : Relations) (past : List (Deed (language db))) (machines : Machines) : Type 0 where
+  pub more : List (Deed (language db))
+  pub served : IsListServed db whole machines (past ++ more)
+  pub quiet : IsQuiet (world_of db machines [] (past ++ more))
+  pub unvisited : HaveNoTicket machines.seats
+  pub unstated : (txn : Name) → statements_of (past ++ more) txn ≡ statements_of past txn
+  pub uncommitted : committed (past ++ more) ≡ committed past
+
+-- machines over a list that have come up recover: what was prepared comes to its end, and then all is quiet
+abbrev pub ListRecovers : (db : Database) → Machines → Machines → Type 0
+ListRecovers db before after = (whole : Relations) (past : List (Deed (language db))) → AreUpAgain db before → IsListServed db whole before past → ListGoesOnFrom db whole past after
+
+-- A database over a list begins: it is served over these whole relations, nothing has happened yet, and all is quiet
+pub record IsListBeginning (db : Database) (whole : Relations) (machines : Machines) : Type 0 where
+  pub fits : FitsSchema db.schemas whole
+  pub served : IsListServed db whole machines []
+  pub quiet : IsQuiet (world_of db machines [] [])
+
+-- Where nothing stands in memory, a database over a list that is served begins anew, over the whole relations that its committed transactions have made, under the catalogue in force
+abbrev pub ListBeginsAnewLaw : Database → Type 0
+ListBeginsAnewLaw db = (whole : Relations) (machines : Machines) (past : List (Deed (language db))) → IsListServed db whole machines past → NothingStands machines → IsListBeginning db (after_committed db past whole) machines
+
+-- What a database of a chain goes on from: whatever machines were served over its stores in an earlier run, under whichever catalogue. It begins anew over the whole relations that the committed transactions of that run have made. of_desk, of_sites: what the stores keep; desk: its coordinator, now
+abbrev pub ListGoesOnOver : {D : Type 0} → (first : Catalogue) (rest : List Catalogue) → DeskContent → List SiteContent → Coordinator D → Machines → Type 0
+ListGoesOnOver first rest of_desk of_sites desk machines = (whole : Relations) (old : Machines) (past : List (Deed (language (databases first rest)))) → HaveLeaves first of_sites → IsListServed (databases first rest) whole old past → IsMemory old.table → AreKept old of_desk of_sites
+    → ListGoesOnFrom (databases first rest) whole past machines × IsListBeginning (databases first rest) (after_committed (databases first rest) past whole) machines × StandsIn (databases first rest) desk

@@ -13,14 +13,17 @@ use Rattle.store.specs.Frame.{LeavesStore}
 use Rattle.store.specs.SiteContent.{SiteContent}
 use Rattle.site.specs.Recovery.{Begins}
 use Rattle.site.specs.State.{AreHad}
-use Rattle.desk.specs.CatalogueDatabase.{database}
+use Rattle.desk.specs.CatalogueDatabase.{database, databases}
+use Rattle.desk.specs.declared.desk.Desk.{Desk}
 use Rattle.desk.specs.State.{IsMemory}
 use Rattle.world.specs.Client.{IsServed}
 use Rattle.world.specs.Contents.{OfGiven}
 use Rattle.world.specs.Filling.{filled}
 use Rattle.world.specs.Leaves.{known_leaves}
 use Rattle.world.specs.Machines.{Machines}
-use Rattle.world.specs.Recovery.{AreKept, HaveLeaves, IsBeginning}
+use Rattle.world.specs.Listed.{StandsIn}
+use Rattle.world.specs.ListServed.{IsListServed}
+use Rattle.world.specs.Recovery.{AreKept, HaveLeaves, IsBeginning, IsListBeginning}
 use Rattle.world.specs.Sites.{Seat}
 
 -- a site's store keeps no part and no prepared row, and an incarnation is left
@@ -97,3 +100,19 @@ NewStoresLaw catalogue = (whole : Relations) (of_desk : DeskContent) (of_sites :
 -- A database over new stores begins over relations without rows
 abbrev pub BeginsWithoutRows : Catalogue → DeskContent → List SiteContent → Machines → Type 0
 BeginsWithoutRows catalogue of_desk of_sites machines = (whole : Relations) → FitsSchema (schemas_of catalogue) whole → HasNoRows whole → KeepNothing catalogue of_desk of_sites → IsBeginning (database catalogue) whole machines
+
+-- ---- over a list of catalogues
+-- machines of a chain's database that keep what these stores keep were served over whole relations, and nothing has happened
+pub record ListWereServed (first : Catalogue) (rest : List Catalogue) (of_desk : DeskContent) (of_sites : List SiteContent) (whole : Relations) : Type 0 where
+  pub machines : Machines
+  pub kept : AreKept machines of_desk of_sites
+  pub memory : IsMemory machines.table
+  pub served : IsListServed (databases first rest) whole machines []
+
+-- New stores of a chain's database, whichever of its catalogues they say is in force, are those of machines that were served over relations without rows
+abbrev pub ListNewStoresLaw : Catalogue → List Catalogue → Type 0
+ListNewStoresLaw first rest = (whole : Relations) (of_desk : DeskContent) (of_sites : List SiteContent) → FitsSchema (schemas_of first) whole → HasNoRows whole → length of_sites ≡ length first.sites → KeepNothing first of_desk of_sites → ListWereServed first rest of_desk of_sites whole
+
+-- A database of a chain over new stores begins over relations without rows. desk: its coordinator, now
+abbrev pub ListBeginsWithoutRows : {D : Type 0} → (first : Catalogue) (rest : List Catalogue) → DeskContent → List SiteContent → Desk D → Machines → Type 0
+ListBeginsWithoutRows first rest of_desk of_sites desk machines = (whole : Relations) → FitsSchema (schemas_of first) whole → HasNoRows whole → KeepNothing first of_desk of_sites → IsListBeginning (databases first rest) whole machines × StandsIn (databases first rest) desk

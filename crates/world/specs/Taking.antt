@@ -15,7 +15,7 @@ use Rattle.world.specs.declared.fault.Fault.TheVariants.{Desk, Site, Unsent}
 use Rattle.world.specs.Mailbox.{Coming, Scene, done_with}
 use Rattle.world.specs.Counted.{HaveRefused, NoFewer}
 use Rattle.protocol.specs.Delivery.{CallKept, IsKept}
-use Rattle.world.specs.Listed.{ListCame}
+use Rattle.world.specs.Listed.{ListCame, ListLeads}
 use Rattle.world.specs.Machines.{Came, Leads, Machines, world_of}
 use Rattle.world.specs.Reasons.{HasReason}
 
@@ -98,3 +98,9 @@ pub record IsDone (db : Database) (letter : letters.Letter) (before after : Mach
   pub leads : Leads db (done_with (sent db letter) coming) before after out notices
   pub counts : NoFewer before.refused after.refused
   pub kept : IsKept coming ⊎ HaveRefused before.refused after.refused
+
+-- so whichever catalogue comes into force, whatever stores refuse
+pub record ListIsDone (db : Database) (letter : letters.Letter) (before after : Machines) (out : List letters.Letter) (notices : List Notice) : Type 0 where
+  pub coming : Coming (language db)
+  pub reason : HasReason db before letter coming
+  pub leads : ListLeads db (done_with (sent db letter) coming) before after out notices

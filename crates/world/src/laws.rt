@@ -23,13 +23,13 @@ ghost use Rattle.desk.specs.Database.{Database, language, statements};
 ghost use Rattle.desk.specs.CatalogueDatabase.{IsBase, database, databases, fits};
 ghost use Rattle.world.specs.Commands.{CommandsFollow, MovesFollow};
 ghost use Rattle.world.specs.Executed.{ObeysUnlessRefused};
-ghost use Rattle.world.specs.Recovery.{BeginsAnewLaw, ComingUpLaw};
+ghost use Rattle.world.specs.Recovery.{BeginsAnewLaw, ComingUpLaw, ListBeginsAnewLaw, ListComingUpLaw};
 ghost use Rattle.world.specs.Listed.{IsListed};
 ghost use Rattle.world.specs.ListServed.{ListHeardIsSerial, ListServedIsSerial};
 ghost use Rattle.world.specs.Runs.{ListRunsAreSerial, RunsAreSerial, RunsHold};
 ghost use Rattle.world.specs.Client.{ServedIsSerial};
 ghost use Rattle.world.specs.Settling.{GrowsQuiet};
-ghost use Rattle.world.specs.Start.{NewStoresLaw};
+ghost use Rattle.world.specs.Start.{ListNewStoresLaw, NewStoresLaw};
 ghost use Rattle.world.specs.Smoothly.{ServesSmoothly, ServesUnlessRefused};
 ghost use Rattle.world.specs.Stopping.{StopsForMemory};
 ghost use Rattle.world.specs.declared.machines.Machines.{Machines as MachinesNow};
@@ -294,6 +294,14 @@ pub fn machines_come_up(catalog: &Catalog)
     catalog.relations();
     one_client_is_a_run(catalog);
 }
+
+/// So over a list of catalogues, under the one whose number the coordinator's store keeps. Where nothing stands in memory a database begins anew,
+/// and new stores are those of one without rows.
+pub fn lists_come_up()
+    ensures goes_on { (db : Database) → IsListed db → ListComingUpLaw db }
+    ensures anew { (db : Database) → IsListed db → ListBeginsAnewLaw db }
+    ensures without_rows { (first : Catalogue) (rest : List Catalogue) → IsListed (databases first rest) → ListNewStoresLaw first rest }
+{}
 
 /// A database that comes up again: each prepared row comes to its end, and then all is quiet.
 pub fn restarts_recover(catalog: &Catalog)

@@ -2,21 +2,22 @@
 
 ghost use Rattle.std.specs.Prelude.{◌⊎◌, ◌&&◌, not, length, nat_eq, false, ◌≡◌, ◌++◌, ◌∷◌, [], List, ℕ, suc, true, IfErr, IfOk, IfSome, OnErr, OnOk};
 ghost use Rattle.catalog.specs.Relation.{catalogue_of};
-ghost use Rattle.desk.specs.Database.{Database};
+ghost use Rattle.desk.specs.Database.{Database, sent};
 ghost use Rattle.desk.specs.OfCatalogue.{InForce, IsOfCatalogue};
 ghost use Rattle.protocol.specs.Rounds.{RanksUnder};
 ghost use Rattle.desk.specs.declared.refusal.Refusal.TheVariants as refusals;
 ghost use Rattle.store.specs.declared.fault.StoreFault.TheVariants as store_faults;
 ghost use Rattle.world.specs.Counted.{HaveRefused, counts};
-ghost use Rattle.world.specs.Mailbox.{Breaks, Goes, settled};
-ghost use Rattle.world.specs.Frame.{Blames, LeavesDatabase, ListDelivers, OverDatabase, StaysInForce, StaysOnErr};
+ghost use Rattle.protocol.specs.Delivery.{CallKept};
+ghost use Rattle.world.specs.Mailbox.{Breaks, Goes, ListComes, settled};
+ghost use Rattle.world.specs.Frame.{Blames, LeavesDatabase, ListDelivers, OverDatabase, OverFitting, StaysInForce, StaysOnErr};
 ghost use Rattle.world.specs.Listed.{FitsList, IsListed, ListCame, StandsIn};
 ghost use Rattle.store.specs.declared.letter.Letter.{Letter as LetterNow};
 ghost use Rattle.world.specs.Contents.{OfStores, counted, held};
 ghost use Rattle.world.specs.Machines.{AreFit, is_order};
 ghost use Rattle.world.specs.Reasons.{Tells};
 ghost use Rattle.world.specs.Stopping.{StopsFor, is_stop};
-ghost use Rattle.world.specs.Taking.{IsDone, IsInRound, put_out_by, scene, stop_of, turns_away, world_at};
+ghost use Rattle.world.specs.Taking.{IsDone, IsInRound, ListIsDone, put_out_by, scene, stop_of, turns_away, world_at};
 
 use crate::fault::Fault;
 use crate::machines::{Machines, has_site, is_order, put_out};
@@ -62,6 +63,8 @@ fn take<D: DeskStore, S: SiteStore>(
     ensures told { (db : Database) → IsOfCatalogue db → InForce db machines.old.desk.volatile.version machines.old.desk.catalog → AreFit db (counted D.kept S.kept D.refused S.refused machines.old) → IfErr result (Tells db (counted D.kept S.kept D.refused S.refused machines.old) letter) }
     ensures lists { (db : Database) → IsListed db → StandsIn db machines.old.desk → OfStores D.is_clean S.is_clean machines.new → OfStores D.is_sound S.is_sound machines.old → FitsList db (held D.kept S.kept machines.old)
         → IfOk result (λ out. ListCame db letter out.kept (held D.kept S.kept machines.old) (held D.kept S.kept machines.new) out.letters out.replies × StandsIn db machines.new.desk) }
+    ensures keeps { OverFitting (OfStores D.is_clean S.is_clean) (OfStores D.is_sound S.is_sound) (held D.kept S.kept) machines.old machines.new (λ db before after. IfOk result (λ out. CallKept out.kept (sent db letter).body)) }
+    ensures reasons { (db : Database) → IsListed db → StandsIn db machines.old.desk → FitsList db (held D.kept S.kept machines.old) → IfErr result (Tells db (held D.kept S.kept machines.old) letter) }
     ensures stays { OnErr result (StaysInForce machines.old machines.new) }
     ensures err { StaysOnErr (OfStores D.is_clean S.is_clean) (OfStores D.is_sound S.is_sound) (held D.kept S.kept) machines.old machines.new result }
     ensures unkept { is_order letter.body ≡ false → IfOk result (λ out. out.kept ≡ false → HaveRefused (counts D.refused S.refused machines.old) (counts D.refused S.refused machines.new)) }
@@ -83,6 +86,8 @@ fn deliver_one<D: DeskStore, S: SiteStore>(
     ensures blames { Blames (OfStores D.is_clean S.is_clean) (OfStores D.is_sound S.is_sound) (counts D.refused S.refused) machines.old machines.new result }
     ensures ok { OverDatabase (OfStores D.is_clean S.is_clean) (OfStores D.is_sound S.is_sound) (counted D.kept S.kept D.refused S.refused) machines.old machines.new
         (λ db before after. IfOk result (λ out. IsDone db letter before after out.letters out.replies)) }
+    ensures done { OverFitting (OfStores D.is_clean S.is_clean) (OfStores D.is_sound S.is_sound) (held D.kept S.kept) machines.old machines.new
+        (λ db before after. IfOk result (λ out. ListIsDone db letter before after out.letters out.replies × StandsIn db machines.new.desk)) }
     ensures lists { (rest : List LetterNow) → ListDelivers (OfStores D.is_clean S.is_clean) (OfStores D.is_sound S.is_sound) (held D.kept S.kept) machines.old machines.new result (letter ∷ rest) (λ out. rest ++ out.letters) [] (λ out. out.replies) }
     ensures err { StaysOnErr (OfStores D.is_clean S.is_clean) (OfStores D.is_sound S.is_sound) (held D.kept S.kept) machines.old machines.new result }
     ensures own { IfErr result (λ refusal. is_stop refusal ≡ true) }
@@ -165,6 +170,10 @@ fn deliver_next<D: DeskStore, S: SiteStore>(
         (λ db before after. OnOk result (Goes db (λ w. w) (scene before post.old) (scene after post.new))) }
     ensures ranks { (db : Database) (n i : ℕ) → IsOfCatalogue db → InForce db machines.old.desk.volatile.version machines.old.desk.catalog → OfStores D.is_clean S.is_clean machines.new → OfStores D.is_sound S.is_sound machines.old → AreFit db (counted D.kept S.kept D.refused S.refused machines.old)
         → IsInRound db n (suc i) (scene (counted D.kept S.kept D.refused S.refused machines.old) post.old) → OnOk result (IsInRound db n i (scene (counted D.kept S.kept D.refused S.refused machines.new) post.new)) }
+    ensures comes { OverFitting (OfStores D.is_clean S.is_clean) (OfStores D.is_sound S.is_sound) (held D.kept S.kept) machines.old machines.new
+        (λ db before after. OnOk result (ListComes db (scene before post.old) (scene after post.new) × StandsIn db machines.new.desk)) }
+    ensures list_ranks { OverFitting (OfStores D.is_clean S.is_clean) (OfStores D.is_sound S.is_sound) (held D.kept S.kept) machines.old machines.new
+        (λ db before after. OnOk result ((n i : ℕ) → IsInRound db n (suc i) (scene before post.old) → IsInRound db n i (scene after post.new))) }
     ensures lists { ListDelivers (OfStores D.is_clean S.is_clean) (OfStores D.is_sound S.is_sound) (held D.kept S.kept) machines.old machines.new result post.old.waiting.items (λ done. post.new.waiting.items) post.old.heard.items (λ done. post.new.heard.items) }
     ensures err { OverDatabase (OfStores D.is_clean S.is_clean) (OfStores D.is_sound S.is_sound) (counted D.kept S.kept D.refused S.refused) machines.old machines.new
         (λ db before after. OnErr result (Breaks db (λ w. w) (scene before post.old) after)) }
@@ -196,6 +205,10 @@ fn deliver_round<D: DeskStore, S: SiteStore>(
         (λ db before after. OnOk result (Goes db (λ w. w) (scene before post.old) (scene after post.new))) }
     ensures ranks { (db : Database) (n : ℕ) → IsOfCatalogue db → InForce db machines.old.desk.volatile.version machines.old.desk.catalog → OfStores D.is_clean S.is_clean machines.new → OfStores D.is_sound S.is_sound machines.old → AreFit db (counted D.kept S.kept D.refused S.refused machines.old)
         → RanksUnder (suc n) (world_at db (scene (counted D.kept S.kept D.refused S.refused machines.old) post.old)) → OnOk result (RanksUnder n (world_at db (scene (counted D.kept S.kept D.refused S.refused machines.new) post.new))) }
+    ensures comes { OverFitting (OfStores D.is_clean S.is_clean) (OfStores D.is_sound S.is_sound) (held D.kept S.kept) machines.old machines.new
+        (λ db before after. OnOk result (ListComes db (scene before post.old) (scene after post.new) × StandsIn db machines.new.desk)) }
+    ensures list_ranks { OverFitting (OfStores D.is_clean S.is_clean) (OfStores D.is_sound S.is_sound) (held D.kept S.kept) machines.old machines.new
+        (λ db before after. OnOk result ((n : ℕ) → RanksUnder (suc n) (world_at db (scene before post.old)) → RanksUnder n (world_at db (scene after post.new)))) }
     ensures lists { ListDelivers (OfStores D.is_clean S.is_clean) (OfStores D.is_sound S.is_sound) (held D.kept S.kept) machines.old machines.new result post.old.waiting.items (λ done. post.new.waiting.items) post.old.heard.items (λ done. post.new.heard.items) }
     ensures err { OverDatabase (OfStores D.is_clean S.is_clean) (OfStores D.is_sound S.is_sound) (counted D.kept S.kept D.refused S.refused) machines.old machines.new
         (λ db before after. OnErr result (Breaks db (λ w. w) (scene before post.old) after)) }
@@ -217,6 +230,8 @@ pub(crate) fn deliver_all<D: DeskStore, S: SiteStore>(
     ensures blames { Blames (OfStores D.is_clean S.is_clean) (OfStores D.is_sound S.is_sound) (counts D.refused S.refused) machines.old machines.new result }
     ensures ok { OverDatabase (OfStores D.is_clean S.is_clean) (OfStores D.is_sound S.is_sound) (counted D.kept S.kept D.refused S.refused) machines.old machines.new
         (λ db before after. IfOk result (λ heard. Goes db (λ w. w) (put_out_by before out) (settled after heard.items))) }
+    ensures comes { OverFitting (OfStores D.is_clean S.is_clean) (OfStores D.is_sound S.is_sound) (held D.kept S.kept) machines.old machines.new
+        (λ db before after. IfOk result (λ heard. ListComes db (put_out_by before out) (settled after heard.items) × StandsIn db machines.new.desk)) }
     ensures lists { ListDelivers (OfStores D.is_clean S.is_clean) (OfStores D.is_sound S.is_sound) (held D.kept S.kept) machines.old machines.new result out.letters (λ heard. []) out.replies (λ heard. heard.items) }
     ensures err { OverDatabase (OfStores D.is_clean S.is_clean) (OfStores D.is_sound S.is_sound) (counted D.kept S.kept D.refused S.refused) machines.old machines.new
         (λ db before after. OnErr result (Breaks db (λ w. w) (put_out_by before out) after)) }

@@ -11,9 +11,10 @@ ghost use Rattle.desk.specs.Database.{Database};
 ghost use Rattle.world.specs.Chain.{StandsAt, sites_of};
 ghost use Rattle.world.specs.Contents.{OfStores, counted, held};
 ghost use Rattle.world.specs.Frame.{LeavesDatabase, LeavesMachines, OverDatabase, OverLists, StaysAsItIs};
+ghost use Rattle.world.specs.Listed.{FitsList, IsListed, StandsIn};
 ghost use Rattle.world.specs.ListServed.{IsListServedOn};
 ghost use Rattle.world.specs.Machines.{AreFit};
-ghost use Rattle.world.specs.Recovery.{AreUp, Inquires, IsDeskUp, IsUp, Recovers, StopsOpening};
+ghost use Rattle.world.specs.Recovery.{AreUp, Inquires, IsDeskUp, IsUp, ListRecovers, Recovers, StopsOpening};
 ghost use Rattle.world.specs.Seated.{seats_in};
 ghost use Rattle.world.specs.Settled.{AreDecided};
 ghost use Rattle.world.specs.Sites.{IsSeated};
@@ -116,6 +117,8 @@ pub(crate) fn recover<D: DeskStore, S: SiteStore>(
     ensures leaves { LeavesDatabase D.is_clean S.is_clean D.is_sound S.is_sound D.refused S.refused machines.old machines.new }
     ensures ok { OverDatabase (OfStores D.is_clean S.is_clean) (OfStores D.is_sound S.is_sound) (counted D.kept S.kept D.refused S.refused) machines.old machines.new (λ db before after. OnOk result (Recovers db before after)) }
     ensures lists { OverLists (OfStores D.is_clean S.is_clean) (OfStores D.is_sound S.is_sound) (counted D.kept S.kept D.refused S.refused) machines.old machines.new (λ db whole past. IsListServedOn db whole (counted D.kept S.kept D.refused S.refused machines.new) past) }
+    ensures recovers { (db : Database) → IsListed db → StandsIn db machines.old.desk → OfStores D.is_clean S.is_clean machines.new → OfStores D.is_sound S.is_sound machines.old
+        → OnOk result (ListRecovers db (counted D.kept S.kept D.refused S.refused machines.old) (counted D.kept S.kept D.refused S.refused machines.new)) }
     ensures own { IfErr result StopsOpening }
 {
     let commits = machines.restart(true)?;
@@ -138,6 +141,8 @@ pub(crate) fn ensure_no_commit_row<D: DeskStore, S: SiteStore>(
     ensures leaves { LeavesMachines D.is_clean S.is_clean D.is_sound S.is_sound D.refused S.refused machines.old machines.new }
     ensures same { StaysAsItIs (OfStores D.is_clean S.is_clean) (OfStores D.is_sound S.is_sound) (held D.kept S.kept) machines.old machines.new }
     ensures none { (db : Database) → OfStores D.is_clean S.is_clean machines.new → OfStores D.is_sound S.is_sound machines.old → AreFit db (held D.kept S.kept machines.old)
+        → OnOk result (AreDecided (held D.kept S.kept machines.old).table []) }
+    ensures lists { (db : Database) → OfStores D.is_clean S.is_clean machines.new → OfStores D.is_sound S.is_sound machines.old → FitsList db (held D.kept S.kept machines.old)
         → OnOk result (AreDecided (held D.kept S.kept machines.old).table []) }
     ensures own { IfErr result StopsOpening }
 {

@@ -33,9 +33,9 @@ ghost use Rattle.world.specs.Executed.{Stands};
 ghost use Rattle.world.specs.Client.{IsServed};
 ghost use Rattle.world.specs.Settled.{AreThoseOf, after_committed, parts_kept, rows_shown};
 ghost use Rattle.world.specs.Stopping.{StopsFor, is_stop};
-ghost use Rattle.world.specs.Recovery.{BeginsAnewOver, GoesOnOver, StopsOpening};
+ghost use Rattle.world.specs.Recovery.{BeginsAnewOver, GoesOnOver, ListGoesOnOver, StopsOpening};
 ghost use Rattle.world.specs.Replies.{Tells};
-ghost use Rattle.world.specs.Start.{AreNew, BeginsWithoutRows};
+ghost use Rattle.world.specs.Start.{AreNew, BeginsWithoutRows, ListBeginsWithoutRows};
 ghost use Rattle.world.specs.declared.event.Entry.{Entry as EntryNow};
 ghost use Rattle.world.specs.declared.transaction.Stop.{Stop as StopNow};
 ghost use Rattle.world.specs.declared.transaction.Unfinished.TheVariants.{Stopped, Unstarted};
@@ -47,8 +47,8 @@ use crate::client::{begin, commit, roll_back, state};
 use crate::command::{command_of, still_open, stopped_by};
 use crate::fault::Fault;
 use crate::laws::{
-    begins_anew, commands_follow, database_is_of_catalogue, grows_quiet, machines_come_up,
-    moves_follow, new_stores_were_served, obeyed_unless_refused, one_client_is_a_run,
+    begins_anew, chain_is_listed, commands_follow, database_is_of_catalogue, grows_quiet,
+    lists_come_up, machines_come_up, moves_follow, new_stores_were_served, obeyed_unless_refused, one_client_is_a_run,
     restarts_recover, served_is_serial,
 };
 use crate::machines::Machines;
@@ -167,6 +167,8 @@ impl<D: DeskStore + Drop, S: SiteStore + Drop> Solo<D, S> {
         ensures goes_on { (catalogue : Catalogue) → StandsLast (D.kept desk).version (map catalogue_of chain.now) catalogue → IfOk result (λ solo. OfStores D.is_clean S.is_clean solo.machines → GoesOnOver catalogue (D.kept desk) (map S.kept sites.items) (counted D.kept S.kept D.refused S.refused solo.machines)) }
         ensures anew { (catalogue : Catalogue) → StandsLast (D.kept desk).version (map catalogue_of chain.now) catalogue → IfOk result (λ solo. OfStores D.is_clean S.is_clean solo.machines → BeginsAnewOver catalogue (D.kept desk) (map S.kept sites.items) (counted D.kept S.kept D.refused S.refused solo.machines)) }
         ensures without_rows { (catalogue : Catalogue) → StandsLast (D.kept desk).version (map catalogue_of chain.now) catalogue → IfOk result (λ solo. OfStores D.is_clean S.is_clean solo.machines → BeginsWithoutRows catalogue (D.kept desk) (map S.kept sites.items) (counted D.kept S.kept D.refused S.refused solo.machines)) }
+        ensures lists { (first : Catalogue) (rest : List Catalogue) → map catalogue_of chain.now ≡ first ∷ rest → IfOk result (λ solo. OfStores D.is_clean S.is_clean solo.machines → ListGoesOnOver first rest (D.kept desk) (map S.kept sites.items) solo.machines.desk (counted D.kept S.kept D.refused S.refused solo.machines)) }
+        ensures lists_without_rows { (first : Catalogue) (rest : List Catalogue) → map catalogue_of chain.now ≡ first ∷ rest → IfOk result (λ solo. OfStores D.is_clean S.is_clean solo.machines → ListBeginsWithoutRows first rest (D.kept desk) (map S.kept sites.items) solo.machines.desk (counted D.kept S.kept D.refused S.refused solo.machines)) }
         ensures clean { IfOk result (λ solo. OfStores D.is_clean S.is_clean solo.machines → OfGiven D.is_clean S.is_clean desk sites.items) }
         ensures sound { IfOk result (λ solo. OfStores D.is_clean S.is_clean solo.machines → OfStores D.is_sound S.is_sound solo.machines) }
         ensures single { (catalogue : Catalogue) → map catalogue_of chain.now ≡ catalogue ∷ [] → IfOk result (λ solo. IsLast catalogue solo.machines.desk) }
@@ -184,6 +186,8 @@ impl<D: DeskStore + Drop, S: SiteStore + Drop> Solo<D, S> {
         restarts_recover(catalog);
         begins_anew(catalog);
         new_stores_were_served(catalog);
+        chain_is_listed(chain);
+        lists_come_up();
         let mut machines = Machines {
             alloc,
             desk,

@@ -92,4 +92,4 @@ returns-in-Err g c = one_call g.D.DeskStore.is_clean g.S.SiteStore.is_clean g.D.
     let old = counts g.D.DeskStore.refused g.S.SiteStore.refused c.args.machines.now in
     let new = counts g.D.DeskStore.refused g.S.SiteStore.refused c.commit.new.self in
     still_denied db (with_counts before old) (with_counts mid new) (call.Commit c.args.txn) c.in-Err.refusal fit (same_counted before mid old new c.in-Err.ensures.err (uncounted g.D.DeskStore.refused g.S.SiteStore.refused c.commit.ensures.uncalled)) (c.in-Err.ensures.told db))
-    (refused_lists g.D.DeskStore.is_clean g.S.SiteStore.is_clean g.D.DeskStore.is_sound g.S.SiteStore.is_sound g.D.DeskStore.kept g.S.SiteStore.kept g.D.DeskStore.refused g.S.SiteStore.refused (λ (heard : Vec Notice). Commits c.args.txn heard.items) (call.Commit c.args.txn) c.in-Err.refusal c.args.machines.now c.commit.new.self c.in-Err.ensures.err c.commit.ensures.leaves.catalog c.commit.ensures.leaves.later)
+    (refused_lists g.D.DeskStore.is_clean g.S.SiteStore.is_clean g.D.DeskStore.is_sound g.S.SiteStore.is_sound g.D.DeskStore.kept g.S.SiteStore.kept g.D.DeskStore.refused g.S.SiteStore.refused (λ (heard : Vec Notice). Commits c.args.txn heard.items) (call.Commit c.args.txn) c.in-Err.refusal c.args.machines.now c.commit.new.self (λ db listed stands fit. c.in-Err.ensures.told db) c.in-Err.ensures.err c.commit.ensures.leaves.catalog c.commit.ensures.leaves.later)

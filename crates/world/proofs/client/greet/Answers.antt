@@ -101,4 +101,4 @@ returns-in-Ok-clause-lists g c = λ txn.
     begin_makes db whole (λ heard. Begins txn heard.items) (λ heard. heard.items) (hold c.args.machines.now) (hold c.begin.new.self) (hold c.deliver_all.new.machines) c.in-Ok.out past c.deliver_all.result (λ heard. refl) made.0 c.deliver_all.ensures.own came)
 
 pub returns-in-Err-clause-lists : goal.returns-in-Err-clause-lists
-returns-in-Err-clause-lists g c = λ txn. unbegun_lists g.D.DeskStore.is_clean g.S.SiteStore.is_clean g.D.DeskStore.is_sound g.S.SiteStore.is_sound g.D.DeskStore.kept g.S.SiteStore.kept g.D.DeskStore.refused g.S.SiteStore.refused (λ (heard : Vec Notice). Begins txn heard.items) (λ (heard : Vec Notice). heard.items) c.in-Err.refusal c.args.machines.now c.begin.new.self c.in-Err.ensures.err c.begin.ensures.leaves.catalog c.begin.ensures.leaves.later
+returns-in-Err-clause-lists g c = λ txn. unbegun_lists g.D.DeskStore.is_clean g.S.SiteStore.is_clean g.D.DeskStore.is_sound g.S.SiteStore.is_sound g.D.DeskStore.kept g.S.SiteStore.kept g.D.DeskStore.refused g.S.SiteStore.refused (λ (heard : Vec Notice). Begins txn heard.items) (λ (heard : Vec Notice). heard.items) c.in-Err.refusal c.args.machines.now c.begin.new.self (λ db listed stands fit. c.in-Err.ensures.full db (over_of db c.args.machines.now.desk.volatile.version c.args.machines.now.desk.catalog listed.base.of_catalogue stands.here) fit.desk) c.in-Err.ensures.err c.begin.ensures.leaves.catalog c.begin.ensures.leaves.later

@@ -90,4 +90,4 @@ returns-in-Err g c = one_call g.D.DeskStore.is_clean g.S.SiteStore.is_clean g.D.
     let old = counts g.D.DeskStore.refused g.S.SiteStore.refused c.args.machines.now in
     let new = counts g.D.DeskStore.refused g.S.SiteStore.refused c.statement.new.self in
     still_denied db (with_counts before old) (with_counts mid new) (call.State c.args.txn c.args.text.now) c.in-Err.refusal fit (same_counted before mid old new c.in-Err.ensures.err (uncounted g.D.DeskStore.refused g.S.SiteStore.refused c.statement.ensures.uncalled)) (c.in-Err.ensures.told db of is fit.desk))
-    (refused_lists g.D.DeskStore.is_clean g.S.SiteStore.is_clean g.D.DeskStore.is_sound g.S.SiteStore.is_sound g.D.DeskStore.kept g.S.SiteStore.kept g.D.DeskStore.refused g.S.SiteStore.refused (λ (heard : Vec Notice). States c.args.txn c.args.text.now heard.items) (call.State c.args.txn c.args.text.now) c.in-Err.refusal c.args.machines.now c.statement.new.self c.in-Err.ensures.err c.statement.ensures.leaves.catalog c.statement.ensures.leaves.later)
+    (refused_lists g.D.DeskStore.is_clean g.S.SiteStore.is_clean g.D.DeskStore.is_sound g.S.SiteStore.is_sound g.D.DeskStore.kept g.S.SiteStore.kept g.D.DeskStore.refused g.S.SiteStore.refused (λ (heard : Vec Notice). States c.args.txn c.args.text.now heard.items) (call.State c.args.txn c.args.text.now) c.in-Err.refusal c.args.machines.now c.statement.new.self (λ db listed stands fit. c.in-Err.ensures.told db listed.base.of_catalogue stands.here fit.desk) c.in-Err.ensures.err c.statement.ensures.leaves.catalog c.statement.ensures.leaves.later)

@@ -15,6 +15,7 @@ use Rattle.world.proofs.SiteSteps.{on_any_err}
 use Rattle.world.proofs.Counting.{no_fewer, no_fewer_then}
 use Rattle.world.proofs.Stops.{stops_since, told_on}
 use Rattle.world.specs.Counted.{counts}
+use Rattle.world.proofs.ListComings.{alike_comes, comes_settled, then_comes}
 use Rattle.world.proofs.mailbox.deliver_all.Goals as goal
 
 pub loop-init : goal.loop-init
@@ -27,6 +28,10 @@ loop-init g c =
       counts = no_fewer (counts g.D.DeskStore.refused g.S.SiteStore.refused c.args.machines.now);
       goes = λ db of is clean sound fit. alike_goes db (put_out_by m c.args.out) (scene m c.of-post.result) refl c.of-post.ensures.waiting c.of-post.ensures.heard fit;
       ranks = λ db of is clean sound fit. all_nine db (scene m c.of-post.result);
+      comes = λ db listed stands clean sound fits.
+          let here = held g.D.DeskStore.kept g.S.SiteStore.kept c.args.machines.now in
+          (alike_comes db (put_out_by here c.args.out) (scene here c.of-post.result) refl c.of-post.ensures.waiting c.of-post.ensures.heard fits, stands);
+      list_ranks = λ db listed stands clean sound fits. all_nine db (scene (held g.D.DeskStore.kept g.S.SiteStore.kept c.args.machines.now) c.of-post.result);
       lists = λ db whole past listed stands clean sound waits.
           let here = held g.D.DeskStore.kept g.S.SiteStore.kept c.args.machines.now in
           let out = c.args.out in (
@@ -57,6 +62,18 @@ loop-preserved g c =
           subst (λ (k : ℕ). RanksUnder k (world_at db there)) same
           (c.in_ok-deliver_round.ensures.ranks db (8 - c.loop.counter) of (in_force_on db _ _ _ _ so_far.version (c.loop.invariant.catalogs fit.single).0 is) clean (c.loop.invariant.sound (c.deliver_round.ensures.leaves.clean clean) sound) so_far.fit
           (subst (λ (k : ℕ). RanksUnder k (world_at db here)) one_less ranked));
+      comes = λ db listed stands clean sound fits.
+          let hold = held g.D.DeskStore.kept g.S.SiteStore.kept in
+          let so_far = c.loop.invariant.comes db listed stands (c.deliver_round.ensures.leaves.clean clean) sound fits in
+          let more = c.in_ok-deliver_round.ensures.comes db listed so_far.1 clean (c.loop.invariant.sound (c.deliver_round.ensures.leaves.clean clean) sound) so_far.0.fit in
+          (then_comes db (put_out_by (hold c.args.machines.now) c.args.out) (scene (hold c.loop.machines) c.loop.post) (scene (hold c.deliver_round.new.machines) c.deliver_round.new.post) so_far.0 more.0, more.1);
+      list_ranks = λ db listed stands clean sound fits.
+          let hold = held g.D.DeskStore.kept g.S.SiteStore.kept in
+          let so_far = c.loop.invariant.comes db listed stands (c.deliver_round.ensures.leaves.clean clean) sound fits in
+          let ranked = c.loop.invariant.list_ranks db listed stands (c.deliver_round.ensures.leaves.clean clean) sound fits in
+          subst (λ (k : ℕ). RanksUnder k (world_at db (scene (hold c.deliver_round.new.machines) c.deliver_round.new.post))) same
+          (c.in_ok-deliver_round.ensures.list_ranks db listed so_far.1 clean (c.loop.invariant.sound (c.deliver_round.ensures.leaves.clean clean) sound) so_far.0.fit (8 - c.loop.counter)
+          (subst (λ (k : ℕ). RanksUnder k (world_at db (scene (hold c.loop.machines) c.loop.post))) one_less ranked));
       lists = λ db whole past listed stands clean sound waits.
           let hold = held g.D.DeskStore.kept g.S.SiteStore.kept in
           let so_far = c.loop.invariant.lists db whole past listed stands (c.deliver_round.ensures.leaves.clean clean) sound waits in
@@ -102,3 +119,12 @@ returns-in_err-deliver_round-clause-lists g c = λ db whole past listed stands c
     let so_far = c.loop.invariant.lists db whole past listed stands (c.deliver_round.ensures.leaves.clean clean) sound waits in
     let more = c.in_err-deliver_round.ensures.lists db whole (past ++ so_far.0.deeds) listed so_far.1 clean (c.loop.invariant.sound (c.deliver_round.ensures.leaves.clean clean) sound) so_far.0.served in
     only_fails _ _ c.from_residual.result c.from_residual.ensures.1 (on_then db whole (held g.D.DeskStore.kept g.S.SiteStore.kept c.deliver_round.new.machines) past so_far.0.deeds more.1) more.2
+
+-- each letter for its reason, over lists
+pub returns-clause-comes : goal.returns-clause-comes
+returns-clause-comes g c = λ db listed stands clean sound fits.
+    let hold = held g.D.DeskStore.kept g.S.SiteStore.kept in
+    let here = scene (hold c.loop.machines) c.loop.post in
+    let over : 9 - c.loop.counter ≡ 0 = omega (arith, c.loop-test.false) in
+    let came = c.loop.invariant.comes db listed stands clean sound fits in
+    (comes_settled db (put_out_by (hold c.args.machines.now) c.args.out) here came.0 (none_left db here (subst (λ (k : ℕ). RanksUnder k (world_at db here)) over (c.loop.invariant.list_ranks db listed stands clean sound fits))), came.1)

@@ -1,7 +1,7 @@
 -- Why `deliver_next` meets its contract.
 use Rattle.std.proofs.Common.{rules, ◌≡◌, ◌∙◌, ◌++◌, [], ap, refl, sym, subst, ⊎_elim, List}
 use Rattle.store.specs.declared.letter.Letter.{Letter}
-use Rattle.world.specs.Mailbox.{Goes}
+use Rattle.world.specs.Mailbox.{Goes, ListComes}
 use Rattle.world.specs.Counted.{counts}
 use Rattle.world.specs.Contents.{counted, held}
 use Rattle.world.specs.Taking.{scene}
@@ -14,6 +14,7 @@ use Rattle.world.specs.Stopping.{StopsFor, is_stop}
 use Rattle.world.specs.ListServed.{IsListWaiting, ListGoes}
 use Rattle.world.proofs.ListDelivering.{either_way, goes_as, goes_let_go}
 use Rattle.world.proofs.ListDelivering.{nothing_goes as nothing_goes_list}
+use Rattle.world.proofs.ListComings.{letter_comes, letter_ranked, nothing_comes}
 use Rattle.world.proofs.mailbox.deliver_next.Goals as goal
 
 pub returns-in_default-clause-ok : goal.returns-in_default-clause-ok
@@ -108,3 +109,26 @@ pub returns-in-Err-clause-lists : goal.returns-in-Err-clause-lists
 returns-in-Err-clause-lists g c = λ db whole past listed stands clean sound waits.
     let before = held g.D.DeskStore.kept g.S.SiteStore.kept c.args.machines.now in
     c.in-Err.ensures.lists c.pop_front.new.self.items db whole past listed stands clean sound (subst (λ (waiting : List Letter). IsListWaiting db whole before waiting past) c.in-Some.ensures.items waits)
+
+-- each letter for its reason, over lists
+pub returns-in_default-clause-comes : goal.returns-in_default-clause-comes
+returns-in_default-clause-comes g c = λ db listed stands clean sound fits.
+    let here = scene (held g.D.DeskStore.kept g.S.SiteStore.kept c.args.machines.now) c.args.post.now in
+    let same : here.waiting ≡ c.pop_front.new.self.items = c.in_default.ensures.items in
+    (subst (λ (waiting : List Letter). ListComes db here (record { machines = here.machines; waiting = waiting; heard = here.heard })) same (nothing_comes db here fits), stands)
+
+pub returns-in-Ok-clause-comes : goal.returns-in-Ok-clause-comes
+returns-in-Ok-clause-comes g c = λ db listed stands clean sound fits.
+    let here = scene (held g.D.DeskStore.kept g.S.SiteStore.kept c.args.machines.now) c.args.post.now in
+    let after = held g.D.DeskStore.kept g.S.SiteStore.kept c.deliver_one.new.machines in
+    let done = c.in-Ok.ensures.done db listed stands clean sound fits in
+    on_both c.add.result (λ waiting heard. (letter_comes db c.in-Some.letter here after c.pop_front.new.self.items c.in-Ok.out.letters c.in-Ok.out.replies c.in-Some.ensures.items done.0 (scene after c.add.new.self) refl waiting heard, done.1))
+    c.add.ensures.waiting c.add.ensures.heard
+
+pub returns-in-Ok-clause-list_ranks : goal.returns-in-Ok-clause-list_ranks
+returns-in-Ok-clause-list_ranks g c = λ db listed stands clean sound fits.
+    let here = scene (held g.D.DeskStore.kept g.S.SiteStore.kept c.args.machines.now) c.args.post.now in
+    let after = held g.D.DeskStore.kept g.S.SiteStore.kept c.deliver_one.new.machines in
+    let done = c.in-Ok.ensures.done db listed stands clean sound fits in
+    on_ok c.add.result (λ waiting n i ranked. letter_ranked db c.in-Some.letter here after c.pop_front.new.self.items c.in-Ok.out.letters c.in-Ok.out.replies c.in-Some.ensures.items done.0 fits (scene after c.add.new.self) refl waiting n i ranked)
+    c.add.ensures.waiting

@@ -11,6 +11,7 @@ use Rattle.world.proofs.SiteSteps.{on_any_err}
 use Rattle.world.proofs.Counting.{no_fewer, no_fewer_then}
 use Rattle.world.proofs.Stops.{stops_since, told_on}
 use Rattle.world.specs.Counted.{counts}
+use Rattle.world.proofs.ListComings.{nothing_comes, then_comes}
 use Rattle.world.proofs.mailbox.deliver_round.Goals as goal
 
 pub loop-init : goal.loop-init
@@ -24,6 +25,8 @@ loop-init g c =
       counts = no_fewer (counts g.D.DeskStore.refused g.S.SiteStore.refused c.args.machines.now);
       goes = λ db of is clean sound fit. nothing_goes db here fit;
       ranks = λ db n of is clean sound fit ranks. all_in_round db n (c.len-end.result - 0) here count ranks;
+      comes = λ db listed stands clean sound fits. (nothing_comes db (scene (held g.D.DeskStore.kept g.S.SiteStore.kept c.args.machines.now) c.args.post.now) fits, stands);
+      list_ranks = λ db listed stands clean sound fits n ranks. all_in_round db n (c.len-end.result - 0) (scene (held g.D.DeskStore.kept g.S.SiteStore.kept c.args.machines.now) c.args.post.now) count ranks;
       lists = λ db whole past listed stands clean sound waits. (nothing_goes_list db whole (held g.D.DeskStore.kept g.S.SiteStore.kept c.args.machines.now) c.args.post.now.waiting.items past c.args.post.now.heard.items waits, stands);
     }
 
@@ -46,6 +49,16 @@ loop-preserved g c =
           let ranked = c.loop.invariant.ranks db n of is (c.deliver_next.ensures.leaves.clean clean) sound fit ranks in
           c.in_ok-deliver_next.ensures.ranks db n (c.len-end.result - (c.loop.counter + 1)) of (in_force_on db _ _ _ _ so_far.version (c.loop.invariant.catalogs fit.single).0 is) clean (c.loop.invariant.sound (c.deliver_next.ensures.leaves.clean clean) sound) so_far.fit
           (subst (λ (k : ℕ). IsInRound db n k here) one_less ranked);
+      comes = λ db listed stands clean sound fits.
+          let hold = held g.D.DeskStore.kept g.S.SiteStore.kept in
+          let so_far = c.loop.invariant.comes db listed stands (c.deliver_next.ensures.leaves.clean clean) sound fits in
+          let more = c.in_ok-deliver_next.ensures.comes db listed so_far.1 clean (c.loop.invariant.sound (c.deliver_next.ensures.leaves.clean clean) sound) so_far.0.fit in
+          (then_comes db (scene (hold c.args.machines.now) c.args.post.now) (scene (hold c.loop.machines) c.loop.post) (scene (hold c.deliver_next.new.machines) c.deliver_next.new.post) so_far.0 more.0, more.1);
+      list_ranks = λ db listed stands clean sound fits n ranks.
+          let so_far = c.loop.invariant.comes db listed stands (c.deliver_next.ensures.leaves.clean clean) sound fits in
+          let ranked = c.loop.invariant.list_ranks db listed stands (c.deliver_next.ensures.leaves.clean clean) sound fits n ranks in
+          c.in_ok-deliver_next.ensures.list_ranks db listed so_far.1 clean (c.loop.invariant.sound (c.deliver_next.ensures.leaves.clean clean) sound) so_far.0.fit n (c.len-end.result - (c.loop.counter + 1))
+          (subst (λ (k : ℕ). IsInRound db n k (scene (held g.D.DeskStore.kept g.S.SiteStore.kept c.loop.machines) c.loop.post)) one_less ranked);
       lists = λ db whole past listed stands clean sound waits.
           let hold = held g.D.DeskStore.kept g.S.SiteStore.kept in
           let so_far = c.loop.invariant.lists db whole past listed stands (c.deliver_next.ensures.leaves.clean clean) sound waits in
@@ -90,3 +103,12 @@ returns-in_err-deliver_next-clause-lists g c = λ db whole past listed stands cl
     let so_far = c.loop.invariant.lists db whole past listed stands (c.deliver_next.ensures.leaves.clean clean) sound waits in
     let more = c.in_err-deliver_next.ensures.lists db whole (past ++ so_far.0.deeds) listed so_far.1 clean (c.loop.invariant.sound (c.deliver_next.ensures.leaves.clean clean) sound) so_far.0.served in
     only_fails _ _ c.from_residual.result c.from_residual.ensures.1 (on_then db whole (held g.D.DeskStore.kept g.S.SiteStore.kept c.deliver_next.new.machines) past so_far.0.deeds more.1) more.2
+
+-- each letter for its reason, over lists
+pub returns-clause-comes : goal.returns-clause-comes
+returns-clause-comes g c = λ db listed stands clean sound fits. c.loop.invariant.comes db listed stands clean sound fits
+
+pub returns-clause-list_ranks : goal.returns-clause-list_ranks
+returns-clause-list_ranks g c = λ db listed stands clean sound fits n ranks.
+    let over : c.len-end.result - c.loop.counter ≡ 0 = omega (arith, c.loop-test.false) in
+    subst (λ (k : ℕ). IsInRound db n k (scene (held g.D.DeskStore.kept g.S.SiteStore.kept c.loop.machines) c.loop.post)) over (c.loop.invariant.list_ranks db listed stands clean sound fits n ranks)

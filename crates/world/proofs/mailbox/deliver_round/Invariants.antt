@@ -7,9 +7,9 @@ use Rattle.desk.specs.Database.{Database, language}
 use Rattle.desk.specs.OfCatalogue.{InForce, IsOfCatalogue}
 use Rattle.world.specs.Counted.{NoFewer, counts}
 use Rattle.world.specs.Frame.{SameCatalogs}
-use Rattle.world.specs.Mailbox.{Goes}
+use Rattle.world.specs.Mailbox.{Goes, ListComes}
 use Rattle.world.specs.Contents.{OfStores, counted, held}
-use Rattle.world.specs.Listed.{IsListed, StandsIn}
+use Rattle.world.specs.Listed.{FitsList, IsListed, StandsIn}
 use Rattle.world.specs.ListServed.{IsListWaiting, ListGoes}
 use Rattle.world.specs.Machines.{AreFit}
 use Rattle.world.specs.Taking.{IsInRound, scene, world_at}
@@ -26,6 +26,10 @@ invariant-loop g l = record {
   ranks : (db : Database) (n : ℕ) → IsOfCatalogue db → InForce db l.fn.machines.desk.volatile.version l.fn.machines.desk.catalog → OfStores g.D.DeskStore.is_clean g.S.SiteStore.is_clean l.machines → OfStores g.D.DeskStore.is_sound g.S.SiteStore.is_sound l.fn.machines
       → AreFit db (counted g.D.DeskStore.kept g.S.SiteStore.kept g.D.DeskStore.refused g.S.SiteStore.refused l.fn.machines) → RanksUnder (suc n) (world_at db (scene (counted g.D.DeskStore.kept g.S.SiteStore.kept g.D.DeskStore.refused g.S.SiteStore.refused l.fn.machines) l.fn.post))
       → IsInRound db n (l.end - l.counter) (scene (counted g.D.DeskStore.kept g.S.SiteStore.kept g.D.DeskStore.refused g.S.SiteStore.refused l.machines) l.post);
+  comes : (db : Database) → IsListed db → StandsIn db l.fn.machines.desk → OfStores g.D.DeskStore.is_clean g.S.SiteStore.is_clean l.machines → OfStores g.D.DeskStore.is_sound g.S.SiteStore.is_sound l.fn.machines → FitsList db (held g.D.DeskStore.kept g.S.SiteStore.kept l.fn.machines)
+      → ListComes db (scene (held g.D.DeskStore.kept g.S.SiteStore.kept l.fn.machines) l.fn.post) (scene (held g.D.DeskStore.kept g.S.SiteStore.kept l.machines) l.post) × StandsIn db l.machines.desk;
+  list_ranks : (db : Database) → IsListed db → StandsIn db l.fn.machines.desk → OfStores g.D.DeskStore.is_clean g.S.SiteStore.is_clean l.machines → OfStores g.D.DeskStore.is_sound g.S.SiteStore.is_sound l.fn.machines → FitsList db (held g.D.DeskStore.kept g.S.SiteStore.kept l.fn.machines)
+      → (n : ℕ) → RanksUnder (suc n) (world_at db (scene (held g.D.DeskStore.kept g.S.SiteStore.kept l.fn.machines) l.fn.post)) → IsInRound db n (l.end - l.counter) (scene (held g.D.DeskStore.kept g.S.SiteStore.kept l.machines) l.post);
   lists : (db : Database) (whole : Relations) (past : List (Deed (language db))) → IsListed db → StandsIn db l.fn.machines.desk → OfStores g.D.DeskStore.is_clean g.S.SiteStore.is_clean l.machines → OfStores g.D.DeskStore.is_sound g.S.SiteStore.is_sound l.fn.machines
       → IsListWaiting db whole (held g.D.DeskStore.kept g.S.SiteStore.kept l.fn.machines) l.fn.post.waiting.items past → ListGoes db whole (held g.D.DeskStore.kept g.S.SiteStore.kept l.machines) l.post.waiting.items past l.fn.post.heard.items l.post.heard.items × StandsIn db l.machines.desk;
 }

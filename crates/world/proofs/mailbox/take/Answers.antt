@@ -60,3 +60,20 @@ returns-clause-lists g c = λ db listed stands clean sound fits.
 
 pub returns-then-not-has_site-clause-stays : goal.returns-then-not-has_site-clause-stays
 returns-then-not-has_site-clause-stays g c = record { version = refl; catalog = refl; later = refl }
+
+pub returns-clause-keeps : goal.returns-clause-keeps
+returns-clause-keeps g c = λ db listed stands clean sound fits.
+    let there = subst (λ x. list_any (λ site. pointwise nat_eq site c.args.letter.site) x.0 ≡ true) c.catalog.ensures (sym c.has_site.ensures ∙ c.if-not-has_site.false) in
+    c.deliver.ensures.keeps db listed.base.of_catalogue stands.here clean sound fits (of_site_of db _ (catalogue_of c.args.machines.now.desk.catalog) c.args.letter.site listed.base.of_catalogue stands.here there)
+
+pub returns-clause-reasons : goal.returns-clause-reasons
+returns-clause-reasons g c = λ db listed stands fits.
+    let there = subst (λ x. list_any (λ site. pointwise nat_eq site c.args.letter.site) x.0 ≡ true) c.catalog.ensures (sym c.has_site.ensures ∙ c.if-not-has_site.false) in
+    c.deliver.ensures.told db listed.base.of_catalogue stands fits (of_site_of db _ (catalogue_of c.args.machines.now.desk.catalog) c.args.letter.site listed.base.of_catalogue stands.here there)
+
+pub returns-then-not-has_site-clause-reasons : goal.returns-then-not-has_site-clause-reasons
+returns-then-not-has_site-clause-reasons g c = λ db listed stands fits.
+    let of = listed.base.of_catalogue in
+    let named : List (List ℕ) → Type 0 = λ sites. list_any (λ site. pointwise nat_eq site c.args.letter.site) sites ≡ false in
+    let apart = sym c.has_site.ensures ∙ c.if-not-has_site.true in
+    subst named (sym (of.sites _ ∙ ap (λ (x : Catalogue). x.sites) stands.here)) (subst (λ x. list_any (λ site. pointwise nat_eq site c.args.letter.site) x.0 ≡ false) c.catalog.ensures apart)

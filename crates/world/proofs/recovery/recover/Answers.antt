@@ -4,8 +4,8 @@ use Rattle.store.specs.declared.letter.Letter.{Letter}
 use Rattle.world.specs.ListServed.{IsListWaiting}
 use Rattle.world.proofs.Listing.{stands_as}
 use Rattle.world.proofs.ListCalls.{served_without}
-use Rattle.world.proofs.ListDelivering.{let_go, on_then, waits_same}
-use Rattle.world.proofs.ListSolo.{goes_on, inquired_waits, on_with, restarted_waits, served_still}
+use Rattle.world.proofs.ListDelivering.{let_go, list_reached, on_then, waits_same}
+use Rattle.world.proofs.ListSolo.{goes_on, inquired_waits, list_recovery, on_with, recovers_with, restarted_waits, served_still}
 use Rattle.std.specs.List.{AllByRecursion, flat_map}
 use Rattle.protocol.specs.Letters.{letter_of}
 use Rattle.protocol.specs.Site.{inquiries}
@@ -19,7 +19,7 @@ use Rattle.world.specs.Taking.{put_out_by}
 use Rattle.world.proofs.InForce.{in_force_on}
 use Rattle.world.proofs.Counting.{fit_uncounted, leads_counted}
 use Rattle.world.proofs.Leaves.{leaves_into}
-use Rattle.world.proofs.Recovers.{recovers}
+use Rattle.world.proofs.Recovers.{list_recovers, recovers}
 use Rattle.world.proofs.Running.{over_of}
 use Rattle.world.proofs.recovery.recover.Goals as goal
 
@@ -104,3 +104,22 @@ returns-in_err-commits-clause-lists g c = λ db whole past listed stands clean s
       on_with db whole (hold mid) (counts g.D.DeskStore.refused g.S.SiteStore.refused mid) past (served_still db whole (hold mid) past (waits_same db whole (hold old) (hold mid) [] past (c.in_err-commits.ensures.err clean sound) served_here)),
       stands_as db old.desk mid.desk stays.version stays.catalog stays.later stands,
     )
+
+-- and all is quiet
+pub returns-clause-recovers : goal.returns-clause-recovers
+returns-clause-recovers g c = λ db listed stands clean sound whole past up served.
+    let hold = held g.D.DeskStore.kept g.S.SiteStore.kept in
+    let old = c.args.machines.now in
+    let mid = c.restart.new.self in
+    let last = c.deliver_all.new.machines in
+    let first = counted g.D.DeskStore.kept g.S.SiteStore.kept g.D.DeskStore.refused g.S.SiteStore.refused old in
+    let served_here = served_without db whole (hold old) (counts g.D.DeskStore.refused g.S.SiteStore.refused old) past served in
+    let clean_mid = c.deliver_all.ensures.leaves.clean clean in
+    let led = c.in_ok-commits.ensures.lists db listed.base.of_catalogue stands clean_mid sound served_here.fit in
+    let over = over_of db old.desk.volatile.version old.desk.catalog listed.base.of_catalogue stands.here in
+    let more = c.in_ok-inquire_all.ensures (subst (λ sites. AllByRecursion IsSeated (seats_in g.S.SiteStore.kept sites)) (sym c.as_slice.ensures.value) led.0.fit.sites)
+    ∙ (λ i. map letter_of (c.into_vec-letters.ensures i) ++ flat_map (λ seat. inquiries seat.name (state_of seat.kept seat.table)) (seats_in g.S.SiteStore.kept (c.as_slice.ensures.value i))) in
+    let scene = put_out_by (hold mid) (record { letters = c.new.result; replies = c.in_ok-commits.commits.replies; kept = true }) in
+    let came = c.in_ok-_heard.ensures.comes db listed led.1 clean (c.restart.ensures.leaves.sound clean_mid sound) led.0.fit in
+    let so = list_recovers db (list_reached db listed) (list_recovery db listed) over.distinct whole past (hold old) (hold mid) (hold last) c.in_ok-commits.commits.letters c.inquire_all.new.letters.items c.in_ok-commits.commits.replies c.in_ok-_heard._heard.items scene served_here (record { desk = up.desk; sites = up.sites }) led.0 more c.new.ensures (λ ls ds. refl) led.0.fit came.0 in
+    recovers_with db whole past (hold last) (counts g.D.DeskStore.refused g.S.SiteStore.refused last) so

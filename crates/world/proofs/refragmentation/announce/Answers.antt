@@ -33,4 +33,4 @@ returns-in-Ok-clause-lists g c =
     moved_makes db whole c.args.text.now (λ heard. heard.items) (hold c.args.machines.now) (hold c.refragment.new.self) (hold c.deliver_all.new.machines) c.in-Ok.out past c.deliver_all.result made.0 c.deliver_all.ensures.own came)
 
 pub returns-in-Err-clause-lists : goal.returns-in-Err-clause-lists
-returns-in-Err-clause-lists g c = unmoved_lists g.D.DeskStore.is_clean g.S.SiteStore.is_clean g.D.DeskStore.is_sound g.S.SiteStore.is_sound g.D.DeskStore.kept g.S.SiteStore.kept g.D.DeskStore.refused g.S.SiteStore.refused c.args.text.now (λ (heard : Vec Notice). heard.items) c.in-Err.refusal c.args.machines.now c.refragment.new.self c.in-Err.ensures.err c.refragment.ensures.leaves.catalog c.refragment.ensures.leaves.later
+returns-in-Err-clause-lists g c = unmoved_lists g.D.DeskStore.is_clean g.S.SiteStore.is_clean g.D.DeskStore.is_sound g.S.SiteStore.is_sound g.D.DeskStore.kept g.S.SiteStore.kept g.D.DeskStore.refused g.S.SiteStore.refused c.args.text.now (λ (heard : Vec Notice). heard.items) c.in-Err.refusal c.args.machines.now c.refragment.new.self (λ db listed stands fit. c.in-Err.ensures.told db listed.base.of_catalogue stands.here fit.desk) c.in-Err.ensures.err c.refragment.ensures.leaves.catalog c.refragment.ensures.leaves.later

@@ -1,8 +1,11 @@
 use Rattle.std.proofs.Common.{ap, length, map, refl, sym, ◌∙◌}
 use Rattle.sqlstore.specs.Desk.{desk_kept}
 use Rattle.sqlstore.specs.Site.{kept_by}
+use Rattle.desk.specs.CatalogueDatabase.{databases}
 use Rattle.world.specs.Chain.{sites_of}
+use Rattle.world.specs.Settled.{after_committed}
 use Rattle.commands.specs.Origin.{Found, Kept}
+use Rattle.commands.proofs.ListClientLemmas.{behind_of, nothing_told}
 use Rattle.commands.proofs.opener.FolderOpensSoloSqlDeskSqlSite.open.Goals as goal
 
 pub open_stores-requires : goal.open_stores-requires
@@ -26,5 +29,16 @@ returns-in-Ok-clause-ok g c =
               stands = rw (c.in-Ok.ensures.idle.0) begun.quiet;
             };
       };
-      new = λ first rest chain same. absurd (cc);
+      over = λ first rest chain. record {
+        idle = c.in-Ok.ensures.idle.0;
+        goes_on = λ whole left clean.
+            let begun = c.in-Ok.ensures.lists first rest chain clean left.began left.machines left.past left.leaves left.served left.memory left.kept in
+            record {
+              going = c.in-Ok.ensures.idle.1;
+              here = begun.2.here;
+              next = behind_of (databases first rest) c.in-Ok.database.machines.desk.volatile.version c.in-Ok.database.machines.desk.later.items begun.2.next;
+              sound = c.in-Ok.ensures.sound clean;
+              told = nothing_told (databases first rest) (after_committed (databases first rest) left.past left.began) whole _ (sym left.is) begun.1.served;
+            };
+      };
     }

@@ -43,18 +43,18 @@ returns-in-Ok-clause-ok c =
               stands = c.in-Ok.ensures.stands catalogue last clean (all_new catalogue is) (all_fit catalogue is);
             };
           };
-      new = λ first rest chain same.
+      over = λ first rest chain.
           let is = first_one c.args.chain.now c.first_of-first.result.now c.first_of-first.ensures.0 first rest c.first_of-first.ensures.1 chain in
           record {
             idle = c.in-Ok.ensures.idle.0;
-            goes_on = λ clean.
+            goes_on = λ whole begins clean.
                 let served = c.in-Ok.ensures.lists first rest chain (all_fit first is) c.in_ok-desk.ensures.new.nothing.version clean (all_new first is) in
                 record {
                   going = c.in-Ok.ensures.idle.1;
                   here = served.1.here;
                   next = behind_of (databases first rest) c.in-Ok.database.machines.desk.volatile.version c.in-Ok.database.machines.desk.later.items served.1.next;
                   sound = c.in-Ok.ensures.sound clean;
-                  told = nothing_told (databases first rest) c.in_ok-whole.whole (no_rows first) _ (all_empty first is) served.0;
+                  told = nothing_told (databases first rest) c.in_ok-whole.whole whole _ (all_empty first is ∙ sym begins) served.0;
                 };
           };
     }

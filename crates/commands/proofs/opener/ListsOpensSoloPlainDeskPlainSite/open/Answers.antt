@@ -9,7 +9,7 @@ use Rattle.store.specs.PlainSite.{kept_of}
 use Rattle.desk.specs.CatalogueDatabase.{database, databases}
 use Rattle.world.specs.Contents.{unrefused}
 use Rattle.world.specs.Client.{IsServed}
-use Rattle.commands.specs.Origin.{New, no_rows}
+use Rattle.commands.specs.Origin.{New}
 use Rattle.lines.specs.PlayLoad.{emptied}
 use Rattle.commands.proofs.ListClientLemmas.{behind_of, nothing_told}
 use Rattle.commands.proofs.OpenerLemmas.{first_one}
@@ -40,16 +40,16 @@ returns-in-Ok-clause-ok c =
               stands = c.in-Ok.ensures.stands catalogue fits_schema last;
             };
           };
-      new = λ first rest chain same.
+      over = λ first rest chain.
           let served = c.in-Ok.ensures.lists first rest chain (all_fit first rest chain) in
           record {
             idle = c.in-Ok.ensures.idle.0;
-            goes_on = λ clean. record {
+            goes_on = λ whole begins clean. record {
               going = c.in-Ok.ensures.idle.1;
               here = served.1.here;
               next = behind_of (databases first rest) c.in-Ok.database.machines.desk.volatile.version c.in-Ok.database.machines.desk.later.items served.1.next;
               sound = c.in-Ok.ensures.sound;
-              told = nothing_told (databases first rest) c.in_ok-whole.whole (no_rows first) (unrefused desk_kept kept_of c.in-Ok.database.machines) (all_empty first rest chain) served.0;
+              told = nothing_told (databases first rest) c.in_ok-whole.whole whole (unrefused desk_kept kept_of c.in-Ok.database.machines) (all_empty first rest chain ∙ sym begins) served.0;
             };
           };
     }

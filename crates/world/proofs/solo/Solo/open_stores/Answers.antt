@@ -2,21 +2,27 @@
 use Rattle.std.proofs.Common.{◌≡◌, sym, refl, ap, subst, ◌++◌, ◌∙◌, List, [], ℕ, length, map}
 use Rattle.std.proofs.lemmas.List.{length-map}
 use Rattle.catalog.specs.declared.relation.SplitRelation.{SplitRelation}
+use Rattle.reader.specs.Printable.{AreDistinct}
+use Rattle.catalog.specs.Catalogue.{Catalogue}
+use Rattle.catalog.specs.FragmentLeaf.{schemas_of}
 use Rattle.catalog.specs.Relation.{catalogue_of}
-use Rattle.desk.specs.CatalogueDatabase.{database}
-use Rattle.world.specs.Chain.{StandsLast, sites_of}
+use Rattle.desk.specs.CatalogueDatabase.{database, databases}
+use Rattle.world.specs.Chain.{StandsAt, StandsLast, sites_of}
 use Rattle.world.specs.Contents.{OfStores, counted, held}
 use Rattle.world.specs.Counted.{counts}
 use Rattle.world.specs.Machines.{AreFit, Machines}
-use Rattle.world.specs.Recovery.{BeginsAnewOver, GoesOnOver, lost_by}
+use Rattle.world.specs.Recovery.{BeginsAnewOver, GoesOnOver, HaveLeaves, lost_by}
 use Rattle.world.specs.Settled.{AreDecided}
 use Rattle.world.specs.Start.{BeginsWithoutRows}
-use Rattle.world.proofs.Anew.{begins_on, going_on}
-use Rattle.world.proofs.ComingUp.{all_sound, came_up, stores_were_clean, up_again, up_fit, up_in_force}
+use Rattle.world.proofs.Anew.{begins_on, going_on, list_begins_on, list_going_on}
+use Rattle.world.proofs.ComingUp.{all_sound, came_up, list_came_up, list_up_again, stores_were_clean, up_again, up_fit, up_in_force}
 use Rattle.world.proofs.Counting.{fit_uncounted}
 use Rattle.world.proofs.DatabaseIsOpened.{placed}
+use Rattle.world.proofs.ListCalls.{served_without}
+use Rattle.world.proofs.ListIsBase.{head_is, stands_at}
+use Rattle.world.proofs.Listing.{stands_as}
 use Rattle.world.proofs.OfChain.{last_by, last_of}
-use Rattle.world.proofs.Recovers.{goes_further}
+use Rattle.world.proofs.Recovers.{goes_further, list_further}
 use Rattle.world.proofs.solo.Solo.open_stores.Goals as goal
 
 pub sites_up-requires : goal.sites_up-requires
@@ -127,3 +133,49 @@ returns-clause-sound g c = λ clean.
     let clean_mid = c.ensure_no_commit_row.ensures.leaves.clean clean in
     let now = c.recover.ensures.leaves.clean clean_mid in
     c.ensure_no_commit_row.ensures.leaves.sound clean (c.recover.ensures.leaves.sound clean_mid (up.leaves_store.sound now.0 (up.learnt now.0), all_sound S.is_clean S.is_sound S.kept S.refused here here.sites c.args.sites.items c.in_ok-sites.sites.items (up_in_force g.S.SiteStore.is_clean g.S.SiteStore.is_sound g.S.SiteStore.kept g.S.SiteStore.refused c.args.chain.now c.first_of.ensures.0 c.first_of.result.now c.in_ok-desk.desk.catalog c.catalog-catalog.result.now c.args.sites.items c.in_ok-sites.sites.items c.first_of.ensures.1 c.catalog-catalog.ensures c.in_ok-desk.ensures.sites c.in_ok-desk.ensures.schemas c.in_ok-sites.ensures.up) now.1))
+
+-- over every chain
+pub returns-clause-lists : goal.returns-clause-lists
+returns-clause-lists g c = λ first rest same clean whole old past have served memory kept.
+    let D = g.D.DeskStore in
+    let S = g.S.SiteStore in
+    let db = databases first rest in
+    let listed = c.chain_is_listed.ensures first rest same in
+    let of = listed.base.of_catalogue in
+    let desk = c.in_ok-desk.desk in
+    let up = c.in_ok-desk.ensures.up in
+    let mid = c.recover.new.machines in
+    let last = c.ensure_no_commit_row.new.machines in
+    let here = catalogue_of c.first_of.result.now in
+    let is : here ≡ first = head_is here first (map catalogue_of c.first_of.ensures.0) rest (sym (ap (map catalogue_of) c.first_of.ensures.1) ∙ same) in
+    let clean_mid = c.ensure_no_commit_row.ensures.leaves.clean clean in
+    let now = c.recover.ensures.leaves.clean clean_mid in
+    let named : db.sites ≡ desk.catalog.0 = sym (ap (λ (x : Catalogue). x.sites) is) ∙ sym (ap sites_of c.first_of.ensures.1) ∙ sym c.in_ok-desk.ensures.sites in
+    let rises = up.rises db (record { sites = named; distinct = subst AreDistinct (sym (of.sites 0)) (of.formed 0).distinct }) now.0 in
+    let before = counted D.kept S.kept D.refused S.refused (record { alloc = c.args.alloc; desk = desk; sites = c.in_ok-sites.sites; traffic = c.none.result }) in
+    let came = list_came_up S.is_clean S.is_sound S.kept S.refused here db of (ap (λ (x : Catalogue). x.sites) is) (ap schemas_of is) c.args.sites.items c.in_ok-sites.sites.items c.in_ok-sites.ensures.up now.1 (subst (λ x. HaveLeaves x (map S.kept c.args.sites.items)) (sym is) have)
+    before refl rises old served.fit (D.kept c.args.desk) kept (up.life now.0) up.memory in
+    let risen = c.lists_come_up.ensures.goes_on db listed whole old before past served memory came in
+    let stands = stands_at desk.volatile.version first rest desk refl (subst (λ (catalogues : List Catalogue). StandsAt desk.volatile.version catalogues desk) same c.in_ok-desk.ensures.catalogs) in
+    let sound : OfStores D.is_sound S.is_sound (record { alloc = c.args.alloc; desk = desk; sites = c.in_ok-sites.sites; traffic = c.none.result }) = (up.leaves_store.sound now.0 (up.learnt now.0), all_sound S.is_clean S.is_sound S.kept S.refused here here.sites c.args.sites.items c.in_ok-sites.sites.items c.in_ok-sites.ensures.up now.1) in
+    let sound_mid = c.recover.ensures.leaves.sound clean_mid sound in
+    let stands_mid = (c.in_ok-recover.ensures.lists db whole (past ++ lost_by db old) listed stands clean_mid sound risen).1 in
+    let again = list_up_again S.is_clean S.is_sound S.kept S.refused here db of (ap (λ (x : Catalogue). x.sites) is) (ap schemas_of is) c.args.sites.items c.in_ok-sites.sites.items c.in_ok-sites.ensures.up now.1 (subst (λ x. HaveLeaves x (map S.kept c.args.sites.items)) (sym is) have) before refl rises in
+    let still = c.ensure_no_commit_row.ensures.same clean sound_mid in
+    let goes_mid = list_further db whole past old (counted D.kept S.kept D.refused S.refused mid) (c.in_ok-recover.ensures.recovers db listed stands clean_mid sound whole (past ++ lost_by db old) again risen) in
+    let goes = list_going_on db whole past (held D.kept S.kept mid) (held D.kept S.kept last) (counts D.refused S.refused mid) (counts D.refused S.refused last) still goes_mid in
+    let none = subst (λ (m : Machines). AreDecided m.table []) (sym still) (c.in_ok-ensure_no_commit_row.ensures.lists db clean sound_mid (served_without db whole (held D.kept S.kept mid) (counts D.refused S.refused mid) (past ++ goes_mid.more) goes_mid.served).fit) in (
+      goes,
+      list_begins_on db (c.lists_come_up.ensures.anew db listed) whole past (counted D.kept S.kept D.refused S.refused last) goes none,
+      stands_as db mid.desk last.desk (ap (λ (m : Machines). m.table.version) still) c.ensure_no_commit_row.ensures.leaves.catalog c.ensure_no_commit_row.ensures.leaves.later stands_mid,
+    )
+
+pub returns-clause-lists_without_rows : goal.returns-clause-lists_without_rows
+returns-clause-lists_without_rows g c = λ first rest same clean whole fits empty nothing.
+    let S = g.S.SiteStore in
+    let here = catalogue_of c.first_of.result.now in
+    let is : here ≡ first = head_is here first (map catalogue_of c.first_of.ensures.0) rest (sym (ap (map catalogue_of) c.first_of.ensures.1) ∙ same) in
+    let many = length-map c.args.sites.items S.kept ∙ (c.requires ∙ ap (λ (chain : List (List (List ℕ) × List SplitRelation)). length (sites_of chain)) c.first_of.ensures.1 ∙ ap (λ (x : Catalogue). length x.sites) is) in
+    let were = c.lists_come_up.ensures.without_rows first rest (c.chain_is_listed.ensures first rest same) whole (g.D.DeskStore.kept c.args.desk) (map S.kept c.args.sites.items) fits empty many nothing in
+    let begins = returns-clause-lists g c first rest same clean whole were.machines [] nothing.leaves were.served were.memory were.kept in
+    (begins.1, begins.2)
