@@ -19,7 +19,6 @@ use Rattle.world.specs.Contents.{OfStores, held}
 use Rattle.world.specs.Machines.{Machines}
 use Rattle.world.specs.Runs.{IsRun}
 use Rattle.store.specs.declared.commit.DeskKept.{DeskKept}
-use Rattle.site.specs.Seat.{Seat}
 use Rattle.desk.specs.State.{volatile_of}
 use Rattle.history.specs.declared.entry.Entry.{Entry}
 use Rattle.history.specs.declared.records.Past.{Past}

@@ -1,7 +1,7 @@
-use Rattle.std.proofs.Common.{ℕ, List, Option, ap, map, option_map, subst, ◌∙◌}
+use Rattle.std.proofs.Common.{List, ap, map, option_map, subst, ◌∙◌}
 use Rattle.meaning.specs.declared.schema.RelationSchema.{RelationSchema}
 use Rattle.catalog.specs.Relation.{catalogue_of}
-use Rattle.commands.specs.Dump.{dumps_asked, is_missing, tasks_asked}
+use Rattle.commands.specs.Dump.{is_missing, tasks_asked}
 use Rattle.lines.specs.Script.{Reading, task_of}
 use Rattle.commands.specs.Solo.{IsRun}
 use Rattle.commands.proofs.SoloLemmas.{Appends-kept}

@@ -1,7 +1,5 @@
-use Rattle.std.proofs.Common.{◌≡◌, [], ℕ, List, Option, Err, OnOk, Result, subst, ap, sym, ◌∙◌}
-use Rattle.catalog.specs.Catalogue.{Catalogue}
+use Rattle.std.proofs.Common.{◌≡◌, [], ℕ, List, Option, Err, OnOk, subst, ap, sym, ◌∙◌}
 use Rattle.catalog.specs.FragmentLeaf.{schemas_of}
-use Rattle.catalog.specs.Relation.{catalogue_of}
 use Rattle.meaning.specs.declared.schema.RelationSchema.{RelationSchema}
 use Rattle.lines.specs.declared.fault.ProgramFault.{ProgramFault}
 use Rattle.lines.specs.declared.play_items.Placed.{Placed}

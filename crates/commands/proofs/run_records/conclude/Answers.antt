@@ -1,5 +1,5 @@
 -- What the parts of a conclusion come to together.
-use Rattle.std.proofs.Common.{◌≡◌, ◌++◌, List, ap, flat_map, map, rules, string_bytes, subst, sym, ◌∙◌}
+use Rattle.std.proofs.Common.{◌≡◌, ◌++◌, List, ap, flat_map, map, rules, string_bytes, subst, ◌∙◌}
 use Rattle.catalog.specs.declared.relation.SplitRelation.{SplitRelation}
 use Rattle.catalog.specs.Catalogue.{Catalogue}
 use Rattle.catalog.specs.FragmentLeaf.{schemas_of}
