@@ -48,8 +48,8 @@ use crate::command::{command_of, still_open, stopped_by};
 use crate::fault::Fault;
 use crate::laws::{
     begins_anew, chain_is_listed, commands_follow, database_is_of_catalogue, grows_quiet,
-    lists_come_up, machines_come_up, moves_follow, new_stores_were_served, obeyed_unless_refused, one_client_is_a_run,
-    restarts_recover, served_is_serial,
+    lists_come_up, machines_come_up, moves_follow, new_stores_were_served, obeyed_unless_refused,
+    one_client_is_a_run, restarts_recover, served_is_serial,
 };
 use crate::machines::Machines;
 use crate::rebuild::{kept_parts, rebuilt};
