@@ -14,7 +14,7 @@ use Rattle.store.specs.DeskContent.{DeskContent, Voters}
 use Rattle.desk.specs.Database.{Database, language}
 use Rattle.desk.specs.OfCatalogue.{InForce}
 use Rattle.desk.specs.Recovery.{Rises, resting}
-use Rattle.desk.specs.State.{Fits, VolatileState, anyone_moves, desk_of}
+use Rattle.desk.specs.State.{VolatileState, anyone_moves, desk_of}
 use Rattle.desk.specs.Transition.{is_moving as desk_moving}
 use Rattle.desk.specs.declared.refusal.Refusal.{Refusal}
 use Rattle.desk.specs.declared.refusal.Refusal.TheVariants as refusals

@@ -37,7 +37,7 @@ use Rattle.world.specs.Commands.{heard_in}
 use Rattle.world.specs.Course.{Begins, Commits, IsOne, Move, Refragments, Refuses, Rolls_back, States, said, said_in, said_of}
 use Rattle.world.specs.Frame.{ListMakes, OverLists}
 use Rattle.world.specs.Listed.{FitsList, IsListed, ListAsked, ListBegun, ListMoved, ListStated, StandsIn}
-use Rattle.world.specs.ListServed.{HasReason, IsListServed, IsListServedOn, ListGoes, ListHeardIsSerial, ListMade, RefusedOnTheWay}
+use Rattle.world.specs.ListServed.{HasItsReason, IsListServed, IsListServedOn, ListGoes, ListHeardIsSerial, ListMade, RefusedOnTheWay}
 use Rattle.world.specs.Machines.{Machines, world_of}
 use Rattle.world.specs.Refused.{IsRefused}
 use Rattle.world.specs.Replies.{AreStated, Shows, Tells, phased_by, text_by}
@@ -96,7 +96,7 @@ module _ (db : Database) (whole : Relations) where
   })
 
   -- also where more was done later, and before
-  reason_front : (past one two : List (Deed (language db))) (move : Move) → HasReason db whole past one move → HasReason db whole past (one ++ two) move
+  reason_front : (past one two : List (Deed (language db))) (move : Move) → HasItsReason db whole past one move → HasItsReason db whole past (one ++ two) move
   reason_front past one two (Begins txn heard) so = tt
   reason_front past one two (States txn text heard) so = tt
   reason_front past one two (Commits txn heard) so = tt
@@ -105,7 +105,7 @@ module _ (db : Database) (whole : Relations) where
   reason_front past one two (Refragments text (Err told)) so = refused_front past one two (call.Refragment text) told so
   reason_front past one two (Refuses asked told) so = refused_front past one two asked told so
 
-  reason_back : (past one two : List (Deed (language db))) (move : Move) → HasReason db whole (past ++ one) two move → HasReason db whole past (one ++ two) move
+  reason_back : (past one two : List (Deed (language db))) (move : Move) → HasItsReason db whole (past ++ one) two move → HasItsReason db whole past (one ++ two) move
   reason_back past one two (Begins txn heard) so = tt
   reason_back past one two (States txn text heard) so = tt
   reason_back past one two (Commits txn heard) so = tt
@@ -115,7 +115,7 @@ module _ (db : Database) (whole : Relations) where
   reason_back past one two (Refuses asked told) so = refused_back past one two asked told so
 
   -- of what is said nothing was refused
-  was_spoken : (past deeds : List (Deed (language db))) (move : Move) (entry : Entry) → said_of move ≡ entry ∷ [] → HasReason db whole past deeds move
+  was_spoken : (past deeds : List (Deed (language db))) (move : Move) (entry : Entry) → said_of move ≡ entry ∷ [] → HasItsReason db whole past deeds move
   was_spoken past deeds (Begins txn heard) entry is = tt
   was_spoken past deeds (States txn text heard) entry is = tt
   was_spoken past deeds (Commits txn heard) entry is = tt
@@ -160,7 +160,7 @@ module _ (db : Database) (whole : Relations) where
     tells = λ entries so.
         subst (λ es. Tells db es (past ++ (one.deeds ++ two.deeds))) (append_assoc entries (said_in one.moves) (said_in two.moves) ∙ ap (λ more. entries ++ more) (sym (said_both one.moves two.moves)))
         (subst (Tells db ((entries ++ said_in one.moves) ++ said_in two.moves)) (append_assoc past one.deeds two.deeds) (two.tells (entries ++ said_in one.moves) (one.tells entries so)));
-    reasons = all_both (HasReason db whole past (one.deeds ++ two.deeds)) one.moves two.moves (all_to one.moves (reason_front past one.deeds two.deeds) one.reasons) (all_to two.moves (reason_back past one.deeds two.deeds) two.reasons);
+    reasons = all_both (HasItsReason db whole past (one.deeds ++ two.deeds)) one.moves two.moves (all_to one.moves (reason_front past one.deeds two.deeds) one.reasons) (all_to two.moves (reason_back past one.deeds two.deeds) two.reasons);
     is = join one.moves two.moves one.is two.is;
   }
 
@@ -281,7 +281,7 @@ module _ (db : Database) (whole : Relations) where
           named = let is : (txn_name first.txn, first.reply) ≡ (next_txn (desk_of db before.table), Begun) = cc in ap (λ (pair : Name × Reply). pair.0) is
 
   -- a call is refused, and nothing has changed
-  none_said : (moves : List Move) (before after : Machines) (past : List (Deed (language db))) (kind : List Move → Type 0) → said_in moves ≡ [] → AllByRecursion (HasReason db whole past []) moves → kind moves → after ≡ before → IsListServed db whole before past → ListMade db whole after past kind
+  none_said : (moves : List Move) (before after : Machines) (past : List (Deed (language db))) (kind : List Move → Type 0) → said_in moves ≡ [] → AllByRecursion (HasItsReason db whole past []) moves → kind moves → after ≡ before → IsListServed db whole before past → ListMade db whole after past kind
   none_said moves before after past kind none reasons is same served = record {
     moves = moves;
     deeds = [];

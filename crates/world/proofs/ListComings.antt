@@ -1,12 +1,11 @@
 -- Letters of one client's machines over a list of catalogues come, one after another, each for its reason.
-use Rattle.std.proofs.Common.{◌≡◌, refl, sym, ap, ◌∙◌, subst, Bool, false, ℕ, suc, List, [], ◌∷◌, ◌++◌, map, append_assoc}
+use Rattle.std.proofs.Common.{◌≡◌, sym, ap, ◌∙◌, subst, Bool, false, ℕ, suc, List, [], ◌∷◌, ◌++◌, map, append_assoc}
 use Rattle.std.proofs.lemmas.List.{append-nil, map-append}
 use Rattle.std.proofs.lemmas.List.Elements.{filter_map-append}
 use Rattle.std.specs.List.{filter_map}
 use Rattle.store.specs.declared.letter.Letter as letters
 use Rattle.protocol.specs.Delivery.{AllFounded, CallKept, Coming, FirstIsFounded, Passed_over, Taken, Turned_away}
 use Rattle.protocol.specs.Desk.{Choice, Deed, Give_up}
-use Rattle.protocol.specs.Letters.{txn_name}
 use Rattle.protocol.specs.Rounds.{InRound}
 use Rattle.protocol.specs.Serial.{Explained}
 use Rattle.protocol.specs.World.{World}

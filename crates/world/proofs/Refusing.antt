@@ -9,14 +9,12 @@ use Rattle.catalog.specs.Catalogue.{Catalogue}
 use Rattle.catalog.specs.FragmentLeaf.{schemas_of}
 use Rattle.catalog.specs.Relation.{catalogue_of}
 use Rattle.store.specs.declared.name.Txn as names
-use Rattle.protocol.specs.Letters.{txn_name}
-use Rattle.protocol.specs.Desk.{is_moving, Idle, Known, Reading, Row, Stage, State, Txn, Unknown, Voting, Writing, began_as, is_desk_within, refusal, refusal_at}
-use Rattle.protocol.specs.Language.{Lang, Name}
+use Rattle.protocol.specs.Desk.{Idle, Known, Reading, Row, Stage, State, Txn, Unknown, Voting, Writing, began_as, is_desk_within, refusal, refusal_at}
+use Rattle.protocol.specs.Language.{Lang}
 use Rattle.desk.specs.declared.refusal.Refusal.{Refusal}
 use Rattle.desk.specs.declared.refusal.Refusal.TheVariants.{Full, Memory, NoNext, NotAlone}
 use Rattle.desk.specs.Request.{WhyNotStated, refused_as, txn_in}
 use Rattle.desk.proofs.Raised.{moving_is}
-use Rattle.protocol.proofs.Basics.{clash}
 use Rattle.desk.specs.Database.{Database}
 use Rattle.desk.specs.Does.{IsNoStatement, StatesPastLimits}
 use Rattle.desk.specs.OfCatalogue.{InForce, first_in}

@@ -4,7 +4,6 @@ use Rattle.std.proofs.Math.Path.{fun_ext}
 use Rattle.std.specs.Cmp.Lexicographic.{pointwise}
 use Rattle.std.specs.List.{AllByRecursion, list_any}
 use Rattle.std.specs.List.Sorted.{IsStrictlySortedBy}
-use Rattle.meaning.specs.Whole.{Relations}
 use Rattle.reader.specs.Printable.{AreDistinct}
 use Rattle.store.specs.Name.{txn_cmp}
 use Rattle.protocol.specs.Catalogues.{site_at}
@@ -21,12 +20,10 @@ use Rattle.site.proofs.Restarting.{restarts as site_restarts}
 use Rattle.desk.specs.Database.{Database, language, statements}
 use Rattle.desk.specs.State.{IsMemory, desk_of}
 use Rattle.desk.proofs.Restarted.{risen}
-use Rattle.world.specs.Client.{IsServed}
 use Rattle.world.specs.declared.sites.SiteAction.TheVariants.{Restart}
 use Rattle.world.specs.Listed.{FitsList, IsListed, ListLeads}
-use Rattle.world.specs.ListServed.{IsListServed}
 use Rattle.world.specs.Machines.{Machines, world_of}
-use Rattle.world.specs.Recovery.{AllWake, ComeUp, ComingUpLaw, ListComeUp, ListComingUpLaw, Wakes, lost_by}
+use Rattle.world.specs.Recovery.{AllWake, ComingUpLaw, ListComeUp, ListComingUpLaw, Wakes, lost_by}
 use Rattle.world.specs.Seated.{SomeSeatDoes}
 use Rattle.world.specs.Sites.{IsSeated, Seat, is_called, reseated, seat_of, states_of}
 use Rattle.world.proofs.ListDelivering.{list_reached}

@@ -96,7 +96,7 @@ MakesMoves db before after (Err told) kind = (is_stop told ≡ true) ⊎ HasMade
 abbrev pub OverLists : {D S : Type 0} → (code.Machines D S → Type 0) → (code.Machines D S → Type 0) → (code.Machines D S → Machines) → code.Machines D S → code.Machines D S → ((db : Database) → Relations → List (Deed (language db)) → Type 0) → Type 0
 OverLists clean sound view old new P = (db : Database) (whole : Relations) (past : List (Deed (language db))) → IsListed db → StandsIn db old.desk → clean new → sound old → IsListServed db whole (view old) past → P db whole past × StandsIn db new.desk
 
--- so whatever has happened, where memory fitted the stores
+-- something holds of each database in whose list the machines stand, of the machines before a call and after it, where stores are clean now and were sound, and memory fitted them
 abbrev pub OverFitting : {D S : Type 0} → (code.Machines D S → Type 0) → (code.Machines D S → Type 0) → (code.Machines D S → Machines) → code.Machines D S → code.Machines D S → (Database → Machines → Machines → Type 0) → Type 0
 OverFitting clean sound view old new P = (db : Database) → IsListed db → StandsIn db old.desk → clean new → sound old → FitsList db (view old) → P db (view old) (view new)
 

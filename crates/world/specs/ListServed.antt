@@ -58,14 +58,14 @@ pub record RefusedOnTheWay (db : Database) (whole : Relations) (past deeds : Lis
   pub reason : IsRefused db machines.later machines.table asked told
 
 -- why a move was refused, if it was: memory ran out or a store failed, or the coordinator refuses it
-abbrev pub HasReason : (db : Database) → Relations → (past deeds : List (Deed (language db))) → Move → Type 0
-HasReason db whole past deeds (Begins txn heard) = ⊤
-HasReason db whole past deeds (States txn text heard) = ⊤
-HasReason db whole past deeds (Commits txn heard) = ⊤
-HasReason db whole past deeds (Rolls_back txn heard) = ⊤
-HasReason db whole past deeds (Refragments text (Ok heard)) = ⊤
-HasReason db whole past deeds (Refragments text (Err told)) = (is_stop told ≡ true) ⊎ RefusedOnTheWay db whole past deeds (call.Refragment text) told
-HasReason db whole past deeds (Refuses asked told) = (is_stop told ≡ true) ⊎ RefusedOnTheWay db whole past deeds asked told
+abbrev pub HasItsReason : (db : Database) → Relations → (past deeds : List (Deed (language db))) → Move → Type 0
+HasItsReason db whole past deeds (Begins txn heard) = ⊤
+HasItsReason db whole past deeds (States txn text heard) = ⊤
+HasItsReason db whole past deeds (Commits txn heard) = ⊤
+HasItsReason db whole past deeds (Rolls_back txn heard) = ⊤
+HasItsReason db whole past deeds (Refragments text (Ok heard)) = ⊤
+HasItsReason db whole past deeds (Refragments text (Err told)) = (is_stop told ≡ true) ⊎ RefusedOnTheWay db whole past deeds (call.Refragment text) told
+HasItsReason db whole past deeds (Refuses asked told) = (is_stop told ≡ true) ⊎ RefusedOnTheWay db whole past deeds asked told
 
 -- moves of this kind were made, by further deeds: what was asked for and heard tells of them, with all that was asked for and heard before; and each that was refused has its reason
 pub record ListMade (db : Database) (whole : Relations) (machines : Machines) (past : List (Deed (language db))) (kind : List Move → Type 0) : Type 0 where
@@ -73,7 +73,7 @@ pub record ListMade (db : Database) (whole : Relations) (machines : Machines) (p
   pub deeds : List (Deed (language db))
   pub served : IsListServed db whole machines (past ++ deeds)
   pub tells : (entries : List Entry) → Tells db entries past → Tells db (entries ++ said_in moves) (past ++ deeds)
-  pub reasons : AllByRecursion (HasReason db whole past deeds) moves
+  pub reasons : AllByRecursion (HasItsReason db whole past deeds) moves
   pub is : kind moves
 
 -- the serial law of a client's database over this list: the committed transactions, ordinary ones and REFRAGMENTs, one after another over the whole relations, give the answers that were given and, under the catalogue in force, what the settled fragments rebuild

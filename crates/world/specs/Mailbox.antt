@@ -46,7 +46,7 @@ pub record Breaks (db : Database) (step : World (language db) → World (languag
   pub version : after.table.version ≡ before.machines.table.version
   pub explained : AllExplained deeds
 
--- so some letters come over a list of catalogues, of which another one may come into force; whatever stores refuse
+-- some letters come over a list of catalogues, of which another one may come into force: deeds are done, among them no statement that isn't explained, and the client hears of them. Where operations that wait are of leaves at their sites, so they are later, and what becomes of each letter has its reason
 pub record ListComes (db : Database) (before after : Scene) : Type 0 where
   pub comings : List (Coming (language db))
   pub deeds : List (Deed (language db))

@@ -162,7 +162,7 @@ BeginsAnewOver catalogue of_desk of_sites machines = (whole : Relations) (old : 
     → IsBeginning (database catalogue) (after_committed (database catalogue) past whole) machines
 
 -- ---- over a list of catalogues, whichever is in force
--- machines that have come up over what the stores of others kept
+-- machines over a list that have come up over what the stores of others kept
 pub record ListComeUp (db : Database) (old new : Machines) : Type 0 where
   pub fit : FitsList db new
   pub sites : AllWake old.seats new.seats

@@ -99,7 +99,7 @@ pub record IsDone (db : Database) (letter : letters.Letter) (before after : Mach
   pub counts : NoFewer before.refused after.refused
   pub kept : IsKept coming ⊎ HaveRefused before.refused after.refused
 
--- so whichever catalogue comes into force, whatever stores refuse
+-- something becomes of a letter, and for a reason, whichever catalogue comes into force
 pub record ListIsDone (db : Database) (letter : letters.Letter) (before after : Machines) (out : List letters.Letter) (notices : List Notice) : Type 0 where
   pub coming : Coming (language db)
   pub reason : HasReason db before letter coming

@@ -172,7 +172,7 @@ fn deliver_next<D: DeskStore, S: SiteStore>(
         → IsInRound db n (suc i) (scene (counted D.kept S.kept D.refused S.refused machines.old) post.old) → OnOk result (IsInRound db n i (scene (counted D.kept S.kept D.refused S.refused machines.new) post.new)) }
     ensures comes { OverFitting (OfStores D.is_clean S.is_clean) (OfStores D.is_sound S.is_sound) (held D.kept S.kept) machines.old machines.new
         (λ db before after. OnOk result (ListComes db (scene before post.old) (scene after post.new) × StandsIn db machines.new.desk)) }
-    ensures list_ranks { OverFitting (OfStores D.is_clean S.is_clean) (OfStores D.is_sound S.is_sound) (held D.kept S.kept) machines.old machines.new
+    ensures ranks_lists { OverFitting (OfStores D.is_clean S.is_clean) (OfStores D.is_sound S.is_sound) (held D.kept S.kept) machines.old machines.new
         (λ db before after. OnOk result ((n i : ℕ) → IsInRound db n (suc i) (scene before post.old) → IsInRound db n i (scene after post.new))) }
     ensures lists { ListDelivers (OfStores D.is_clean S.is_clean) (OfStores D.is_sound S.is_sound) (held D.kept S.kept) machines.old machines.new result post.old.waiting.items (λ done. post.new.waiting.items) post.old.heard.items (λ done. post.new.heard.items) }
     ensures err { OverDatabase (OfStores D.is_clean S.is_clean) (OfStores D.is_sound S.is_sound) (counted D.kept S.kept D.refused S.refused) machines.old machines.new
@@ -207,7 +207,7 @@ fn deliver_round<D: DeskStore, S: SiteStore>(
         → RanksUnder (suc n) (world_at db (scene (counted D.kept S.kept D.refused S.refused machines.old) post.old)) → OnOk result (RanksUnder n (world_at db (scene (counted D.kept S.kept D.refused S.refused machines.new) post.new))) }
     ensures comes { OverFitting (OfStores D.is_clean S.is_clean) (OfStores D.is_sound S.is_sound) (held D.kept S.kept) machines.old machines.new
         (λ db before after. OnOk result (ListComes db (scene before post.old) (scene after post.new) × StandsIn db machines.new.desk)) }
-    ensures list_ranks { OverFitting (OfStores D.is_clean S.is_clean) (OfStores D.is_sound S.is_sound) (held D.kept S.kept) machines.old machines.new
+    ensures ranks_lists { OverFitting (OfStores D.is_clean S.is_clean) (OfStores D.is_sound S.is_sound) (held D.kept S.kept) machines.old machines.new
         (λ db before after. OnOk result ((n : ℕ) → RanksUnder (suc n) (world_at db (scene before post.old)) → RanksUnder n (world_at db (scene after post.new)))) }
     ensures lists { ListDelivers (OfStores D.is_clean S.is_clean) (OfStores D.is_sound S.is_sound) (held D.kept S.kept) machines.old machines.new result post.old.waiting.items (λ done. post.new.waiting.items) post.old.heard.items (λ done. post.new.heard.items) }
     ensures err { OverDatabase (OfStores D.is_clean S.is_clean) (OfStores D.is_sound S.is_sound) (counted D.kept S.kept D.refused S.refused) machines.old machines.new

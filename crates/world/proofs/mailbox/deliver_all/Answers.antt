@@ -31,7 +31,7 @@ loop-init g c =
       comes = λ db listed stands clean sound fits.
           let here = held g.D.DeskStore.kept g.S.SiteStore.kept c.args.machines.now in
           (alike_comes db (put_out_by here c.args.out) (scene here c.of-post.result) refl c.of-post.ensures.waiting c.of-post.ensures.heard fits, stands);
-      list_ranks = λ db listed stands clean sound fits. all_nine db (scene (held g.D.DeskStore.kept g.S.SiteStore.kept c.args.machines.now) c.of-post.result);
+      ranks_lists = λ db listed stands clean sound fits. all_nine db (scene (held g.D.DeskStore.kept g.S.SiteStore.kept c.args.machines.now) c.of-post.result);
       lists = λ db whole past listed stands clean sound waits.
           let here = held g.D.DeskStore.kept g.S.SiteStore.kept c.args.machines.now in
           let out = c.args.out in (
@@ -67,12 +67,12 @@ loop-preserved g c =
           let so_far = c.loop.invariant.comes db listed stands (c.deliver_round.ensures.leaves.clean clean) sound fits in
           let more = c.in_ok-deliver_round.ensures.comes db listed so_far.1 clean (c.loop.invariant.sound (c.deliver_round.ensures.leaves.clean clean) sound) so_far.0.fit in
           (then_comes db (put_out_by (hold c.args.machines.now) c.args.out) (scene (hold c.loop.machines) c.loop.post) (scene (hold c.deliver_round.new.machines) c.deliver_round.new.post) so_far.0 more.0, more.1);
-      list_ranks = λ db listed stands clean sound fits.
+      ranks_lists = λ db listed stands clean sound fits.
           let hold = held g.D.DeskStore.kept g.S.SiteStore.kept in
           let so_far = c.loop.invariant.comes db listed stands (c.deliver_round.ensures.leaves.clean clean) sound fits in
-          let ranked = c.loop.invariant.list_ranks db listed stands (c.deliver_round.ensures.leaves.clean clean) sound fits in
+          let ranked = c.loop.invariant.ranks_lists db listed stands (c.deliver_round.ensures.leaves.clean clean) sound fits in
           subst (λ (k : ℕ). RanksUnder k (world_at db (scene (hold c.deliver_round.new.machines) c.deliver_round.new.post))) same
-          (c.in_ok-deliver_round.ensures.list_ranks db listed so_far.1 clean (c.loop.invariant.sound (c.deliver_round.ensures.leaves.clean clean) sound) so_far.0.fit (8 - c.loop.counter)
+          (c.in_ok-deliver_round.ensures.ranks_lists db listed so_far.1 clean (c.loop.invariant.sound (c.deliver_round.ensures.leaves.clean clean) sound) so_far.0.fit (8 - c.loop.counter)
           (subst (λ (k : ℕ). RanksUnder k (world_at db (scene (hold c.loop.machines) c.loop.post))) one_less ranked));
       lists = λ db whole past listed stands clean sound waits.
           let hold = held g.D.DeskStore.kept g.S.SiteStore.kept in
@@ -127,4 +127,4 @@ returns-clause-comes g c = λ db listed stands clean sound fits.
     let here = scene (hold c.loop.machines) c.loop.post in
     let over : 9 - c.loop.counter ≡ 0 = omega (arith, c.loop-test.false) in
     let came = c.loop.invariant.comes db listed stands clean sound fits in
-    (comes_settled db (put_out_by (hold c.args.machines.now) c.args.out) here came.0 (none_left db here (subst (λ (k : ℕ). RanksUnder k (world_at db here)) over (c.loop.invariant.list_ranks db listed stands clean sound fits))), came.1)
+    (comes_settled db (put_out_by (hold c.args.machines.now) c.args.out) here came.0 (none_left db here (subst (λ (k : ℕ). RanksUnder k (world_at db here)) over (c.loop.invariant.ranks_lists db listed stands clean sound fits))), came.1)

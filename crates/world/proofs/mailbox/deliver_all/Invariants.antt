@@ -27,7 +27,7 @@ invariant-loop g l = record {
       → AreFit db (counted g.D.DeskStore.kept g.S.SiteStore.kept g.D.DeskStore.refused g.S.SiteStore.refused l.fn.machines) → RanksUnder (9 - l.counter) (world_at db (scene (counted g.D.DeskStore.kept g.S.SiteStore.kept g.D.DeskStore.refused g.S.SiteStore.refused l.machines) l.post));
   comes : (db : Database) → IsListed db → StandsIn db l.fn.machines.desk → OfStores g.D.DeskStore.is_clean g.S.SiteStore.is_clean l.machines → OfStores g.D.DeskStore.is_sound g.S.SiteStore.is_sound l.fn.machines → FitsList db (held g.D.DeskStore.kept g.S.SiteStore.kept l.fn.machines)
       → ListComes db (put_out_by (held g.D.DeskStore.kept g.S.SiteStore.kept l.fn.machines) l.fn.out) (scene (held g.D.DeskStore.kept g.S.SiteStore.kept l.machines) l.post) × StandsIn db l.machines.desk;
-  list_ranks : (db : Database) → IsListed db → StandsIn db l.fn.machines.desk → OfStores g.D.DeskStore.is_clean g.S.SiteStore.is_clean l.machines → OfStores g.D.DeskStore.is_sound g.S.SiteStore.is_sound l.fn.machines → FitsList db (held g.D.DeskStore.kept g.S.SiteStore.kept l.fn.machines)
+  ranks_lists : (db : Database) → IsListed db → StandsIn db l.fn.machines.desk → OfStores g.D.DeskStore.is_clean g.S.SiteStore.is_clean l.machines → OfStores g.D.DeskStore.is_sound g.S.SiteStore.is_sound l.fn.machines → FitsList db (held g.D.DeskStore.kept g.S.SiteStore.kept l.fn.machines)
       → RanksUnder (9 - l.counter) (world_at db (scene (held g.D.DeskStore.kept g.S.SiteStore.kept l.machines) l.post));
   lists : (db : Database) (whole : Relations) (past : List (Deed (language db))) → IsListed db → StandsIn db l.fn.machines.desk → OfStores g.D.DeskStore.is_clean g.S.SiteStore.is_clean l.machines → OfStores g.D.DeskStore.is_sound g.S.SiteStore.is_sound l.fn.machines
       → IsListWaiting db whole (held g.D.DeskStore.kept g.S.SiteStore.kept l.fn.machines) l.fn.out.letters past → ListGoes db whole (held g.D.DeskStore.kept g.S.SiteStore.kept l.machines) l.post.waiting.items past l.fn.out.replies l.post.heard.items × StandsIn db l.machines.desk;

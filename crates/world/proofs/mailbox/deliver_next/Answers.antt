@@ -125,8 +125,8 @@ returns-in-Ok-clause-comes g c = λ db listed stands clean sound fits.
     on_both c.add.result (λ waiting heard. (letter_comes db c.in-Some.letter here after c.pop_front.new.self.items c.in-Ok.out.letters c.in-Ok.out.replies c.in-Some.ensures.items done.0 (scene after c.add.new.self) refl waiting heard, done.1))
     c.add.ensures.waiting c.add.ensures.heard
 
-pub returns-in-Ok-clause-list_ranks : goal.returns-in-Ok-clause-list_ranks
-returns-in-Ok-clause-list_ranks g c = λ db listed stands clean sound fits.
+pub returns-in-Ok-clause-ranks_lists : goal.returns-in-Ok-clause-ranks_lists
+returns-in-Ok-clause-ranks_lists g c = λ db listed stands clean sound fits.
     let here = scene (held g.D.DeskStore.kept g.S.SiteStore.kept c.args.machines.now) c.args.post.now in
     let after = held g.D.DeskStore.kept g.S.SiteStore.kept c.deliver_one.new.machines in
     let done = c.in-Ok.ensures.done db listed stands clean sound fits in

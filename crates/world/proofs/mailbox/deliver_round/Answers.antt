@@ -26,7 +26,7 @@ loop-init g c =
       goes = λ db of is clean sound fit. nothing_goes db here fit;
       ranks = λ db n of is clean sound fit ranks. all_in_round db n (c.len-end.result - 0) here count ranks;
       comes = λ db listed stands clean sound fits. (nothing_comes db (scene (held g.D.DeskStore.kept g.S.SiteStore.kept c.args.machines.now) c.args.post.now) fits, stands);
-      list_ranks = λ db listed stands clean sound fits n ranks. all_in_round db n (c.len-end.result - 0) (scene (held g.D.DeskStore.kept g.S.SiteStore.kept c.args.machines.now) c.args.post.now) count ranks;
+      ranks_lists = λ db listed stands clean sound fits n ranks. all_in_round db n (c.len-end.result - 0) (scene (held g.D.DeskStore.kept g.S.SiteStore.kept c.args.machines.now) c.args.post.now) count ranks;
       lists = λ db whole past listed stands clean sound waits. (nothing_goes_list db whole (held g.D.DeskStore.kept g.S.SiteStore.kept c.args.machines.now) c.args.post.now.waiting.items past c.args.post.now.heard.items waits, stands);
     }
 
@@ -54,10 +54,10 @@ loop-preserved g c =
           let so_far = c.loop.invariant.comes db listed stands (c.deliver_next.ensures.leaves.clean clean) sound fits in
           let more = c.in_ok-deliver_next.ensures.comes db listed so_far.1 clean (c.loop.invariant.sound (c.deliver_next.ensures.leaves.clean clean) sound) so_far.0.fit in
           (then_comes db (scene (hold c.args.machines.now) c.args.post.now) (scene (hold c.loop.machines) c.loop.post) (scene (hold c.deliver_next.new.machines) c.deliver_next.new.post) so_far.0 more.0, more.1);
-      list_ranks = λ db listed stands clean sound fits n ranks.
+      ranks_lists = λ db listed stands clean sound fits n ranks.
           let so_far = c.loop.invariant.comes db listed stands (c.deliver_next.ensures.leaves.clean clean) sound fits in
-          let ranked = c.loop.invariant.list_ranks db listed stands (c.deliver_next.ensures.leaves.clean clean) sound fits n ranks in
-          c.in_ok-deliver_next.ensures.list_ranks db listed so_far.1 clean (c.loop.invariant.sound (c.deliver_next.ensures.leaves.clean clean) sound) so_far.0.fit n (c.len-end.result - (c.loop.counter + 1))
+          let ranked = c.loop.invariant.ranks_lists db listed stands (c.deliver_next.ensures.leaves.clean clean) sound fits n ranks in
+          c.in_ok-deliver_next.ensures.ranks_lists db listed so_far.1 clean (c.loop.invariant.sound (c.deliver_next.ensures.leaves.clean clean) sound) so_far.0.fit n (c.len-end.result - (c.loop.counter + 1))
           (subst (λ (k : ℕ). IsInRound db n k (scene (held g.D.DeskStore.kept g.S.SiteStore.kept c.loop.machines) c.loop.post)) one_less ranked);
       lists = λ db whole past listed stands clean sound waits.
           let hold = held g.D.DeskStore.kept g.S.SiteStore.kept in
@@ -108,7 +108,7 @@ returns-in_err-deliver_next-clause-lists g c = λ db whole past listed stands cl
 pub returns-clause-comes : goal.returns-clause-comes
 returns-clause-comes g c = λ db listed stands clean sound fits. c.loop.invariant.comes db listed stands clean sound fits
 
-pub returns-clause-list_ranks : goal.returns-clause-list_ranks
-returns-clause-list_ranks g c = λ db listed stands clean sound fits n ranks.
+pub returns-clause-ranks_lists : goal.returns-clause-ranks_lists
+returns-clause-ranks_lists g c = λ db listed stands clean sound fits n ranks.
     let over : c.len-end.result - c.loop.counter ≡ 0 = omega (arith, c.loop-test.false) in
-    subst (λ (k : ℕ). IsInRound db n k (scene (held g.D.DeskStore.kept g.S.SiteStore.kept c.loop.machines) c.loop.post)) over (c.loop.invariant.list_ranks db listed stands clean sound fits n ranks)
+    subst (λ (k : ℕ). IsInRound db n k (scene (held g.D.DeskStore.kept g.S.SiteStore.kept c.loop.machines) c.loop.post)) over (c.loop.invariant.ranks_lists db listed stands clean sound fits n ranks)

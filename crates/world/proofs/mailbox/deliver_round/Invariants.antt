@@ -28,7 +28,7 @@ invariant-loop g l = record {
       → IsInRound db n (l.end - l.counter) (scene (counted g.D.DeskStore.kept g.S.SiteStore.kept g.D.DeskStore.refused g.S.SiteStore.refused l.machines) l.post);
   comes : (db : Database) → IsListed db → StandsIn db l.fn.machines.desk → OfStores g.D.DeskStore.is_clean g.S.SiteStore.is_clean l.machines → OfStores g.D.DeskStore.is_sound g.S.SiteStore.is_sound l.fn.machines → FitsList db (held g.D.DeskStore.kept g.S.SiteStore.kept l.fn.machines)
       → ListComes db (scene (held g.D.DeskStore.kept g.S.SiteStore.kept l.fn.machines) l.fn.post) (scene (held g.D.DeskStore.kept g.S.SiteStore.kept l.machines) l.post) × StandsIn db l.machines.desk;
-  list_ranks : (db : Database) → IsListed db → StandsIn db l.fn.machines.desk → OfStores g.D.DeskStore.is_clean g.S.SiteStore.is_clean l.machines → OfStores g.D.DeskStore.is_sound g.S.SiteStore.is_sound l.fn.machines → FitsList db (held g.D.DeskStore.kept g.S.SiteStore.kept l.fn.machines)
+  ranks_lists : (db : Database) → IsListed db → StandsIn db l.fn.machines.desk → OfStores g.D.DeskStore.is_clean g.S.SiteStore.is_clean l.machines → OfStores g.D.DeskStore.is_sound g.S.SiteStore.is_sound l.fn.machines → FitsList db (held g.D.DeskStore.kept g.S.SiteStore.kept l.fn.machines)
       → (n : ℕ) → RanksUnder (suc n) (world_at db (scene (held g.D.DeskStore.kept g.S.SiteStore.kept l.fn.machines) l.fn.post)) → IsInRound db n (l.end - l.counter) (scene (held g.D.DeskStore.kept g.S.SiteStore.kept l.machines) l.post);
   lists : (db : Database) (whole : Relations) (past : List (Deed (language db))) → IsListed db → StandsIn db l.fn.machines.desk → OfStores g.D.DeskStore.is_clean g.S.SiteStore.is_clean l.machines → OfStores g.D.DeskStore.is_sound g.S.SiteStore.is_sound l.fn.machines
       → IsListWaiting db whole (held g.D.DeskStore.kept g.S.SiteStore.kept l.fn.machines) l.fn.post.waiting.items past → ListGoes db whole (held g.D.DeskStore.kept g.S.SiteStore.kept l.machines) l.post.waiting.items past l.fn.post.heard.items l.post.heard.items × StandsIn db l.machines.desk;
