@@ -14,7 +14,7 @@ use Rattle.desk.specs.Database.{Database, language}
 use Rattle.world.specs.declared.event.Entry.{Entry}
 use Rattle.world.specs.Commands.{IsCommand}
 use Rattle.world.specs.Course.{Move, said_in}
-use Rattle.world.specs.ListServed.{HasReason, IsListServed}
+use Rattle.world.specs.ListServed.{HasItsReason, IsListServed}
 use Rattle.world.specs.Machines.{Machines}
 use Rattle.world.specs.Replies.{Tells}
 use Rattle.world.specs.Settled.{ShowsSerial, parts_kept}
@@ -78,7 +78,7 @@ pub record IsDoneOver (db : Database) (whole : Relations) (text : List ℕ) (bef
   pub moves : List Move
   pub deeds : List (Deed (language db))
   pub command : IsCommand db.schemas text before.current after.current moves reply
-  pub reasons : AllByRecursion (HasReason db whole before.happened.deeds deeds) moves
+  pub reasons : AllByRecursion (HasItsReason db whole before.happened.deeds deeds) moves
   pub happened : after.happened ≡ record { deeds = before.happened.deeds ++ deeds; entries = before.happened.entries ++ said_in moves }
   pub told : IsTold db whole after.machines after.happened
 
