@@ -4,9 +4,10 @@
 #
 # usage: bench/refragment.sh [ROWS]      (default: 20,000, the most for which a script is short enough)
 #
-# A time is the processor's, of the whole run less that of the load alone, each the least of three; a peak is that of the
-# resident memory. It fails where the REFRAGMENT takes more than three times as long as the UPDATE, where twice the rows take
-# more than 2.4 times the memory, or where an answer is another one than worked out here.
+# A time is the processor's, of the whole run less that of the load alone, each the least of three. A peak is that of the
+# resident memory, in sessions with half, with all and with twice the rows. It fails where the REFRAGMENT takes more than three
+# times as long as the UPDATE, where the second step takes more than 2.4 times the memory of the first, which has half the
+# rows, or where an answer is another one than worked out here.
 #
 # The program is crates/fragdb/out/fragdb, or the one that FRAGDB names.
 set -eu
@@ -30,41 +31,48 @@ def catalogue(leaves):
     return HEAD + "".join(f'[[relations.item.rows]]\nwhere = "{where}"\nsite = "{site}"\n' for where, site in leaves)
 
 
-def ran(folder, rows, last):
+GREETING = "fragdb 0.1.0, a relational database in fragments; .help tells what can be typed\n"
+
+
+def ran(folder, rows, last, in_session=False):
     """The seconds and the peak in KiB of a run that loads so many rows and then does this; its answers have to be right."""
-    lines = [f"INSERT INTO item VALUES ({key}, {key % 50})" for key in range(rows)]
-    lines += [last] if last else []
     script = f"{folder}/script"
     with open(script, "w", encoding="ascii") as file:
-        file.write("\n".join(lines) + "\n")
+        for key in range(rows):
+            file.write(f"INSERT INTO item VALUES ({key}, {key % 50})\n")
+        file.write(f"{last}\n" if last else "")
     words = [PROGRAM, "solo", "--catalog", f"{folder}/two.toml", "--next", f"{folder}/four.toml", script]
+    prompt = "fragdb> " if in_session else ""
     with open(f"{folder}/told", "w+", encoding="utf-8") as told:
-        process = subprocess.Popen(words, stdout=told)
+        process = subprocess.Popen(words + ["--interactive"] * in_session, stdout=told)
         _, status, used = os.wait4(process.pid, 0)
         told.seek(0)
-        answers = told.read().splitlines()
-    wanted = ["changed 1"] * rows + ([f"changed {rows}"] if last else [])
+        answers = told.read()
+    wanted = (GREETING if in_session else "") + f"{prompt}changed 1\n" * rows + (f"{prompt}changed {rows}\n" if last else "") + (f"{prompt}\n" if in_session else "")
     if status != 0 or answers != wanted:
-        raise SystemExit(f"wrong: status {status}, the last answer {answers[-1:]}")
+        raise SystemExit(f"wrong: status {status}, the last answer {answers[-40:]!r}")
     return used.ru_utime + used.ru_stime, used.ru_maxrss
 
 
 def least(folder, rows, last):
-    found = [ran(folder, rows, last) for _ in range(TIMES)]
-    return min(it[0] for it in found), min(it[1] for it in found)
+    return min(ran(folder, rows, last)[0] for _ in range(TIMES))
+
+
+def peak(folder, rows, last):
+    return ran(folder, rows, last, in_session=True)[1]
 
 
 with tempfile.TemporaryDirectory() as folder:
     for name, leaves in (("two", TWO), ("four", FOUR)):
         with open(f"{folder}/{name}.toml", "w", encoding="ascii") as file:
             file.write(catalogue(leaves))
-    load, _ = least(folder, ROWS, None)
-    update, update_peak = least(folder, ROWS, "UPDATE item SET zone = zone + 50")
-    moved, peak = least(folder, ROWS, "REFRAGMENT item")
-    _, none = least(folder, 1, "REFRAGMENT item")
-    _, half = least(folder, ROWS // 2, "REFRAGMENT item")
-times, growth = (moved - load) / (update - load), (peak - none) / (half - none)
-print(f"{ROWS} rows: UPDATE {update - load:.2f} s, REFRAGMENT {moved - load:.2f} s, {times:.1f} times")
-print(f"peak: UPDATE {update_peak >> 10} MiB, REFRAGMENT {peak >> 10} MiB; for half the rows {half >> 10} MiB: {growth:.2f} times the memory")
+    half, all_rows, twice = (peak(folder, rows, "REFRAGMENT item") for rows in (ROWS // 2, ROWS, 2 * ROWS))
+    twice_update = peak(folder, 2 * ROWS, "UPDATE item SET zone = zone + 50")
+    load = least(folder, ROWS, None)
+    update = least(folder, ROWS, "UPDATE item SET zone = zone + 50") - load
+    moved = least(folder, ROWS, "REFRAGMENT item") - load
+times, growth = moved / update, (twice - all_rows) / (all_rows - half)
+print(f"{ROWS} rows: UPDATE {update:.2f} s, REFRAGMENT {moved:.2f} s, {times:.1f} times")
+print(f"peaks: {half >> 10}, {all_rows >> 10}, {twice >> 10} MiB for half, all and twice the rows, of an UPDATE of the last {twice_update >> 10} MiB: {growth:.2f} times")
 sys.exit(1 if times > MOST or growth > MOST_GROWTH else 0)
 PYTHON
