@@ -71,7 +71,7 @@ fn next_column(alloc: Global, before: &[Column], text: &str) -> Result<Column, R
     if has_column(before, name) {
         return Err(Rule::Twice);
     }
-    let name = Text::new(String::from_str(alloc, name)?);
+    let name = Text::copy_of(alloc, name)?;
     Ok(Column { name, kind })
 }
 

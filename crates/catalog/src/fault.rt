@@ -186,10 +186,10 @@ impl CatFault {
         if matches!(rule, Rule::Memory) {
             return CatFault::outside(rule);
         }
-        match String::from_str(alloc, name) {
+        match Text::copy_of(alloc, name) {
             Ok(name) => CatFault {
                 rule,
-                relation: Some(Text::new(name)),
+                relation: Some(name),
             },
             Err(_) => CatFault::outside(Rule::Memory),
         }

@@ -94,7 +94,7 @@ fn shown(alloc: Global, within: &[usize], place: usize, column: &Column) -> Resu
         return column.copy();
     }
     Ok(Column {
-        name: Text::new(String::new(alloc)),
+        name: Text::new(String::new(alloc))?,
         kind: column.kind,
     })
 }

@@ -108,7 +108,7 @@ pub(crate) fn relation(
     };
     let columns = columns(alloc, texts.as_slice())?;
     let split = split(alloc, sites, columns.as_slice(), node)?;
-    let name = Text::new(String::from_str(alloc, name)?);
+    let name = Text::copy_of(alloc, name)?;
     let columns = Seq::new(columns);
     let schema = RelationSchema { name, columns };
     Ok(SplitRelation { schema, split })

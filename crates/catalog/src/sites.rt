@@ -49,7 +49,7 @@ fn next_site(alloc: Global, before: &[Text], text: &str) -> Result<Text, Rule>
     if has_name(before, text) {
         return Err(Rule::Twice);
     }
-    Ok(Text::new(String::from_str(alloc, text)?))
+    Ok(Text::copy_of(alloc, text)?)
 }
 
 fn is_site_name(text: &str) -> bool

@@ -7,7 +7,8 @@ ghost use Rattle.terms.specs.Value.{Fits, kind_of};
 ghost use Rattle.exchange.specs.declared.field.FieldFault.TheVariants as faults;
 ghost use Rattle.exchange.specs.Field.{IsAnswer, digits_of, integer_of, is_numeral, text_of, value_of};
 
-use std::alloc::{AllocError, Global};
+use std::alloc::Global;
+use terms::memory::Memory;
 use terms::text::Text;
 use terms::value::{Kind, TEXT_LIMIT, Value};
 
@@ -25,10 +26,10 @@ pub enum FieldFault {
     Memory,
 }
 
-impl From<AllocError> for FieldFault {
+impl From<Memory> for FieldFault {
     ghost from_gives = { λ _ fault. fault ≡ faults.Memory };
 
-    fn from(_error: AllocError) -> FieldFault {
+    fn from(_error: Memory) -> FieldFault {
         FieldFault::Memory
     }
 }
@@ -89,7 +90,7 @@ fn text(alloc: Global, field: &[u8]) -> Result<Text, FieldFault>
     if has_control(field) {
         return Err(FieldFault::NoText);
     }
-    Ok(Text::new(String::from_str(alloc, text)?))
+    Ok(Text::copy_of(alloc, text)?)
 }
 
 fn has_control(field: &[u8]) -> bool

@@ -73,7 +73,7 @@ fn way_of(alloc: Global, columns: &[Column], steps: &[Step]) -> Result<Vec<Text>
 {
     let mut way = Vec::new(alloc);
     for step in steps {
-        way.push(Text::new(step_text(alloc, columns, step)?))?;
+        way.push(Text::new(step_text(alloc, columns, step)?)?)?;
     }
     Ok(way)
 }

@@ -102,7 +102,7 @@ fn qualified(alloc: Global, relation: &Text, column: &Column) -> Result<Column, 
 {
     let name = format!(in alloc; "{relation}.{}", column.name)?;
     Ok(Column {
-        name: Text::new(name),
+        name: Text::new(name)?,
         kind: column.kind,
     })
 }

@@ -253,7 +253,7 @@ fn refragment_text(alloc: Global, relation: &str) -> Result<Text, Memory>
 {
     let mut statement = String::new(alloc);
     write!(statement, "REFRAGMENT {relation}")?;
-    Ok(Text::new(statement))
+    Text::new(statement)
 }
 
 fn delivery(rest: &str) -> Option<Item>

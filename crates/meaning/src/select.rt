@@ -102,7 +102,7 @@ fn qualified_name(alloc: Global, relation: &Text, column: &Text) -> Result<Text,
     let mut name = String::from_str(alloc, relation.as_str())?;
     name.push('.')?;
     name.push_str(column.as_str())?;
-    Ok(Text::new(name))
+    Text::new(name)
 }
 
 /// Rows joined with one relation after another.

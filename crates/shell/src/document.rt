@@ -79,15 +79,19 @@ pub(crate) fn columns_around(
     for text in texts.as_slice() {
         if let (name, Some(kind)) = name_and_kind(text) {
             if columns.is_empty() || group.is_none() || within.contains(&name) {
-                let name = Text::new(String::from_str(alloc, name)?);
+                let name = name_text(alloc, name)?;
                 columns.push(Column { name, kind })?;
             }
         }
     }
     Ok(RelationSchema {
-        name: Text::new(String::from_str(alloc, name)?),
+        name: name_text(alloc, name)?,
         columns: Seq::new(columns),
     })
+}
+
+fn name_text(alloc: Global, name: &str) -> Made<Text> {
+    Text::copy_of(alloc, name).map_err(|_| AllocError)
 }
 
 /// The text of a branch's conditions.

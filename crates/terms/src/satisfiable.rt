@@ -39,6 +39,7 @@ fn better(conds: &[Cond], col: usize, best: Option<Value>, value: Value) -> Opti
 
 /// The best so far after a constant and its successor are tried.
 fn better_of_two(
+    alloc: Global,
     conds: &[Cond],
     col: usize,
     best: Option<Value>,
@@ -47,7 +48,7 @@ fn better_of_two(
     ensures { IfOk result (λ found. found ≡ fold (better conds.now col) best (with_after constant.now)) }
 {
     let best = better(conds, col, best, constant.copy()?);
-    match after(constant)? {
+    match after(alloc, constant)? {
         Some(next) => Ok(better(conds, col, best, next)),
         None => Ok(best),
     }
@@ -57,10 +58,10 @@ fn better_of_two(
 fn search(alloc: Global, kind: Kind, conds: &[Cond], col: usize) -> Result<Option<Value>, Memory>
     ensures { IfOk result (λ found. found ≡ tried_all conds.now col (better conds.now col None (least kind)) conds.now) }
 {
-    let mut best = better(conds, col, None, least(alloc, kind));
+    let mut best = better(conds, col, None, least(alloc, kind)?);
     for cond in conds {
         if cond.col == col {
-            best = better_of_two(conds, col, best, &cond.value)?;
+            best = better_of_two(alloc, conds, col, best, &cond.value)?;
         }
     }
     Ok(best)

@@ -13,26 +13,26 @@ use crate::value::{Kind, Value};
 use std::alloc::Global;
 
 /// The least value of a type.
-pub(crate) fn least(alloc: Global, kind: Kind) -> Value
-    ensures { result ≡ least kind }
+pub(crate) fn least(alloc: Global, kind: Kind) -> Result<Value, Memory>
+    ensures { IfOk result (λ value. value ≡ least kind) }
 {
     match kind {
-        Kind::Int => Value::Int(i64::MIN),
-        Kind::Text => Value::Text(Text::new(String::new(alloc))),
+        Kind::Int => Ok(Value::Int(i64::MIN)),
+        Kind::Text => Ok(Value::Text(Text::new(String::new(alloc))?)),
     }
 }
 
 /// The least value that fits above another, if there is one. Texts have no control characters, so a
 /// space is the least that can follow one.
-pub(crate) fn after(value: &Value) -> Result<Option<Value>, Memory>
+pub(crate) fn after(alloc: Global, value: &Value) -> Result<Option<Value>, Memory>
     ensures { IfOk result (λ next. next ≡ after value.now) }
 {
     match value {
         Value::Int(n) => Ok(after_int(*n)),
         Value::Text(text) => {
-            let mut longer = text.copy()?.into_string();
+            let mut longer = String::from_str(alloc, text.as_str())?;
             longer.push(' ')?;
-            Ok(Some(Value::Text(Text::new(longer))))
+            Ok(Some(Value::Text(Text::new(longer)?)))
         }
     }
 }
@@ -87,20 +87,20 @@ fn unsorted(alloc: Global, kind: Kind, conds: &[Cond], col: usize) -> Result<Vec
     ensures { IfOk result (λ values. values.items ≡ test_values kind (constants conds.now col)) }
 {
     let mut values = Vec::new(alloc);
-    values.push(least(alloc, kind))?;
+    values.push(least(alloc, kind)?)?;
     for cond in conds {
         if cond.col == col {
-            push_with_after(&mut values, &cond.value)?;
+            push_with_after(alloc, &mut values, &cond.value)?;
         }
     }
     Ok(values)
 }
 
-fn push_with_after(values: &mut Vec<Value>, constant: &Value) -> Result<(), Memory>
+fn push_with_after(alloc: Global, values: &mut Vec<Value>, constant: &Value) -> Result<(), Memory>
     ensures { OnOk result (values.new.items ≡ values.old.items ++ with_after constant.now) }
 {
     values.push(constant.copy()?)?;
-    if let Some(next) = after(constant)? {
+    if let Some(next) = after(alloc, constant)? {
         values.push(next)?;
     }
     Ok(())

@@ -1,6 +1,7 @@
 //! Texts.
 
 ghost use Rattle.std.specs.Prelude.{◌≡◌, List, ℕ, IfOk, IsTrue, ◌↔◌, Some, refl, string_bytes, nat_eq, ◌≤◌, All};
+ghost use Rattle.std.specs.Arc.{arc_str_bytes};
 ghost use Rattle.std.specs.Ordering.{nat_cmp};
 ghost use Rattle.std.specs.Str.{chars, IsUtf8};
 ghost use Rattle.std.specs.Cmp.{partial_equiv_from_equiv};
@@ -14,45 +15,42 @@ use std::alloc::Global;
 use std::cmp::Ordering;
 use std::fmt;
 use std::marker::Model;
+use std::sync::ArcStr;
 
-/// A text, which contracts see as the list of its bytes.
+/// A text, which contracts see as the list of its bytes. Its copies share them, so that a copy takes no memory.
 #[derive(Debug, Drop)]
 pub struct Text {
-    text: String,
+    text: ArcStr,
 }
 
 impl Model for Text {
-    ghost use Rattle.std.specs.Prelude.{List, ℕ, string_bytes};
+    ghost use Rattle.std.specs.Prelude.{List, ℕ};
+    ghost use Rattle.std.specs.Arc.{arc_str_bytes};
 
     ghost Value = { List ℕ };
 
-    ghost view = { λ t. string_bytes t.text };
+    ghost view = { λ t. arc_str_bytes t.text };
 }
 
 impl Text {
-    pub fn new(text: String) -> Text
-        ensures { result ≡ string_bytes text }
+    pub fn new(text: String) -> Result<Text, Memory>
+        ensures { IfOk result (λ made. made ≡ string_bytes text) }
     {
-        Text { text }
+        let text = ArcStr::from_string(text)?;
+        Ok(Text { text })
     }
 
     /// A text of its own with these characters.
     pub fn copy_of(alloc: Global, characters: &str) -> Result<Text, Memory>
         ensures { IfOk result (λ text. text ≡ characters.now) }
     {
-        Ok(Text::new(String::from_str(alloc, characters)?))
+        Text::new(String::from_str(alloc, characters)?)
     }
 
     pub fn as_str(&self) -> &str
         ensures { result.now ≡ self.now }
     {
         self.text.as_str()
-    }
-
-    pub fn into_string(self) -> String
-        ensures { string_bytes result ≡ self }
-    {
-        self.text
     }
 }
 

@@ -43,6 +43,6 @@ impl Chance {
             8 => format!(in alloc; "INSERT INTO emp VALUES ({key}, 'i', {dept}, {pay})"),
             _ => format!(in alloc; "DELETE FROM emp WHERE dept < {dept} AND id = {key}"),
         }?;
-        Ok(Text::new(text))
+        Text::new(text)
     }
 }
