@@ -7,7 +7,7 @@ ghost use Rattle.answers.specs.Writes.{same_part, write_between};
 use catalog::fragment::place;
 use catalog::fragment_leaf::FragmentLeaf;
 use std::alloc::Global;
-use terms::copy::{TryCopy, copy_all};
+use terms::copy::TryCopy;
 use terms::leaf::Leaf;
 use terms::memory::Memory;
 use terms::part::Part;
@@ -68,12 +68,11 @@ fn change_write(
 {
     let before = part_of(alloc, leaf, &change.before)?;
     let after = part_of(alloc, leaf, &change.after)?;
-    write_between(alloc, &leaf.name, change.key, &before, &after)
+    write_between(&leaf.name, change.key, &before, &after)
 }
 
 /// The write that leads from a leaf's part at a key to another part there; none where they are the same.
 pub(crate) fn write_between(
-    alloc: Global,
     name: &Leaf,
     key: i64,
     before: &Option<Row>,
@@ -82,7 +81,7 @@ pub(crate) fn write_between(
     ensures { IfOk result (λ write. write ≡ write_between name.now key before.now after.now) }
 {
     match after {
-        Some(after) => put_unless_same(alloc, name, before, after),
+        Some(after) => put_unless_same(name, before, after),
         None => match before {
             Some(_) => Ok(Some(Write::Del(name.copy()?, key))),
             None => Ok(None),
@@ -91,12 +90,7 @@ pub(crate) fn write_between(
 }
 
 /// A write of a part, unless the part before is the same.
-fn put_unless_same(
-    alloc: Global,
-    name: &Leaf,
-    before: &Option<Row>,
-    after: &Row,
-) -> Result<Option<Write>, Memory>
+fn put_unless_same(name: &Leaf, before: &Option<Row>, after: &Row) -> Result<Option<Write>, Memory>
     ensures { IfOk result (λ write. write ≡ put_unless_same name.now before.now after.now) }
 {
     if let Some(before) = before {
@@ -104,8 +98,7 @@ fn put_unless_same(
             return Ok(None);
         }
     }
-    let part = Part::new(copy_all(alloc, after.values())?);
-    Ok(Some(Write::Put(name.copy()?, part)))
+    Ok(Some(Write::Put(name.copy()?, Part::of_row(after)?)))
 }
 
 /// A row's part in a leaf; none where there is no row, or the leaf's conditions don't hold of it.

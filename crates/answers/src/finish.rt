@@ -258,5 +258,5 @@ fn row_shown(alloc: Global, places: &[usize], columns: &[usize], row: &Row) -> R
             values.push(value.copy()?)?;
         }
     }
-    Ok(Row::new(values))
+    Row::new(values)
 }

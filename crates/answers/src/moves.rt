@@ -147,7 +147,7 @@ fn row_move(
 {
     let part = part_held(alloc, before, row)?;
     let new = part_held(alloc, after, row)?;
-    match write_between(alloc, name, row.key(), &part, &new)? {
+    match write_between(name, row.key(), &part, &new)? {
         Some(write) => Ok(Some(Move {
             site: site.copy()?,
             write,

@@ -94,10 +94,10 @@ pub(crate) fn row_cut(
                 }
                 rest = later;
             }
-            None => return Ok(Row::new(values)),
+            None => return Row::new(values),
         }
     }
-    Ok(Row::new(values))
+    Row::new(values)
 }
 
 /// Columns, and behind them those others that are not among them.
@@ -153,8 +153,8 @@ pub(crate) fn pair(
                 }
                 rest = later;
             }
-            None => return Ok(Row::new(values)),
+            None => return Row::new(values),
         }
     }
-    Ok(Row::new(values))
+    Row::new(values)
 }

@@ -15,7 +15,7 @@ use crate::table::Table;
 use plan::fetch::Fetch;
 use std::alloc::Global;
 use terms::cond::{Cond, Conds};
-use terms::copy::{TryCopy, copy_all};
+use terms::copy::TryCopy;
 use terms::memory::Memory;
 use terms::part::Part;
 use terms::row::Row;
@@ -38,7 +38,7 @@ fn met(alloc: Global, conds: &[Cond], parts: &[Part]) -> Result<Vec<Row>, Memory
     let mut found = Vec::new(alloc);
     for part in parts {
         if part.meets(conds) {
-            found.push(Row::new(copy_all(alloc, part.values())?))?;
+            found.push(Row::of_part(part)?)?;
         }
     }
     Ok(found)

@@ -236,5 +236,5 @@ fn row_of(alloc: Global, cell: &[&Value]) -> Result<Row, Memory>
     for value in cell {
         values.push(value.copy()?)?;
     }
-    Ok(Row::new(values))
+    Row::new(values)
 }

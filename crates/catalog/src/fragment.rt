@@ -23,5 +23,5 @@ pub fn place(
         return Ok(None);
     }
     let values = listed(alloc, columns, row.values())?;
-    Ok(Some(Row::new(values)))
+    Ok(Some(Row::new(values)?))
 }

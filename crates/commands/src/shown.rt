@@ -24,7 +24,7 @@ use site::fault::SiteFault;
 use std::alloc::Global;
 use store::desk_store::DeskStore;
 use store::site_store::SiteStore;
-use terms::copy::{TryCopy, copy_all};
+use terms::copy::TryCopy;
 use terms::leaf::Leaf;
 use terms::memory::Memory;
 use terms::part::Part;
@@ -56,7 +56,7 @@ fn rows_of(alloc: Global, parts: &[Part]) -> Result<Vec<Row>, Memory>
 {
     let mut rows = Vec::new(alloc);
     for part in parts {
-        rows.push(Row::new(copy_all(alloc, part.values())?))?;
+        rows.push(Row::of_part(part)?)?;
     }
     Ok(rows)
 }

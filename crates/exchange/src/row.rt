@@ -9,6 +9,7 @@ ghost use Rattle.exchange.specs.Row.{IsAnswer, column_value, field_of, in_column
 use crate::field::{FieldFault, value};
 use meaning::schema::Column;
 use std::alloc::{AllocError, AllocFailed, Global};
+use terms::memory::Memory;
 use terms::row::Row;
 use terms::value::Value;
 
@@ -26,6 +27,14 @@ impl From<AllocError> for RowFault {
     ghost from_gives = { λ _ fault. fault ≡ faults.Memory };
 
     fn from(_error: AllocError) -> RowFault {
+        RowFault::Memory
+    }
+}
+
+impl From<Memory> for RowFault {
+    ghost from_gives = { λ _ fault. fault ≡ faults.Memory };
+
+    fn from(_error: Memory) -> RowFault {
         RowFault::Memory
     }
 }
@@ -50,7 +59,7 @@ pub fn row(
     if fields.len() != columns.len() {
         return Err(RowFault::Count(fields.len()));
     }
-    Ok(Row::new(values(alloc, columns, order, fields)?))
+    Ok(Row::new(values(alloc, columns, order, fields)?)?)
 }
 
 fn values(

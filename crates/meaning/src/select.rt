@@ -54,7 +54,7 @@ pub fn selected(alloc: Global, select: &Select, rows: &[Row]) -> Result<Vec<Row>
     for row in rows {
         if select.conds.hold(row) {
             let values = listed(alloc, select.columns.as_slice(), row.values())?;
-            found.push(Row::new(values))?;
+            found.push(Row::new(values)?)?;
         }
     }
     Ok(found)
@@ -169,5 +169,5 @@ fn pair(alloc: Global, row: &Row, other: &Row) -> Result<Row, Memory>
     for value in other.values() {
         values.push(value.copy()?)?;
     }
-    Ok(Row::new(values))
+    Row::new(values)
 }

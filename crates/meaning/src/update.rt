@@ -69,7 +69,7 @@ pub fn assign(alloc: Global, sets: &[Assignment], row: &Row) -> Result<Option<Ro
             None => return Ok(None),
         }
     }
-    Ok(Some(Row::new(values)))
+    Ok(Some(Row::new(values)?))
 }
 
 /// What an assignment sets its column to, by the values before the change.

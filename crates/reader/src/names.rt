@@ -107,7 +107,7 @@ fn insert(
     let values = row(alloc, relation, written)?;
     Ok(statement::Insert {
         into: relation.name.copy()?,
-        row: Row::new(values),
+        row: Row::new(values)?,
     })
 }
 

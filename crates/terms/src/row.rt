@@ -1,36 +1,50 @@
 //! Rows.
 
 ghost use Rattle.std.specs.Prelude.{◌≡◌, List, IfOk};
+ghost use Rattle.std.specs.Arc.{arc_slice_items};
 ghost use Rattle.std.specs.Ordering.{int_cmp};
 ghost use Rattle.terms.specs.Row.{key_of};
 
-use crate::copy::{TryCopy, copy_all};
+use crate::copy::TryCopy;
 use crate::memory::Memory;
+use crate::part::Part;
 use crate::same::{Same, same_all};
 use crate::value::Value;
 use std::cmp::Ordering;
 use std::marker::Model;
+use std::sync::ArcSlice;
 
-/// A row: a value for each column, the key first. Contracts see it as the list of its values.
+/// A row: a value for each column, the key first. Contracts see it as the list of its values. Its copies share them, so that a
+/// copy takes no memory.
 #[derive(Debug, Drop)]
 pub struct Row {
-    values: Vec<Value>,
+    pub(crate) values: ArcSlice<Value>,
 }
 
 impl Model for Row {
     ghost use Rattle.std.specs.Prelude.{List};
+    ghost use Rattle.std.specs.Arc.{arc_slice_items};
     ghost use Rattle.terms.specs.declared.value.Value.{Value as Cell};
 
     ghost Value = { List Cell };
 
-    ghost view = { λ r. r.values.items };
+    ghost view = { λ r. arc_slice_items r.values };
 }
 
 impl Row {
-    pub fn new(values: Vec<Value>) -> Row
-        ensures { result ≡ values.items }
+    pub fn new(values: Vec<Value>) -> Result<Row, Memory>
+        ensures { IfOk result (λ row. row ≡ values.items) }
     {
-        Row { values }
+        let values = ArcSlice::from_vec(values)?;
+        Ok(Row { values })
+    }
+
+    /// The row of a part's values, which it shares.
+    pub fn of_part(part: &Part) -> Result<Row, Memory>
+        ensures { IfOk result (λ row. row ≡ part.now) }
+    {
+        let values = part.values.clone()?;
+        Ok(Row { values })
     }
 
     pub fn values(&self) -> &[Value]
@@ -44,7 +58,7 @@ impl Row {
     pub fn key(&self) -> i64
         ensures { result ≡ key_of self.now }
     {
-        match self.values.first() {
+        match self.values().first() {
             Some(Value::Int(key)) => *key,
             _ => 0,
         }
@@ -60,7 +74,7 @@ impl Row {
 
 impl TryCopy for Row {
     fn copy(&self) -> Result<Row, Memory> {
-        let values = copy_all(*self.values.allocator(), self.values.as_slice())?;
+        let values = self.values.clone()?;
         Ok(Row { values })
     }
 }

@@ -92,7 +92,7 @@ fn least_row(alloc: Global, kinds: &[Kind], conds: &[Cond]) -> Result<Option<Row
             None => return Ok(None),
         }
     }
-    Ok(Some(Row::new(values)))
+    Ok(Some(Row::new(values)?))
 }
 
 impl Conds {

@@ -72,7 +72,7 @@ pub fn decode_part(alloc: Global, bytes: &[u8]) -> Result<Part, PartFault>
     let (key, bytes) = key_at(bytes)?;
     let (values, bytes) = values_at(alloc, key, *count - 1, bytes)?;
     if bytes.is_empty() {
-        Ok(Part::new(values))
+        Ok(Part::new(values)?)
     } else {
         Err(PartFault::Trailing)
     }

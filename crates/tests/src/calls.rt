@@ -26,7 +26,7 @@ fn ada(alloc: Global) -> Result<Row, Memory> {
     values.push(Value::Text(Text::copy_of(alloc, "Ada")?))?;
     values.push(Value::Int(7))?;
     values.push(Value::Int(100))?;
-    Ok(Row::new(values))
+    Row::new(values)
 }
 
 /// That row's part in a leaf, as it prints, or `none`.

@@ -58,7 +58,7 @@ use store::name::{Ticket, Txn};
 use store::plain_desk::PlainDesk;
 use store::plain_site::PlainSite;
 use store::site_store::SiteStore;
-use terms::copy::{TryCopy, copy_all};
+use terms::copy::TryCopy;
 use terms::memory::Memory;
 use terms::part::Part;
 use terms::row::Row;
@@ -260,10 +260,7 @@ fn put_part(
 {
     one_change_more();
     match place(alloc, leaf.conds.as_slice(), leaf.columns.as_slice(), row)? {
-        Some(placed) => parts.put(
-            leaf.name.copy()?,
-            Part::new(copy_all(alloc, placed.values())?),
-        ),
+        Some(placed) => parts.put(leaf.name.copy()?, Part::of_row(&placed)?),
         None => Ok(()),
     }
 }
