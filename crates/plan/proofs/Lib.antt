@@ -37,3 +37,4 @@ pub mod PickedStated
 pub mod LeavesFit
 pub mod ContentParts
 pub mod Postfixed
+pub mod Grouped

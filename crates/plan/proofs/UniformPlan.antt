@@ -23,7 +23,7 @@ use Rattle.plan.specs.declared.fetch.Fetch as fetch
 use Rattle.plan.specs.declared.link.Link.{Link}
 use Rattle.plan.specs.declared.need.Need.{Need}
 use Rattle.plan.specs.Fetch.{fetch_of}
-use Rattle.plan.specs.Located.{IsByColumns, IsLocated, IsOfJoined, IsOfNeeds, covers, once, reaches, united}
+use Rattle.plan.specs.Located.{IsByColumns, IsByGroups, IsLocated, IsOfJoined, IsOfNeeds, covers, once, reaches, united}
 use Rattle.plan.specs.Need.{links_behind, needs, width_of}
 use Rattle.plan.specs.Reduced.{is_fetched, reduced}
 use Rattle.plan.specs.Rows.{is_seen}
@@ -32,7 +32,7 @@ use Rattle.plan.specs.Stated.{kinds_in, leaves_of}
 use Rattle.plan.specs.Uniform.{Agree, AreOnce, EachRead, IsUniform, StayWithin, both_columns, columns_had}
 use Rattle.plan.proofs.Among.{AreAmong}
 use Rattle.plan.proofs.CarriedConds.{both}
-use Rattle.plan.proofs.CutColumns.{cut_to_key, cut_to_one, key_and, sorted_once}
+use Rattle.plan.proofs.CutColumns.{cut_columns, cut_to, sorted_once}
 use Rattle.plan.proofs.Fetched.{IsAmong}
 use Rattle.plan.proofs.InCatalogue.{is_in, leaves_over}
 use Rattle.plan.proofs.Places.{width_more}
@@ -62,21 +62,16 @@ record IsCut (columns own : List ℕ) (leaf : FragmentLeaf) : Type 0 where
   alone : AreOnce leaf.columns
   left : list_all (has leaf.columns) columns ≡ true → filter (is_seen columns) leaf.columns ≡ own
 
-cuts_to_one : (sites : List (List ℕ)) (types : List Kind) (col : ℕ) (leaves : List FragmentLeaf) → AllByRecursion (IsLeafOver sites types) leaves → AllByRecursion (IsCut (col ∷ []) (key_and col)) leaves
-cuts_to_one sites types col [] over = tt
-cuts_to_one sites types col (leaf ∷ leaves) over = (
+cuts_to : (sites : List (List ℕ)) (types : List Kind) (columns : List ℕ) (leaves : List FragmentLeaf) → AllByRecursion (IsLeafOver sites types) leaves → AllByRecursion (IsCut columns (cut_columns columns (length types))) leaves
+cuts_to sites types columns [] over = tt
+cuts_to sites types columns (leaf ∷ leaves) over = (
   record {
     key = over.0.first;
     alone = sorted_once leaf.columns over.0.ascending;
-    left = λ h. cut_to_one col leaf.columns over.0.first over.0.ascending (both (has leaf.columns col) true h).0;
+    left = λ h. cut_to columns leaf.columns (length types) over.0.first over.0.ascending over.0.columns h;
   },
-  cuts_to_one sites types col leaves over.1,
+  cuts_to sites types columns leaves over.1,
 )
-
-cuts_to_key : (sites : List (List ℕ)) (types : List Kind) (leaves : List FragmentLeaf) → AllByRecursion (IsLeafOver sites types) leaves → AllByRecursion (IsCut [] (0 ∷ [])) leaves
-cuts_to_key sites types [] over = tt
-cuts_to_key sites types (leaf ∷ leaves) over =
-    (record { key = over.0.first; alone = sorted_once leaf.columns over.0.ascending; left = λ h. cut_to_key leaf.columns over.0.first over.0.ascending }, cuts_to_key sites types leaves over.1)
 
 -- a plan without the other reads is uniform, with these columns
 abbrev IsUniformOn : (Leaf → Bool) → List ℕ → Shape → Type 0
@@ -118,13 +113,17 @@ cover_uniform passes need columns own leaves plan cuts is =
     let P : List Shape → Type 0 = AllByRecursion (IsUniformOn passes own) in
     (union_uniform passes own plan (subst P (sym is) (covers_uniform passes need columns own leaves cuts))).0
 
+groups_uniform : (sites : List (List ℕ)) (types : List Kind) (passes : Leaf → Bool) (need : Need) (leaves : List FragmentLeaf) (groups : List (List ℕ)) (plan : Shape) → AllByRecursion (IsLeafOver sites types) leaves → IsByGroups need leaves groups plan →
+    IsUniform (reduced passes plan)
+groups_uniform sites types passes need leaves [] plan over is = cover_uniform passes need [] (cut_columns [] (length types)) leaves plan (cuts_to sites types [] leaves over) is
+groups_uniform sites types passes need leaves (group ∷ []) plan over is = cover_uniform passes need group (cut_columns group (length types)) leaves plan (cuts_to sites types group leaves over) is
+groups_uniform sites types passes need leaves (group ∷ next ∷ groups) plan over (one, other, is, here, beyond) =
+    let P : Shape → Type 0 = λ p. IsUniform (reduced passes p) in
+    subst P (sym is) (cover_uniform passes need group (cut_columns group (length types)) leaves one (cuts_to sites types group leaves over) here, groups_uniform sites types passes need leaves (next ∷ groups) other over beyond)
+
 columns_uniform : (sites : List (List ℕ)) (types : List Kind) (passes : Leaf → Bool) (need : Need) (leaves : List FragmentLeaf) (columns : List ℕ) (plan : Shape) → AllByRecursion (IsLeafOver sites types) leaves → IsByColumns need leaves columns plan →
     IsUniform (reduced passes plan)
-columns_uniform sites types passes need leaves [] plan over is = cover_uniform passes need [] (0 ∷ []) leaves plan (cuts_to_key sites types leaves over) is
-columns_uniform sites types passes need leaves (col ∷ []) plan over is = cover_uniform passes need (col ∷ []) (key_and col) leaves plan (cuts_to_one sites types col leaves over) is
-columns_uniform sites types passes need leaves (col ∷ next ∷ columns) plan over (one, other, is, here, beyond) =
-    let P : Shape → Type 0 = λ p. IsUniform (reduced passes p) in
-    subst P (sym is) (cover_uniform passes need (col ∷ []) (key_and col) leaves one (cuts_to_one sites types col leaves over) here, columns_uniform sites types passes need leaves (next ∷ columns) other over beyond)
+columns_uniform sites types passes need leaves columns plan over (groups, are, is) = groups_uniform sites types passes need leaves groups plan over is
 
 -- the columns of a side are below the number of columns of its relation
 
@@ -189,14 +188,18 @@ cover_within sites types passes need columns leaves plan over is =
     let P : List Shape → Type 0 = AllByRecursion (IsWithin passes (length types)) in
     union_within passes (length types) plan (subst P (sym is) (covers_within sites types passes need columns leaves over))
 
+groups_within : (sites : List (List ℕ)) (types : List Kind) (passes : Leaf → Bool) (need : Need) (leaves : List FragmentLeaf) (groups : List (List ℕ)) (plan : Shape) → AllByRecursion (IsLeafOver sites types) leaves → IsByGroups need leaves groups plan →
+    IsWithin passes (length types) plan
+groups_within sites types passes need leaves [] plan over is = cover_within sites types passes need [] leaves plan over is
+groups_within sites types passes need leaves (group ∷ []) plan over is = cover_within sites types passes need group leaves plan over is
+groups_within sites types passes need leaves (group ∷ next ∷ groups) plan over (one, other, is, here, beyond) =
+    let P : Shape → Type 0 = IsWithin passes (length types) in
+    subst P (sym is) (both_within (length types) (columns_had (reduced passes one)) (columns_had (reduced passes other)) (cover_within sites types passes need group leaves one over here)
+    (groups_within sites types passes need leaves (next ∷ groups) other over beyond))
+
 columns_within : (sites : List (List ℕ)) (types : List Kind) (passes : Leaf → Bool) (need : Need) (leaves : List FragmentLeaf) (columns : List ℕ) (plan : Shape) → AllByRecursion (IsLeafOver sites types) leaves → IsByColumns need leaves columns plan →
     IsWithin passes (length types) plan
-columns_within sites types passes need leaves [] plan over is = cover_within sites types passes need [] leaves plan over is
-columns_within sites types passes need leaves (col ∷ []) plan over is = cover_within sites types passes need (col ∷ []) leaves plan over is
-columns_within sites types passes need leaves (col ∷ next ∷ columns) plan over (one, other, is, here, beyond) =
-    let P : Shape → Type 0 = IsWithin passes (length types) in
-    subst P (sym is) (both_within (length types) (columns_had (reduced passes one)) (columns_had (reduced passes other)) (cover_within sites types passes need (col ∷ []) leaves one over here)
-    (columns_within sites types passes need leaves (next ∷ columns) other over beyond))
+columns_within sites types passes need leaves columns plan over (groups, are, is) = groups_within sites types passes need leaves groups plan over is
 
 stays : (width bound : ℕ) (had : Option (List ℕ)) → width ≤ 48 → bound ≤ 16 → AreWithin bound had → StayWithin width had
 stays width bound None narrow few below = tt
@@ -296,12 +299,15 @@ cover_reads fetches need columns leaves plan there is =
     let P : List Shape → Type 0 = AllByRecursion (Reads fetches) in
     union_reads fetches plan (subst P (sym is) (covers_read fetches need columns leaves there))
 
-columns_read_all : (fetches : List fetch.Fetch) (need : Need) (leaves : List FragmentLeaf) (columns : List ℕ) (plan : Shape) → AllByRecursion (IsAmong need fetches) leaves → IsByColumns need leaves columns plan → Reads fetches plan
-columns_read_all fetches need leaves [] plan there is = cover_reads fetches need [] leaves plan there is
-columns_read_all fetches need leaves (col ∷ []) plan there is = cover_reads fetches need (col ∷ []) leaves plan there is
-columns_read_all fetches need leaves (col ∷ next ∷ columns) plan there (one, other, is, here, beyond) =
+groups_read_all : (fetches : List fetch.Fetch) (need : Need) (leaves : List FragmentLeaf) (groups : List (List ℕ)) (plan : Shape) → AllByRecursion (IsAmong need fetches) leaves → IsByGroups need leaves groups plan → Reads fetches plan
+groups_read_all fetches need leaves [] plan there is = cover_reads fetches need [] leaves plan there is
+groups_read_all fetches need leaves (group ∷ []) plan there is = cover_reads fetches need group leaves plan there is
+groups_read_all fetches need leaves (group ∷ next ∷ groups) plan there (one, other, is, here, beyond) =
     let P : Shape → Type 0 = Reads fetches in
-    subst P (sym is) (cover_reads fetches need (col ∷ []) leaves one there here, columns_read_all fetches need leaves (next ∷ columns) other there beyond)
+    subst P (sym is) (cover_reads fetches need group leaves one there here, groups_read_all fetches need leaves (next ∷ groups) other there beyond)
+
+columns_read_all : (fetches : List fetch.Fetch) (need : Need) (leaves : List FragmentLeaf) (columns : List ℕ) (plan : Shape) → AllByRecursion (IsAmong need fetches) leaves → IsByColumns need leaves columns plan → Reads fetches plan
+columns_read_all fetches need leaves columns plan there (groups, are, is) = groups_read_all fetches need leaves groups plan there is
 
 looked_read : (catalogue : Catalogue) (links : List Link) (needs : List Need) (fetches : List fetch.Fetch) (left plan : Shape) → AreAmong catalogue fetches needs → IsOfJoined catalogue links needs left plan → Reads fetches left → Reads fetches plan
 looked_read catalogue [] needs fetches left plan there is reads = subst (Reads fetches) (sym is) reads

@@ -1,5 +1,6 @@
--- The words of the code's own steps, which a reader may skip: the plan of a statement, column by column.
-use Rattle.std.specs.Prelude.{◌≡◌, ℕ, ◌&&◌, Bool, if◌then◌else◌, List, [], ◌∷◌, ◌++◌, filter, map}
+-- The words of the code's own steps, which a reader may skip: the plan of a statement, by groups of columns.
+use Rattle.std.specs.Prelude.{◌≡◌, ℕ, ◌&&◌, ◌||◌, not, Bool, if◌then◌else◌, List, [], ◌∷◌, ◌++◌, filter, map}
+use Rattle.std.specs.Bool.{beq}
 use Rattle.std.specs.List.{list_all}
 use Rattle.meaning.specs.declared.statement.Statement.{Statement}
 use Rattle.catalog.specs.declared.fragment_leaf.FragmentLeaf.{FragmentLeaf}
@@ -42,12 +43,33 @@ once_behind found (col ∷ columns) = if is_seen found col then once_behind foun
 abbrev pub once : List ℕ → List ℕ
 once columns = once_behind [] columns
 
--- a plan of columns: each from the leaves that have it, put together by the key; without columns the keys of all wanted leaves
+-- whether of two columns a leaf has both or none, if it is wanted
+abbrev pub has_alike : Need → ℕ → ℕ → FragmentLeaf → Bool
+has_alike need a b leaf = beq (has leaf.columns a) (has leaf.columns b) || not (wanted need.columns leaf.steps)
+
+-- so each leaf
+abbrev pub together : Need → List FragmentLeaf → ℕ → ℕ → Bool
+together need leaves a b = list_all (has_alike need a b) leaves
+
+abbrev pub apart : Need → List FragmentLeaf → ℕ → ℕ → Bool
+apart need leaves a b = not (together need leaves a b)
+
+-- columns in groups: the first with those that the same leaves have, and then the others
+abbrev pub AreGroups : Need → List FragmentLeaf → List ℕ → List (List ℕ) → Type 0
+AreGroups need leaves columns [] = columns ≡ []
+AreGroups need leaves columns (group ∷ groups) =
+    (first : ℕ) × (rest : List ℕ) × (columns ≡ first ∷ rest) × (group ≡ first ∷ filter (together need leaves first) rest) × AreGroups need leaves (filter (apart need leaves first) rest) groups
+
+-- a plan of groups: each from the leaves that have it, put together by the key; without any the keys of all wanted leaves
+abbrev pub IsByGroups : Need → List FragmentLeaf → List (List ℕ) → Shape → Type 0
+IsByGroups need leaves [] plan = united plan ≡ covers need [] leaves
+IsByGroups need leaves (group ∷ []) plan = united plan ≡ covers need group leaves
+IsByGroups need leaves (group ∷ next ∷ groups) plan =
+    (one : Shape) × (other : Shape) × (plan ≡ KeyJoin one other) × (united one ≡ covers need group leaves) × IsByGroups need leaves (next ∷ groups) other
+
+-- so a plan of columns, which are read at once where the same leaves have them
 abbrev pub IsByColumns : Need → List FragmentLeaf → List ℕ → Shape → Type 0
-IsByColumns need leaves [] plan = united plan ≡ covers need [] leaves
-IsByColumns need leaves (col ∷ []) plan = united plan ≡ covers need (col ∷ []) leaves
-IsByColumns need leaves (col ∷ next ∷ columns) plan =
-    (one : Shape) × (other : Shape) × (plan ≡ KeyJoin one other) × (united one ≡ covers need (col ∷ []) leaves) × IsByColumns need leaves (next ∷ columns) other
+IsByColumns need leaves columns plan = (groups : List (List ℕ)) × AreGroups need leaves columns groups × IsByGroups need leaves groups plan
 
 -- a plan of the rows of a need, before any is left out
 abbrev pub IsOfNeed : Catalogue → Need → Shape → Type 0

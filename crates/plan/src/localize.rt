@@ -1,6 +1,6 @@
 //! The plan of a statement over the leaves of a catalogue.
 
-ghost use Rattle.std.specs.Prelude.{◌≡◌, IfOk, flat_map};
+ghost use Rattle.std.specs.Prelude.{◌≡◌, ◌∷◌, IfOk, filter, flat_map};
 ghost use Rattle.std.specs.List.{list_all};
 ghost use Rattle.catalog.specs.Counts.{has};
 ghost use Rattle.catalog.specs.Relation.{catalogue_of};
@@ -130,7 +130,7 @@ fn once(alloc: Global, columns: &[usize]) -> Result<Vec<usize>, Memory>
     Ok(found)
 }
 
-/// The columns put together by the key.
+/// The columns put together by the key. Those that the same leaves have are read at once.
 fn by_columns(
     alloc: Global,
     need: &Need,
@@ -142,12 +142,67 @@ fn by_columns(
     let Some((first, rest)) = columns.split_first() else {
         return cover(alloc, need, &[], leaves);
     };
-    let one = cover(alloc, need, &[*first], leaves)?;
-    if rest.is_empty() {
+    let group = with_like(alloc, need, leaves, *first, rest)?;
+    let one = cover(alloc, need, group.as_slice(), leaves)?;
+    let others = without_like(alloc, need, leaves, *first, rest)?;
+    if others.is_empty() {
         return Ok(one);
     }
-    let others = by_columns(alloc, need, leaves, rest)?;
+    let others = by_columns(alloc, need, leaves, others.as_slice())?;
     Ok(Plan::KeyJoin(Box::new(alloc, one)?, Box::new(alloc, others)?))
+}
+
+/// A column, and those of others that the same leaves have.
+fn with_like(
+    alloc: Global,
+    need: &Need,
+    leaves: &[FragmentLeaf],
+    first: usize,
+    others: &[usize],
+) -> Result<Vec<usize>, Memory>
+    ensures { IfOk result (λ group. group.items ≡ first ∷ filter (located.together need.now leaves.now first) others.now) }
+{
+    let mut group = Vec::new(alloc);
+    group.push(first)?;
+    for col in others {
+        if together(need, leaves, first, *col) {
+            group.push(*col)?;
+        }
+    }
+    Ok(group)
+}
+
+/// Those of columns that not the same leaves have as have the first one.
+fn without_like(
+    alloc: Global,
+    need: &Need,
+    leaves: &[FragmentLeaf],
+    first: usize,
+    others: &[usize],
+) -> Result<Vec<usize>, Memory>
+    ensures { IfOk result (λ found. found.items ≡ filter (located.apart need.now leaves.now first) others.now) }
+{
+    let mut found = Vec::new(alloc);
+    for col in others {
+        if !together(need, leaves, first, *col) {
+            found.push(*col)?;
+        }
+    }
+    Ok(found)
+}
+
+/// Whether each wanted leaf has both of two columns or none.
+fn together(need: &Need, leaves: &[FragmentLeaf], a: usize, b: usize) -> bool
+    ensures { result ≡ located.together need.now leaves.now a b }
+{
+    leaves.iter().all(|leaf| has_alike(need, a, b, leaf))
+}
+
+fn has_alike(need: &Need, a: usize, b: usize, leaf: &FragmentLeaf) -> bool
+    ensures { result ≡ located.has_alike need.now a b leaf.now }
+{
+    let columns = leaf.columns.as_slice();
+    has(columns, a) == has(columns, b) || !wanted(need.columns.as_slice(), leaf.steps.as_slice())
 }
 
 /// The union of the wanted leaves that have these columns, cut to them.
