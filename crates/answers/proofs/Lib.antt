@@ -23,3 +23,4 @@ pub mod EachMoved
 pub mod LeafNumbers
 pub mod MovesLead
 pub mod Numbered
+pub mod Whole

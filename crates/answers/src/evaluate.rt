@@ -65,7 +65,7 @@ fn table_of(
         }
         Plan::Project(columns, below) => {
             let table = table_of(alloc, ledger, below, fetched)?;
-            cut(alloc, columns.as_slice(), &table)
+            cut(alloc, columns.as_slice(), table)
         }
         Plan::Union(one, other) => {
             let table = table_of(alloc, ledger, one, fetched)?;

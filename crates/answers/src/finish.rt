@@ -16,7 +16,7 @@ ghost use Rattle.answers.specs.Table.{IsTableOf};
 ghost use Rattle.answers.specs.Writes.{is_leaf_in, leaf_of, writes_between};
 
 use crate::change::{Change, writes_of};
-use crate::pick::value_in;
+use crate::pick::{are_once, are_wide, value_in};
 use crate::table::Table;
 use catalog::catalogue::Catalog;
 use catalog::fragment_leaf::FragmentLeaf;
@@ -25,9 +25,10 @@ use meaning::select::header;
 use meaning::statement::{Assignment, Delete, Insert, Select, Statement, Update};
 use meaning::update::assign;
 use std::alloc::Global;
-use terms::copy::TryCopy;
+use terms::copy::{TryCopy, copy_all};
 use terms::memory::Memory;
 use terms::row::Row;
+use terms::same::same_all;
 use terms::seq::Seq;
 use terms::text::Text;
 use terms::write::Write;
@@ -233,7 +234,7 @@ pub(crate) fn rows_changed(alloc: Global, width: usize, table: &Table) -> Result
     )
 }
 
-/// The values that rows over these columns have in the listed ones.
+/// The values that rows over these columns have in the listed ones: the rows themselves where these are all columns in order.
 fn shown(
     alloc: Global,
     places: &[usize],
@@ -242,6 +243,9 @@ fn shown(
 ) -> Result<Vec<Row>, Memory>
     ensures { IfOk result (λ found. found.items ≡ shown places.now columns.now rows.now) }
 {
+    if same_all(places, columns) && are_once(columns) && are_wide(columns, rows) {
+        return copy_all(alloc, rows);
+    }
     let mut found = Vec::new(alloc);
     for row in rows {
         found.push(row_shown(alloc, places, columns, row)?)?;

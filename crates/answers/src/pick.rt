@@ -1,12 +1,12 @@
 //! Values of rows by their columns.
 
-ghost use Rattle.std.specs.Prelude.{◌≡◌, ◌++◌, ◌+◌, ◌<◌, ℕ, not, IfOk, OnOk, filter, map};
-ghost use Rattle.std.specs.List.{AllByRecursion};
+ghost use Rattle.std.specs.Prelude.{◌≡◌, ◌==◌, ◌++◌, ◌+◌, ◌<◌, ℕ, not, true, length, IfOk, OnOk, filter, map};
+ghost use Rattle.std.specs.List.{AllByRecursion, list_all};
 ghost use Rattle.std.specs.Option.{option_copied};
 ghost use Rattle.terms.specs.Cond.{holds_of};
 ghost use Rattle.catalog.specs.Counts.{has};
 ghost use Rattle.plan.specs.Rows.{is_seen, seen_meets, seen_part};
-ghost use Rattle.plan.specs.Uniform.{beside, past};
+ghost use Rattle.plan.specs.Uniform.{AreOnce, beside, past};
 ghost use Rattle.answers.specs.Evaluated as spec;
 ghost use Rattle.answers.specs.Evaluated.{picked};
 
@@ -56,6 +56,30 @@ fn is_seen(columns: &[usize], col: usize) -> bool
     ensures { result ≡ is_seen columns.now col }
 {
     col == 0 || has(columns, col)
+}
+
+/// Whether each column is the key or among the wanted ones.
+pub(crate) fn sees_all(wanted: &[usize], columns: &[usize]) -> bool
+    ensures { result ≡ list_all (is_seen wanted.now) columns.now }
+{
+    columns.iter().all(|col| is_seen(wanted, *col))
+}
+
+/// Whether each row has as many values as there are columns.
+pub(crate) fn are_wide(columns: &[usize], rows: &[Row]) -> bool
+    ensures { result ≡ list_all (λ row. length row == length columns.now) rows.now }
+{
+    rows.iter().all(|row| row.values().len() == columns.len())
+}
+
+/// Whether no column stands twice.
+pub(crate) fn are_once(columns: &[usize]) -> bool
+    ensures { result ≡ true → AreOnce columns.now }
+{
+    let Some((first, rest)) = columns.split_first() else {
+        return true;
+    };
+    !has(rest, *first) && are_once(rest)
 }
 
 /// Those of the columns that are the key or among the wanted ones.

@@ -10,7 +10,7 @@ ghost use Rattle.answers.specs.Evaluated.{cut, filtered, keyed, meeting, partner
 use crate::ledger::Ledger;
 use crate::pairs::key_pairs;
 use crate::partner::partner_pairs;
-use crate::pick::{columns_beside, columns_cut, columns_past, meets, row_cut};
+use crate::pick::{are_wide, columns_beside, columns_cut, columns_past, meets, row_cut, sees_all};
 use crate::table::Table;
 use plan::fetch::Fetch;
 use std::alloc::Global;
@@ -48,6 +48,9 @@ fn met(alloc: Global, conds: &[Cond], parts: &[Part]) -> Result<Vec<Row>, Memory
 pub(crate) fn filtered(alloc: Global, conds: &[Cond], table: Table) -> Result<Table, Memory>
     ensures { IfOk result (λ made. made ≡ filtered conds.now table) }
 {
+    if conds.is_empty() {
+        return Ok(table);
+    }
     let found = meeting(
         alloc,
         conds,
@@ -77,10 +80,15 @@ fn meeting(
     Ok(found)
 }
 
-/// The rows cut to the key and the wanted columns.
-pub(crate) fn cut(alloc: Global, wanted: &[usize], table: &Table) -> Result<Table, Memory>
-    ensures { IfOk result (λ made. made ≡ cut wanted.now table.now) }
+/// The rows cut to the key and the wanted columns: the table itself where these are all that it has.
+pub(crate) fn cut(alloc: Global, wanted: &[usize], table: Table) -> Result<Table, Memory>
+    ensures { IfOk result (λ made. made ≡ cut wanted.now table) }
 {
+    if sees_all(wanted, table.columns.as_slice())
+        && are_wide(table.columns.as_slice(), table.rows.as_slice())
+    {
+        return Ok(table);
+    }
     let columns = columns_cut(alloc, wanted, table.columns.as_slice())?;
     let rows = rows_cut(
         alloc,

@@ -1,5 +1,6 @@
 -- Why `pick::row_cut` meets its contract.
-use Rattle.std.proofs.Common.{drop, ◌∙◌}
+use Rattle.std.proofs.Common.{◌≡◌, drop, ◌∙◌}
+use Rattle.std.proofs.lemmas.Result.{IfOk-weaker}
 use Rattle.plan.specs.Rows.{is_seen}
 use Rattle.answers.specs.Evaluated.{picked}
 use Rattle.answers.proofs.Picked.{no_length, picked_done}
@@ -7,5 +8,6 @@ use Rattle.answers.proofs.pick.row_cut.Goals as goal
 
 pub returns-in-None : goal.returns-in-None
 returns-in-None c =
-    c.new.ensures
-    ∙ picked_done (is_seen c.args.wanted.now) (drop c.loop-col.col-index c.args.columns.now) c.loop-col.values.items c.loop-col.rest.now (picked (is_seen c.args.wanted.now) c.args.columns.now c.args.row.now) (no_length c.loop-col.rest.now c.in-None.ensures.cases) c.loop-col.invariant
+    let whole = picked (is_seen c.args.wanted.now) c.args.columns.now c.args.row.now in
+    IfOk-weaker c.new.result (λ row. row ≡ c.loop-col.values.items) (λ row. row ≡ whole) (λ row is.
+    is ∙ picked_done (is_seen c.args.wanted.now) (drop c.loop-col.col-index c.args.columns.now) c.loop-col.values.items c.loop-col.rest.now whole (no_length c.loop-col.rest.now c.in-None.ensures.cases) c.loop-col.invariant) c.new.ensures
