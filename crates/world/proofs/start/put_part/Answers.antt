@@ -10,4 +10,4 @@ use Rattle.world.proofs.start.put_part.Goals as goal
 
 pub returns-in_ok-of_row-in-Some-clause-within : goal.returns-in_ok-of_row-in-Some-clause-within
 returns-in_ok-of_row-in-Some-clause-within c = λ slot.
-    on_ok c.put.result (λ is there. put_more c.args.parts.now c.args.leaf.now.name (slot_of c.in_ok-copy-in-Some.field-0 (key_of c.in_ok-of_row.field-0)) (Some c.in_ok-of_row.field-0) slot c.in_ok-copy-in-Some.ensures (subst (λ (parts : Changes). IsSome (fin.get parts slot)) is there)) c.put.ensures.ok
+    on_ok c.put.result (λ is there. put_more c.args.parts.now c.args.leaf.now.name (slot_of c.in_ok-copy-in-Some.field-0 (key_of c.in_ok-of_row-in-Some.field-0)) (Some c.in_ok-of_row-in-Some.field-0) slot c.in_ok-copy-in-Some.ensures (subst (λ (parts : Changes). IsSome (fin.get parts slot)) is there)) c.put.ensures.ok
