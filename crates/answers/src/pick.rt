@@ -157,6 +157,16 @@ pub(crate) fn columns_past(
     Ok(found)
 }
 
+/// Puts copies of values behind others.
+fn put_values(out: &mut Vec<Value>, values: &[Value]) -> Result<(), Memory>
+    ensures { OnOk result (out.new.items ≡ out.old.items ++ values.now) }
+{
+    for value in values {
+        out.push(value.copy()?)?;
+    }
+    Ok(())
+}
+
 /// A row over columns, and behind it those values of another row whose columns are not among them.
 pub(crate) fn pair(
     alloc: Global,
@@ -167,7 +177,9 @@ pub(crate) fn pair(
 ) -> Result<Row, Memory>
     ensures { IfOk result (λ both. both ≡ spec.pair columns.now others.now row.now other.now) }
 {
-    let mut values = copy_all(alloc, row.values())?;
+    let most = row.values().len().saturating_add(other.values().len());
+    let mut values = Vec::with_capacity(alloc, most)?;
+    put_values(&mut values, row.values())?;
     let mut rest = other.values();
     for col in others {
         match rest.split_first() {
