@@ -57,6 +57,13 @@ impl<S: Alter> SqlSite<S> {
         }
     }
 
+    /// Gives the connection back, with no call of it.
+    pub fn into_connection(self) -> Connection<S>
+        ensures { result ≡ self.conn }
+    {
+        self.conn
+    }
+
     /// Keeps what a visit is to do, until it is made or dropped.
     fn keep(&mut self, txn: Txn, ticket: Ticket, changes: &Changes) -> Result<(), StoreFault>
         ensures leaves { LeavesStore (λ s. IsClean S.Store s.conn) (λ s. IsSound S.Store s.leaves.items s.conn) (λ s. s.refusals) self.old self.new }

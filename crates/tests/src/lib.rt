@@ -16,6 +16,8 @@ mod desks;
 #[cfg(test)]
 mod ends;
 #[cfg(test)]
+mod fused;
+#[cfg(test)]
 mod letters;
 #[cfg(test)]
 mod one_client;

@@ -18,7 +18,7 @@ use terms::leaf::Leaf;
 use terms::memory::Memory;
 
 /// The leaves of the site.
-fn leaves(alloc: Global) -> Result<Vec<Leaf>, Memory> {
+pub(crate) fn leaves(alloc: Global) -> Result<Vec<Leaf>, Memory> {
     let mut leaves = Vec::new(alloc);
     leaves.push(leaf(alloc, "emp.1")?)?;
     leaves.push(leaf(alloc, "emp.2")?)?;
@@ -40,7 +40,7 @@ fn changes(alloc: Global, lines: &[&str]) -> Result<Changes, Memory> {
 }
 
 /// Tells all that a store keeps.
-fn tell(alloc: Global, text: &mut String, kept: &SiteKept) -> Result<(), Memory> {
+pub(crate) fn tell(alloc: Global, text: &mut String, kept: &SiteKept) -> Result<(), Memory> {
     for leaf in &leaves(alloc)? {
         for part in &kept.parts.list(leaf)? {
             writeln!(text, "{leaf} {part:?}")?;
@@ -64,7 +64,7 @@ fn note<T: Debug>(text: &mut String, found: &T) -> Result<(), Memory> {
 }
 
 /// Keeps a visit's changes.
-fn keep<S: SiteStore>(
+pub(crate) fn keep<S: SiteStore>(
     alloc: Global,
     store: &mut S,
     visit: u64,
