@@ -19,6 +19,7 @@ use crate::desk::SqlDesk;
 use crate::desk_schema::is_desk_schema;
 use crate::desk_tables::create;
 use crate::open::is_empty;
+use crate::small_pages::make_small;
 use sqlite::{Alter, Connection, File, FileStore, MemStore};
 use std::alloc::Global;
 use std::rt::HostRuntime;
@@ -117,6 +118,7 @@ impl SqlDesk<FileStore<File>> {
     pub fn file(rt: &HostRuntime, path: &str) -> Result<SqlDesk<FileStore<File>>, StoreFault>
         ensures { IfOk result (λ desk. HasCleanDisk (file_state desk.conn) → IsTrue (file_state desk.conn).is_open → (file_state desk.conn).committed.schema ≡ desk_schema) }
     {
+        make_small(rt, path)?;
         let conn = match Connection::open(rt, path) {
             Ok(conn) => conn,
             Err(error) => return Err(opening_fault(error)),

@@ -31,6 +31,7 @@ pub mod promise;
 pub mod reading;
 pub mod schema;
 pub mod site;
+pub mod small_pages;
 pub mod steps;
 pub mod tables;
 pub mod visit;

@@ -13,6 +13,7 @@ ghost use Rattle.sqlstore.specs.Frame.{FoundsTables};
 use crate::blame::{cause, opening_fault};
 use crate::schema::is_site_schema;
 use crate::site::SqlSite;
+use crate::small_pages::make_small;
 use crate::tables::create;
 use sqlite::{Alter, Connection, File, FileStore, MemStore};
 use sqlite_schema::schema::Schema;
@@ -129,6 +130,7 @@ impl SqlSite<FileStore<File>> {
     ) -> Result<SqlSite<FileStore<File>>, StoreFault>
         ensures leaves { IfOk result (λ site. site.leaves ≡ leaves) }
     {
+        make_small(rt, path)?;
         let conn = match Connection::open(rt, path) {
             Ok(conn) => conn,
             Err(error) => return Err(opening_fault(error)),
