@@ -8,6 +8,7 @@ ghost use Rattle.sqlite.specs.Steps.{over_memory};
 ghost use Rattle.store.specs.declared.fault.StoreFault.TheVariants.{Damaged};
 ghost use Rattle.sqlstore.specs.Desk.{IsSoundDesk, desk_kept};
 ghost use Rattle.sqlstore.specs.DeskFresh.{FoundsDesk, KeepsNoCommit};
+ghost use Rattle.sqlstore.specs.DeskSound.{IsDecided};
 ghost use Rattle.sqlstore.specs.DeskTables.{desk_schema};
 ghost use Rattle.sqlstore.specs.Rows.{HasSchema};
 ghost use Rattle.sqlstore.specs.Site.{IsClean};
@@ -23,6 +24,7 @@ use crate::small_pages::make_small;
 use sqlite::{Alter, Connection, File, FileStore, MemStore};
 use std::alloc::Global;
 use std::rt::HostRuntime;
+use store::desk_store::DeskStore;
 use store::fault::StoreFault;
 
 /// Makes the tables of the coordinator, where there is nothing. Tables that are the coordinator's are left as they
@@ -78,6 +80,19 @@ impl<S: Alter + Drop> SqlDesk<S> {
             Err((fault, _)) => Err(fault),
         }
     }
+
+    /// The same, where all that its tables keep is as a store leaves it.
+    fn hold_sound(alloc: Global, conn: Connection<S>) -> Result<SqlDesk<S>, StoreFault>
+        requires { conn.in_transaction ≡ false }
+        ensures tables { IfOk result (λ desk. HasCleanDisk (state S.Store desk.conn) → IsTrue (state S.Store desk.conn).is_open → (state S.Store desk.conn).committed.schema ≡ desk_schema) }
+        ensures sound { IfOk result (λ desk. HasCleanDisk (state S.Store desk.conn) → IsTrue (state S.Store desk.conn).is_open → IsDecided (state S.Store desk.conn).committed) }
+    {
+        let mut desk = SqlDesk::hold(alloc, conn)?;
+        match desk.load() {
+            Ok(_kept) => Ok(desk),
+            Err(fault) => Err(fault),
+        }
+    }
 }
 
 impl SqlDesk<MemStore> {
@@ -99,9 +114,10 @@ impl SqlDesk<MemStore> {
 }
 
 impl SqlDesk<FileStore<File>> {
-    /// The store that a file has already. A file that has nothing is damaged.
+    /// The store that a file has already. A file that has nothing is damaged, and so is one that keeps what no store has left.
     pub fn kept_file(rt: &HostRuntime, path: &str) -> Result<SqlDesk<FileStore<File>>, StoreFault>
-        ensures { IfOk result (λ desk. HasCleanDisk (file_state desk.conn) → IsTrue (file_state desk.conn).is_open → (file_state desk.conn).committed.schema ≡ desk_schema) }
+        ensures tables { IfOk result (λ desk. HasCleanDisk (file_state desk.conn) → IsTrue (file_state desk.conn).is_open → (file_state desk.conn).committed.schema ≡ desk_schema) }
+        ensures sound { IfOk result (λ desk. HasCleanDisk (file_state desk.conn) → IsTrue (file_state desk.conn).is_open → IsDecided (file_state desk.conn).committed) }
     {
         let alloc = rt.alloc();
         let conn = match Connection::open(rt, path) {
@@ -111,7 +127,7 @@ impl SqlDesk<FileStore<File>> {
         if is_empty(conn.schema()) {
             return Err(StoreFault::Damaged);
         }
-        SqlDesk::hold(alloc, conn)
+        SqlDesk::hold_sound(alloc, conn)
     }
 
     /// A store in a file. A file that isn't there is made.

@@ -1,12 +1,15 @@
 //! Stores are opened.
 
-ghost use Rattle.std.specs.Prelude.{◌≡◌, ◌≢◌, ◌⊎◌, IfOk, IfErr, Err, false};
+ghost use Rattle.std.specs.Prelude.{◌≡◌, ◌≢◌, ◌⊎◌, IfOk, IfErr, Err, IsTrue, false};
 ghost use Rattle.std.specs.Bool.{Decides};
+ghost use Rattle.sqlite.specs.Files.{file_state};
 ghost use Rattle.sqlite.specs.Held.{state};
+ghost use Rattle.sqlite.specs.State.{HasCleanDisk};
 ghost use Rattle.sqlite.specs.Steps.{over_memory};
 ghost use Rattle.store.specs.declared.fault.StoreFault.TheVariants.{Damaged};
 ghost use Rattle.sqlstore.specs.Fresh.{Founds, KeepsNothing};
 ghost use Rattle.sqlstore.specs.Site.{IsClean, IsSound, kept_by};
+ghost use Rattle.sqlstore.specs.Sound.{IsStored};
 ghost use Rattle.sqlstore.specs.Tables.{no_schema, site_schema};
 ghost use Rattle.sqlstore.specs.Frame.{FoundsTables};
 
@@ -82,6 +85,19 @@ impl<S: Alter + Drop> SqlSite<S> {
             Err((fault, _)) => Err(fault),
         }
     }
+
+    /// The same, where all that its tables keep is as a store leaves it.
+    fn hold_sound(conn: Connection<S>, leaves: Vec<Leaf>) -> Result<SqlSite<S>, StoreFault>
+        requires { conn.in_transaction ≡ false }
+        ensures leaves { IfOk result (λ site. site.leaves ≡ leaves) }
+        ensures sound { IfOk result (λ site. HasCleanDisk (state S.Store site.conn) → IsTrue (state S.Store site.conn).is_open → IsStored leaves.items (state S.Store site.conn).committed) }
+    {
+        let mut site = SqlSite::hold(conn, leaves)?;
+        match site.sound_rows() {
+            Ok(_rows) => Ok(site),
+            Err(fault) => Err(fault),
+        }
+    }
 }
 
 impl SqlSite<MemStore> {
@@ -104,13 +120,15 @@ impl SqlSite<MemStore> {
 }
 
 impl SqlSite<FileStore<File>> {
-    /// The store that a file has already, with these leaves. A file that has nothing is damaged.
+    /// The store that a file has already, with these leaves. A file that has nothing is damaged, and so is one that keeps what no
+    /// store has left.
     pub fn kept_file(
         rt: &HostRuntime,
         path: &str,
         leaves: Vec<Leaf>,
     ) -> Result<SqlSite<FileStore<File>>, StoreFault>
         ensures leaves { IfOk result (λ site. site.leaves ≡ leaves) }
+        ensures sound { IfOk result (λ site. HasCleanDisk (file_state site.conn) → IsTrue (file_state site.conn).is_open → IsStored leaves.items (file_state site.conn).committed) }
     {
         let conn = match Connection::open(rt, path) {
             Ok(conn) => conn,
@@ -119,7 +137,7 @@ impl SqlSite<FileStore<File>> {
         if is_empty(conn.schema()) {
             return Err(StoreFault::Damaged);
         }
-        SqlSite::hold(conn, leaves)
+        SqlSite::hold_sound(conn, leaves)
     }
 
     /// A store in a file, which has these leaves. A file that isn't there is made.

@@ -3,7 +3,7 @@
 ghost use Rattle.std.specs.Prelude.{◌≡◌, false, IfOk, OnOk};
 ghost use Rattle.sqlite.specs.Held.{state};
 ghost use Rattle.store.specs.Frame.{LeavesStore, Reads, ChangesOrFails};
-ghost use Rattle.store.specs.SiteContent.{IsUnchanged, MayPrepare, Prepares};
+ghost use Rattle.store.specs.SiteContent.{IsUnchanged, ListsRows, MayPrepare, Prepares};
 ghost use Rattle.sqlstore.specs.Content.{AreNamed};
 ghost use Rattle.sqlstore.specs.Gathered.{ShowsTables};
 ghost use Rattle.sqlstore.specs.Site.{IsClean, IsSound, kept_by};
@@ -105,6 +105,23 @@ impl<S: Alter> SqlSite<S> {
             Err(error) => Err(blame(&mut self.refusals, error)),
         }
     }
+
+    /// What is kept beside the fragments, where all is as a store leaves it.
+    pub(crate) fn sound_rows(&mut self) -> Result<SiteRows, StoreFault>
+        ensures leaves { LeavesStore (λ s. IsClean S.Store s.conn) (λ s. IsSound S.Store s.leaves.items s.conn) (λ s. s.refusals) self.old self.new }
+        ensures learnt { IsClean S.Store self.new.conn → OnOk result (IsSound S.Store self.old.leaves.items self.old.conn) }
+        ensures all { IsClean S.Store self.new.conn → IfOk result (ListsRows (kept_by S.Store self.new.leaves.items self.new.conn)) }
+        ensures site { self.new.leaves ≡ self.old.leaves }
+        ensures reads { Reads (λ s. IsClean S.Store s.conn) (λ s. IsSound S.Store s.leaves.items s.conn) (λ s. kept_by S.Store s.leaves.items s.conn) IsUnchanged (λ s. s.refusals) self.old self.new result }
+    {
+        let _live = self.conn.schema();
+        let tables = self.gather()?;
+        let alloc = *self.leaves.allocator();
+        let leaves = self.leaves.as_slice();
+        let rows = site_rows(alloc, leaves, &tables)?;
+        check_parts(&mut self.conn, &mut self.refusals, alloc, leaves)?;
+        Ok(rows)
+    }
 }
 
 impl<S: Alter> SiteStore for SqlSite<S> {
@@ -187,13 +204,7 @@ impl<S: Alter> SiteStore for SqlSite<S> {
     }
 
     fn rows(&mut self) -> Result<SiteRows, StoreFault> {
-        let _live = self.conn.schema();
-        let tables = self.gather()?;
-        let alloc = *self.leaves.allocator();
-        let leaves = self.leaves.as_slice();
-        let rows = site_rows(alloc, leaves, &tables)?;
-        check_parts(&mut self.conn, &mut self.refusals, alloc, leaves)?;
-        Ok(rows)
+        self.sound_rows()
     }
 
     fn load(&mut self) -> Result<SiteKept, StoreFault> {

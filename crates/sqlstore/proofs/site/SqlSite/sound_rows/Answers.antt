@@ -9,7 +9,7 @@ use Rattle.sqlstore.specs.Content.{kept_of}
 use Rattle.sqlstore.specs.Site.{IsClean}
 use Rattle.sqlstore.specs.Walk.{AreParts}
 use Rattle.sqlstore.proofs.Showed.{rows_listed, numbered_all, learnt_all, parts_all, stored_all}
-use Rattle.sqlstore.proofs.site.SqlSiteSiteStore.rows.Goals as goal
+use Rattle.sqlstore.proofs.site.SqlSite.sound_rows.Goals as goal
 
 pub returns-clause-learnt : goal.returns-clause-learnt
 returns-clause-learnt g c now =
