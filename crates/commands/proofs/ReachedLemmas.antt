@@ -15,13 +15,9 @@ use Rattle.world.specs.Contents.{OfStores, counted, held}
 use Rattle.world.specs.Frame.{LeavesMachines, StaysAsItIs, StaysInForce}
 use Rattle.world.specs.Machines.{Machines}
 use Rattle.world.specs.Steps.{Steps}
+use Rattle.world.proofs.Leaves.{ends_alike, ends_map, ends_same, ends_then}
 use Rattle.commands.specs.declared.schedule.Schedule.{Schedule}
 use Rattle.commands.specs.Schedule.{HasRun, IsListReached, LeavesWorld, SeenWorld, world_over}
-
--- where none comes later by name, none does
-pub stays_last : (catalog now : List (List ℕ) × List SplitRelation) (later after : List (List (List ℕ) × List SplitRelation)) → (later ≡ [] → (now ≡ catalog) × (after ≡ [])) → map catalogue_of later ≡ [] → (catalogue_of now ≡ catalogue_of catalog) × (map catalogue_of after ≡ [])
-stays_last catalog now [] after same none = (ap catalogue_of (same refl).0, ap (map catalogue_of) (same refl).1)
-stays_last catalog now (next ∷ later) after same none = absurd (cc)
 
 -- the same schedule has the same world
 pub same_world : {D S : Type 0} (old new : Schedule D S) → new ≡ old → new.world ≡ old.world
@@ -29,14 +25,14 @@ same_world {D = D} {S = S} old new same = ap (λ (schedule : Schedule D S). sche
 
 -- a world that stays as it is
 pub leaves_same : {W : Type 0} (seen : SeenWorld W) (world : W) → LeavesWorld seen world world
-leaves_same seen world = record { clean = λ clean. clean; runs = λ db whole clean has. has; catalogs = λ single. (refl, single) }
+leaves_same seen world = record { clean = λ clean. clean; runs = λ db whole clean has. has; catalogs = ends_same refl }
 
 -- two calls, one after the other
 pub leaves_then : {W : Type 0} (seen : SeenWorld W) (old middle new : W) → LeavesWorld seen old middle → LeavesWorld seen middle new → LeavesWorld seen old new
 leaves_then seen old middle new first next = record {
   clean = λ clean. first.clean (next.clean clean);
   runs = λ db whole clean has. next.runs db whole clean (first.runs db whole (next.clean clean) has);
-  catalogs = λ single. (let here = first.catalogs single in let there = next.catalogs here.1 in (there.0 ∙ here.0, there.1));
+  catalogs = ends_then first.catalogs next.catalogs;
 }
 
 module _ {D S : Type 0} (desk_is_clean : D → Type 0) (site_is_clean : S → Type 0) (desk_is_sound : D → Type 0) (site_is_sound : S → Type 0) (of_desk : D → DeskContent) (of_site : S → SiteContent) (desk_refused : D → ℕ) (site_refused : S → ℕ) where
@@ -71,7 +67,7 @@ module _ {D S : Type 0} (desk_is_clean : D → Type 0) (site_is_clean : S → Ty
   runs_on what (Err told) old new stepped db whole clean has = stays db whole old new stepped.stays (stepped.sound clean has.sound) (stepped.err clean has.sound) stepped.same has
 
   pub steps_leave : (what : Event) (answer : Result Entry Fault) (old new : World D S) → StepsTo what answer old new → LeavesWorld seen old new
-  steps_leave what answer old new stepped = record { clean = stepped.clean; runs = runs_on what answer old new stepped; catalogs = λ single. (let same = stepped.catalogs single in (ap catalogue_of same.0, same.1)) }
+  steps_leave what answer old new stepped = record { clean = stepped.clean; runs = runs_on what answer old new stepped; catalogs = ends_map catalogue_of stepped.catalogs }
 
   -- what is kept is looked at
   pub looks_leave : (old new : World D S) → LeavesMachines desk_is_clean site_is_clean desk_is_sound site_is_sound desk_refused site_refused old.machines new.machines →
@@ -82,5 +78,5 @@ module _ {D S : Type 0} (desk_is_clean : D → Type 0) (site_is_clean : S → Ty
         let as_is = same clean has.sound in
         let in_force : StaysInForce old.machines new.machines = record { version = ap (λ (machines : Machines). machines.table.version) as_is; catalog = leaves.catalog; later = leaves.later } in
         stays db whole old new in_force (leaves.sound clean has.sound) as_is entries has;
-    catalogs = λ single. (ap catalogue_of leaves.catalog, leaves.later ∙ single);
+    catalogs = ends_alike (ap catalogue_of leaves.catalog) (ap (map catalogue_of) leaves.later);
   }

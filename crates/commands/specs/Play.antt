@@ -10,6 +10,7 @@ use Rattle.desk.specs.CatalogueDatabase.{database, databases}
 use Rattle.desk.specs.Database.{Database}
 use Rattle.desk.specs.OfCatalogue.{from_number}
 use Rattle.world.specs.declared.world.World.{World}
+use Rattle.world.specs.Frame.{EndsIn}
 use Rattle.world.specs.Runs.{IsSerialRun}
 use Rattle.world.specs.Replies.{committed_in}
 use Rattle.lines.specs.declared.catalog_file.CatalogFault.{CatalogFault}
@@ -133,13 +134,14 @@ module _ {D S : Type 0} (seen : SeenWorld (World D S)) where
     pub said : Appends old new told
 
   -- So over a chain of catalogues: those from one of them on were in force and came later. Where the stores of the world at the end are clean, what happened are the entries of a run over the list of
-  -- them, whichever came into force, under the one of whose number the world ends.
+  -- them, whichever came into force, under the one of whose number the world ends, and all behind it come later.
   pub record IsChainPlayedOver (first : Catalogue) (rest : List Catalogue) (whole : Relations) (items : List Placed) (old new : Option (List ℕ)) : Type 0 where
     pub opening : Schedule D S
     pub opens : IsOpening (stage_of opening)
     pub number : ℕ
     pub catalogs : (stage_of opening).catalogue ∷ (stage_of opening).later ≡ from_number number (first ∷ rest)
     pub ended : Schedule D S
+    pub left : EndsIn ((stage_of opening).catalogue ∷ (stage_of opening).later) ((stage_of ended).catalogue ∷ (stage_of ended).later)
     pub told : List ℕ
     pub plays : PlaysAll (seen.is_clean ended.world) (databases first rest) whole items opening ended told
     pub stands : seen.is_clean ended.world → seen.stands (databases first rest) ended.world

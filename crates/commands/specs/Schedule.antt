@@ -28,6 +28,7 @@ use Rattle.desk.specs.Database.{Database}
 use Rattle.world.specs.Contents.{OfStores, held}
 use Rattle.world.specs.Counted.{counts}
 use Rattle.world.specs.Events.{is_unsent}
+use Rattle.world.specs.Frame.{EndsIn}
 use Rattle.world.specs.Listed.{IsListed, StandsIn}
 use Rattle.world.specs.Machines.{Machines}
 use Rattle.world.specs.Posted.{letters_in}
@@ -97,11 +98,11 @@ pub record HasRun {W : Type 0} (seen : SeenWorld W) (db : Database) (whole : Rel
   pub reached : IsListReached db whole (seen.machines world) (seen.entries world)
 
 -- What a call leaves of a world, whatever it answers: stores that are clean now were clean, and where they are a run that had led to it goes on to it, under the catalogue of the number that it has
--- come to; the catalogue is the same where none comes after it
+-- come to; no catalogue is lost: the one in force and those that come after it are what is left of those before
 pub record LeavesWorld {W : Type 0} (seen : SeenWorld W) (old new : W) : Type 0 where
   pub clean : seen.is_clean new → seen.is_clean old
   pub runs : (db : Database) (whole : Relations) → seen.is_clean new → HasRun seen db whole old → HasRun seen db whole new
-  pub catalogs : (seen.machines old).later ≡ [] → (seen.catalogue new ≡ seen.catalogue old) × ((seen.machines new).later ≡ [])
+  pub catalogs : EndsIn (seen.catalogue old ∷ map catalogue_of (seen.machines old).later) (seen.catalogue new ∷ map catalogue_of (seen.machines new).later)
 
 -- each letter that was sent is counted
 abbrev pub IsCounted : Stage → Type 0

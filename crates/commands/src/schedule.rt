@@ -111,7 +111,6 @@ impl<D: DeskStore, S: SiteStore> Schedule<D, S> {
     }
 
     /// An event happens, or is refused: then it is answered why.
-    #[tactic(auto, using(crate::proofs::ReachedLemmas::stays_last))]
     pub fn step(&mut self, event: Event) -> Result<Option<Fault>, Memory>
         ensures steps { IfOk result (λ why. Steps event (stage_of self.old) (stage_of self.new) why) }
         ensures counted { IsCounted (stage_of self.old) → OnOk result (IsCounted (stage_of self.new)) }

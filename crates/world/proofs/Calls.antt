@@ -25,7 +25,7 @@ use Rattle.world.specs.Commands.{IsCommand, IsLone, IsRefragmented, IsTakenBack,
 use Rattle.world.specs.Counted.{NoFewer, counts}
 use Rattle.world.specs.Contents.{OfStores, counted}
 use Rattle.world.specs.Course.{IsOne, IsTurnedDown, Move, Moves, Refuses}
-use Rattle.world.specs.Frame.{Blames, ComesTo, HasMade, LeavesDatabase, ListMakes, MakesMoves, OverDatabase, OverLists, SameCatalogs, StaysServed}
+use Rattle.world.specs.Frame.{Blames, ComesTo, HasMade, KeepsCatalogs, LeavesDatabase, ListMakes, MakesMoves, OverDatabase, OverLists, StaysServed}
 use Rattle.world.specs.ListServed.{IsListServedOn, ListMade}
 use Rattle.world.proofs.ListCalls.{makes_as, makes_then, none_made}
 use Rattle.world.specs.Machines.{Machines}
@@ -33,7 +33,7 @@ use Rattle.world.specs.Stopping.{StopsFor, is_stop}
 use Rattle.world.proofs.Counting.{no_fewer, no_fewer_then}
 use Rattle.world.proofs.Deeds.{made_fit, made_then, made_version}
 use Rattle.world.proofs.InForce.{in_force_on}
-use Rattle.world.proofs.Leaves.{same_then}
+use Rattle.world.proofs.Leaves.{ends_last, ends_same, ends_then}
 use Rattle.world.proofs.Denials.{is_memory}
 use Rattle.world.proofs.Reaching.{same_on, then_on}
 use Rattle.world.proofs.Stops.{call_since, memory_only}
@@ -154,7 +154,7 @@ module _ {D S : Type 0} (IsClean IsSound : code.Machines D S → Type 0) (view :
     clean = λ clean. clean;
     sound = λ clean sound. sound;
     counts = no_fewer (view machines).refused;
-    catalogs = λ single. (refl, single);
+    catalogs = ends_same refl;
     blames = λ clean sound. blames;
     served = λ db whole past of law is clean sound served. same_on db law whole (view machines) (view machines) past served refl;
     moves = λ db of is clean sound fit. turned {T = Unit {0}} (λ done moves. moves ≡ []) (M db) db (view machines) (view machines) (Ok tt) result (λ none. absurd none) (λ moves none. subst (λ (ms : List Move). Stops result ⊎ M db result ms) (sym none) (so db of (view machines).table.version is)) (record { moves = []; made = refl; is = refl });
@@ -176,12 +176,12 @@ module _ {D S : Type 0} (IsClean IsSound : code.Machines D S → Type 0) (view :
   then_from {K = K} {L = L} {M = M} old mid new first result goes join one two =
       let done : (db : Database) → MakesMoves db (view old) (view mid) first (K db) → HasMade db (view old) (view mid) (K db first) = λ db makes. made_of db (view old) (view mid) first (K db) goes makes in
       let here : (db : Database) → (view old).later ≡ [] → InForce db (view old).table.version old.desk.catalog → HasMade db (view old) (view mid) (K db first) → InForce db (view mid).table.version mid.desk.catalog =
-      λ db single is made. in_force_on db (view old).table.version (view mid).table.version old.desk.catalog mid.desk.catalog (made_version db made.moves (view old) (view mid) made.made) (one.catalogs single).0 is in
+      λ db single is made. in_force_on db (view old).table.version (view mid).table.version old.desk.catalog mid.desk.catalog (made_version db made.moves (view old) (view mid) made.made) (ends_last one.catalogs single).0 is in
       record {
         clean = λ clean. one.clean (two.clean clean);
         sound = λ clean sound. two.sound clean (one.sound (two.clean clean) sound);
         counts = no_fewer_then (view old).refused (view mid).refused (view new).refused one.counts two.counts;
-        catalogs = same_then (λ machines. (view machines).later) old mid new one.catalogs two.catalogs;
+        catalogs = ends_then one.catalogs two.catalogs;
         blames = λ clean sound. call_since result (view old).refused (view mid).refused (view new).refused one.counts (two.blames clean (one.sound (two.clean clean) sound));
         served = λ db whole past of law is clean sound served.
             then_on db law whole (view old) (view mid) (view new) past (one.served db whole past of law is (two.clean clean) sound served)
@@ -235,7 +235,7 @@ module _ {D S : Type 0} (IsClean IsSound : code.Machines D S → Type 0) (view :
 
   -- so where no catalogue comes later; where one does, it is a transaction of its own
   pub is_refragmented : {T : Type 0} {items : T → List Notice} (old new : code.Machines D S) (result : Result T Refusal) (text : List ℕ) (current : Option Txn) (statement : Statement) → is_refragment statement ≡ true → current ≡ None →
-      (IsClean new → IsClean old) → (IsClean new → IsSound old → IsSound new) → NoFewer (view old).refused (view new).refused → SameCatalogs (λ machines. (view machines).later) old new → (IsClean new → IsSound old → IfErr result (StopsFor (view old).refused (view new).refused)) →
+      (IsClean new → IsClean old) → (IsClean new → IsSound old → IsSound new) → NoFewer (view old).refused (view new).refused → KeepsCatalogs (λ machines. (view machines).later) old new → (IsClean new → IsSound old → IfErr result (StopsFor (view old).refused (view new).refused)) →
       ((view old).later ≡ [] → (result ≡ Err told_as.NoNext) × (new ≡ old)) → ((view old).later ≢ [] → OverLists IsClean IsSound view old new (λ db whole past. ListMakes db whole (view new) past result (λ done moves. IsRefragmented text moves (heard_in items done)))) →
       ComesTo IsClean IsSound view old new result (λ db done moves. IsTextOf db.schemas text (Run statement) → IsCommand db.schemas text current current moves (heard_in items done))
   is_refragmented {T = T} {items = items} old new result text current statement moves_rows none clean sound fewer catalogs blames single lists =

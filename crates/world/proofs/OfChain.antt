@@ -8,6 +8,8 @@ use Rattle.catalog.specs.Relation.{catalogue_of}
 use Rattle.desk.specs.declared.desk.Desk.{Desk}
 use Rattle.desk.specs.OfCatalogue.{from_number}
 use Rattle.world.specs.Chain.{IsLast, StandsAt, StandsLast, sites_of}
+use Rattle.world.specs.Frame.{EndsIn}
+use Rattle.world.proofs.Leaves.{ends_same}
 use Rattle.world.proofs.ListIsLawful.{schemas_same}
 use Rattle.world.proofs.OneCatalogue.{first_is, in_force_is, none_later, none_of, rest_is}
 
@@ -37,6 +39,15 @@ same_schemas c (next ∷ rest) follows (suc (suc n)) x xs e = same_schemas next 
 pub schemas_are : (first : Catalogue) (rest chain : List Catalogue) → IsChain chain → chain ≡ first ∷ rest → (n : ℕ) (catalogue : Catalogue) (later : List Catalogue) → catalogue ∷ later ≡ from_number n chain → schemas_of catalogue ≡ schemas_of first
 schemas_are first rest [] is same n catalogue later e = absurd is
 schemas_are first rest (one ∷ others) is same n catalogue later e = same_schemas one others is n catalogue later e ∙ ap schemas_of (let head : one ≡ first = cc in head)
+
+-- the chain ends in those from one of them on
+pub ends_from : (n : ℕ) (catalogue : Catalogue) (later chain : List Catalogue) → catalogue ∷ later ≡ from_number n chain → EndsIn chain (catalogue ∷ later)
+ends_from n catalogue later [] e = absurd (cc)
+ends_from zero catalogue later (one ∷ others) e = absurd (cc)
+ends_from (suc zero) catalogue later (one ∷ others) e = ends_same e
+ends_from (suc (suc n)) catalogue later (one ∷ others) e =
+    let ends = ends_from (suc n) catalogue later others e in
+    record { passed = one ∷ ends.passed; is = ap (λ rest. one ∷ rest) ends.is }
 
 -- there is a first one
 pub first_there : (chain : List (List (List ℕ) × List SplitRelation)) → IsChain (map catalogue_of chain) → (n : ℕ) → n ≡ 1 → (first : Catalogue) × (rest : List Catalogue) × (from_number n (map catalogue_of chain) ≡ first ∷ rest)

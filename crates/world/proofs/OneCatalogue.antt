@@ -1,10 +1,10 @@
 -- A coordinator of one catalogue has no other in force, and none that comes after it.
-use Rattle.std.proofs.Common.{◌≡◌, refl, sym, ◌∙◌, ap, subst, ℕ, zero, suc, Bool, true, false, List, [], ◌∷◌, map, if◌then◌else◌}
+use Rattle.std.proofs.Common.{◌≡◌, refl, sym, ◌∙◌, ap, subst, ℕ, zero, suc, List, [], ◌∷◌, map}
 use Rattle.catalog.specs.declared.relation.SplitRelation.{SplitRelation}
 use Rattle.catalog.specs.Catalogue.{Catalogue}
 use Rattle.catalog.specs.Relation.{catalogue_of}
 use Rattle.desk.specs.Database.{Database}
-use Rattle.desk.specs.OfCatalogue.{IsNextOf, first_in, follow, from_number}
+use Rattle.desk.specs.OfCatalogue.{IsNextOf, first_in, from_number}
 
 pub first_is : (c x : Catalogue) (xs : List Catalogue) → x ∷ xs ≡ c ∷ [] → x ≡ c
 first_is c x xs e = cc
@@ -35,19 +35,6 @@ module _ (n : ℕ) (c : Catalogue) (chain : List Catalogue) (catalog : List (Lis
 -- where none comes next a letter brings none
 pub no_next : (db : Database) (n : ℕ) (later : List (List (List ℕ) × List SplitRelation)) → later ≡ [] → IsNextOf db n (first_in later)
 no_next db n later none = subst (λ (those : List (List (List ℕ) × List SplitRelation)). IsNextOf db n (first_in those)) (sym none) tt
-
-abbrev Catalogs : Type 0
-Catalogs = (List (List ℕ) × List SplitRelation) × List (List (List ℕ) × List SplitRelation)
-
-pair_is : (one other : Catalogs) → one ≡ other → (one.0 ≡ other.0) × (one.1 ≡ other.1)
-pair_is one other e = (ap (λ (pair : Catalogs). pair.0) e, ap (λ (pair : Catalogs). pair.1) e)
-
-pub single_stays : (catalog now : List (List ℕ) × List SplitRelation) (later after : List (List (List ℕ) × List SplitRelation)) (same : Bool) → (now, after) ≡ (if same then (catalog, later) else follow catalog later) → later ≡ [] → (now ≡ catalog) × (after ≡ [])
-single_stays catalog now later after same stands none = pair_is (now, after) (catalog, []) (stands ∙ ap (λ (those : List (List (List ℕ) × List SplitRelation)). if same then (catalog, those) else follow catalog those) none ∙ go same)
-  where
-    go : (b : Bool) → (if b then (catalog, []) else follow catalog []) ≡ (catalog, [])
-    go true = refl
-    go false = refl
 
 -- one catalogue has the number 1
 pub one_there : (c : Catalogue) (chain : List Catalogue) (n : ℕ) → chain ≡ c ∷ [] → n ≡ 1 → from_number n chain ≡ c ∷ []

@@ -1,12 +1,12 @@
 -- What a call leaves of the machines of a database, and of what its clauses speak.
-use Rattle.std.specs.Prelude.{◌≡◌, ◌≤◌, ◌⊎◌, ℕ, true, List, [], map, Result, Ok, Err, IfErr, IfOk, OnErr}
+use Rattle.std.specs.Prelude.{◌≡◌, ◌≢◌, ◌≤◌, ◌⊎◌, ◌++◌, ◌∷◌, ℕ, true, List, map, Result, Ok, Err, IfErr, IfOk, OnErr}
 use Rattle.std.specs.List.{AllByRecursion, AllZip}
 use Rattle.meaning.specs.Whole.{Relations}
 use Rattle.protocol.specs.Client.{ReachedLaw}
 use Rattle.protocol.specs.Desk.{Deed}
 use Rattle.catalog.specs.declared.relation.SplitRelation.{SplitRelation}
 use Rattle.desk.specs.Database.{Database, language}
-use Rattle.desk.specs.OfCatalogue.{InForce, IsOfCatalogue}
+use Rattle.desk.specs.OfCatalogue.{InForce, IsOfCatalogue, follow}
 use Rattle.world.specs.declared.machines.Machines as code
 use Rattle.site.specs.declared.site.Site.{Site}
 use Rattle.desk.specs.declared.refusal.Refusal.{Refusal}
@@ -21,9 +21,19 @@ use Rattle.world.specs.ListServed.{IsListServed, IsListServedOn, IsListWaiting, 
 use Rattle.world.specs.Listed.{FitsList, IsListed, StandsIn}
 use Rattle.world.specs.Stopping.{StopsFor, is_stop}
 
--- the catalogue in force stays so, where none comes after it. later: those that come after it
-abbrev pub SameCatalogs : {D S : Type 0} → (code.Machines D S → List (List (List ℕ) × List SplitRelation)) → code.Machines D S → code.Machines D S → Type 0
-SameCatalogs later old new = later old ≡ [] → (new.desk.catalog ≡ old.desk.catalog) × (later new ≡ [])
+-- a list ends in another one: a front of it has passed
+pub record EndsIn {A : Type 0} (whole rest : List A) : Type 0 where
+  pub passed : List A
+  pub is : passed ++ rest ≡ whole
+
+-- no catalogue is lost: the one in force and those that come after it are what is left of those before. later: those that come after it
+abbrev pub KeepsCatalogs : {D S : Type 0} → (code.Machines D S → List (List (List ℕ) × List SplitRelation)) → code.Machines D S → code.Machines D S → Type 0
+KeepsCatalogs later old new = EndsIn (old.desk.catalog ∷ later old) (new.desk.catalog ∷ later new)
+
+-- by one event at most one passes: the catalogues are the same or, where the one in force has another number, those that follow
+abbrev pub StaysOrFollows : {D S : Type 0} → code.Machines D S → code.Machines D S → Type 0
+StaysOrFollows old new = ((new.desk.catalog ≡ old.desk.catalog) × (new.desk.later.items ≡ old.desk.later.items))
+    ⊎ ((new.desk.volatile.version ≢ old.desk.volatile.version) × ((new.desk.catalog, new.desk.later.items) ≡ follow old.desk.catalog old.desk.later.items))
 
 -- the same catalogue is in force, and the same ones come later
 pub record StaysInForce {D S : Type 0} (old new : code.Machines D S) : Type 0 where
@@ -40,12 +50,12 @@ pub record LeavesMachines {D S : Type 0} (desk_is_clean : D → Type 0) (site_is
   pub catalog : new.desk.catalog ≡ old.desk.catalog
   pub later : new.desk.later.items ≡ old.desk.later.items
 
--- so a call by which letters may come: the catalogue is the same where none comes after it
+-- so a call by which letters may come: catalogues may have passed, and all others are there
 pub record LeavesDatabase {D S : Type 0} (desk_is_clean : D → Type 0) (site_is_clean : S → Type 0) (desk_is_sound : D → Type 0) (site_is_sound : S → Type 0) (desk_refused : D → ℕ) (site_refused : S → ℕ) (old new : code.Machines D S) : Type 0 where
   pub clean : OfStores desk_is_clean site_is_clean new → OfStores desk_is_clean site_is_clean old
   pub sound : OfStores desk_is_clean site_is_clean new → OfStores desk_is_sound site_is_sound old → OfStores desk_is_sound site_is_sound new
   pub counts : AllZip (λ (count now : ℕ). count ≤ now) (counts desk_refused site_refused old) (counts desk_refused site_refused new)
-  pub catalogs : SameCatalogs (λ machines. machines.desk.later.items) old new
+  pub catalogs : KeepsCatalogs (λ machines. machines.desk.later.items) old new
 
 -- so of the stores of sites
 pub record LeavesSites {S : Type 0} (is_clean is_sound : S → Type 0) (refused : S → ℕ) (old new : List (Site S)) : Type 0 where
@@ -117,7 +127,7 @@ pub record ComesTo {D S T : Type 0} (IsClean IsSound : code.Machines D S → Typ
   pub clean : IsClean new → IsClean old
   pub sound : IsClean new → IsSound old → IsSound new
   pub counts : NoFewer (view old).refused (view new).refused
-  pub catalogs : SameCatalogs (λ machines. (view machines).later) old new
+  pub catalogs : KeepsCatalogs (λ machines. (view machines).later) old new
   pub blames : IsClean new → IsSound old → IfErr result (StopsFor (view old).refused (view new).refused)
   pub served : StaysServed IsClean IsSound view old new
   pub moves : OverDatabase IsClean IsSound view old new (λ db before after. MakesMoves db before after result (kind db))

@@ -16,7 +16,7 @@ use Rattle.world.specs.declared.world.World as code_world
 use Rattle.world.specs.Counted.{HaveRefused}
 use Rattle.world.specs.EventApplied.{may_call}
 use Rattle.world.specs.Events.{is_unsent}
-use Rattle.world.specs.Frame.{CallsNoStore, SameCatalogs, StaysInForce}
+use Rattle.world.specs.Frame.{CallsNoStore, KeepsCatalogs, StaysInForce, StaysOrFollows}
 use Rattle.world.specs.Listed.{FitsList, IsListed, StandsIn}
 use Rattle.world.specs.Machines.{Machines, world_of}
 use Rattle.world.specs.Refused.{IsRefusedFor}
@@ -37,7 +37,8 @@ answer_of (Err told) = Err told.now
 pub record Steps {D S : Type 0} (db : Database) (IsClean IsSound : code.Machines D S → Type 0) (hold count : code.Machines D S → Machines) (what : events.Event) (answer : Result Entry faults.Fault) (old new : code_world.World D S) : Type 0 where
   pub clean : IsClean new.machines → IsClean old.machines
   pub sound : IsClean new.machines → IsSound old.machines → IsSound new.machines
-  pub catalogs : SameCatalogs (λ machines. machines.desk.later.items) old.machines new.machines
+  pub catalogs : KeepsCatalogs (λ machines. machines.desk.later.items) old.machines new.machines
+  pub follows : StaysOrFollows old.machines new.machines
   pub entry : IfOk answer (λ entry. (entry.event ≡ what) × (new.entries.items ≡ old.entries.items ++ entry ∷ []))
   pub goes_on : (whole : Relations) (past : List (Deed (language db))) → IsClean new.machines → IsSound old.machines
       → IsRun db whole (hold old.machines) old.entries.items past → OnOk answer ((on : StepsOn db whole (hold old.machines) (hold new.machines) old.entries.items new.entries.items past)

@@ -10,7 +10,7 @@ ghost use Rattle.catalog.specs.Relation.{catalogue_of};
 ghost use Rattle.protocol.specs.Desk.{Deed};
 ghost use Rattle.desk.specs.Database.{Database, language};
 ghost use Rattle.desk.specs.OfCatalogue.{InForce, IsOfCatalogue};
-ghost use Rattle.world.specs.Frame.{CallsNoStore, LeavesDatabase, LeavesMachines, StaysInForce, StaysOnErr};
+ghost use Rattle.world.specs.Frame.{CallsNoStore, LeavesDatabase, LeavesMachines, StaysInForce, StaysOnErr, StaysOrFollows};
 ghost use Rattle.world.specs.Listed.{FitsList, StandsIn};
 ghost use Rattle.world.specs.Contents.{OfStores, counted, held};
 ghost use Rattle.desk.specs.State.{Fits, volatile_of};
@@ -79,7 +79,7 @@ impl<D: DeskStore, S: SiteStore> Machines<D, S> {
     ghost use Rattle.world.specs.Taking.{CameUnless, ListCameUnless, stop_of};
     ghost use Rattle.site.specs.Refusals.{AsksToKeep};
     ghost use Rattle.world.specs.EventApplied.{may_call_at};
-    ghost use Rattle.world.specs.Frame.{CallsNoStore, LeavesDatabase, LeavesMachines, StaysInForce, StaysOnErr};
+    ghost use Rattle.world.specs.Frame.{CallsNoStore, LeavesDatabase, LeavesMachines, StaysInForce, StaysOnErr, StaysOrFollows};
     ghost use Rattle.world.specs.Listed.{FitsList, ListAsked, ListBegun, ListCame, ListLeads, ListMoved, ListStated, StandsIn};
     ghost use Rattle.world.specs.Contents.{OfStores, held};
     ghost use Rattle.world.specs.Machines.{AreFit, Asked, Came, Leads, Stated, happens_at, is_for_site, is_of_site, is_order, world_of};
@@ -207,6 +207,7 @@ impl<D: DeskStore, S: SiteStore> Machines<D, S> {
             → IfErr result (λ told. Tells db (held D.kept S.kept self.old) letter.now (faults.Desk told)) }
         ensures lists { (db : Database) → IsOfCatalogue db → StandsIn db self.old.desk → OfStores D.is_clean S.is_clean self.new → OfStores D.is_sound S.is_sound self.old → FitsList db (held D.kept S.kept self.old) → is_order letter.now.body ≡ false → is_of_site db letter.now ≡ true
             → IfOk result (λ out. ListCame db letter.now out.kept (held D.kept S.kept self.old) (held D.kept S.kept self.new) out.letters out.replies × StandsIn db self.new.desk) }
+        ensures follows { StaysOrFollows self.old self.new }
         ensures stays { OnErr result (StaysInForce self.old self.new) }
         ensures refusal { IfOk result (λ out. out.kept ≡ false → (kept ≡ false) ⊎ HaveRefused (counts D.refused S.refused self.old) (counts D.refused S.refused self.new)) }
         ensures own { IfErr result (λ told. (told ≡ refusals.Memory) ⊎ (told ≡ refusals.Full)) }
@@ -223,6 +224,7 @@ impl<D: DeskStore, S: SiteStore> Machines<D, S> {
             → IfOk result (λ out. Came db letter out.kept (held D.kept S.kept self.old) (held D.kept S.kept self.new) out.letters out.replies) }
         ensures lists { (db : Database) → IsOfCatalogue db → StandsIn db self.old.desk → OfStores D.is_clean S.is_clean self.new → OfStores D.is_sound S.is_sound self.old → FitsList db (held D.kept S.kept self.old) → is_of_site db letter ≡ true
             → IfOk result (λ out. ListCame db letter out.kept (held D.kept S.kept self.old) (held D.kept S.kept self.new) out.letters out.replies × StandsIn db self.new.desk) }
+        ensures follows { StaysOrFollows self.old self.new }
         ensures stays { OnErr result (StaysInForce self.old self.new) }
         ensures keeps { (db : Database) → IsOfCatalogue db → InForce db self.old.desk.volatile.version self.old.desk.catalog → OfStores D.is_clean S.is_clean self.new → OfStores D.is_sound S.is_sound self.old → FitsList db (held D.kept S.kept self.old) → is_of_site db letter ≡ true
             → IfOk result (λ out. CallKept out.kept (sent db letter).body) }
@@ -353,6 +355,7 @@ fn deliver<D: DeskStore, S: SiteStore>(
         → IsListRun db whole (held D.kept S.kept machines.old) log.now.items past → IfOk result (λ out. ListStepsOn db whole (held D.kept S.kept machines.old) (held D.kept S.kept machines.new) log.now.items (log.now.items ++ entry_of (events.Deliver number kept) out ∷ []) past × StandsIn db machines.new.desk) }
     ensures spared_lists { (db : Database) (past : List (Deed (language db))) → IsOfCatalogue db → StandsIn db machines.old.desk → OfStores D.is_clean S.is_clean machines.new → OfStores D.is_sound S.is_sound machines.old
         → FitsList db (held D.kept S.kept machines.old) → IfOk result (λ out. IsSpared (HaveRefused (counts D.refused S.refused machines.old) (counts D.refused S.refused machines.new)) db (held D.kept S.kept machines.old) (held D.kept S.kept machines.new) log.now.items (log.now.items ++ entry_of (events.Deliver number kept) out ∷ []) past number kept) }
+    ensures follows { StaysOrFollows machines.old machines.new }
     ensures stays { OnErr result (StaysInForce machines.old machines.new) }
     ensures unsent { result ≡ Err faults.Unsent → is_unsent machines.old.desk.catalog.0 log.now.items (events.Deliver number kept) ≡ true }
     ensures nowhere { is_unsent machines.old.desk.catalog.0 log.now.items (events.Deliver number kept) ≡ true → result ≡ Err faults.Unsent }
@@ -437,6 +440,7 @@ pub(crate) fn apply_event<D: DeskStore, S: SiteStore>(
         → IsRun db whole (held D.kept S.kept machines.old) log.now.items past → IfOk result (λ out. StepsOn db whole (held D.kept S.kept machines.old) (held D.kept S.kept machines.new) log.now.items (log.now.items ++ entry_of event.now out ∷ []) past) }
     ensures lists { (db : Database) (whole : Relations) (past : List (Deed (language db))) → IsOfCatalogue db → StandsIn db machines.old.desk → OfStores D.is_clean S.is_clean machines.new → OfStores D.is_sound S.is_sound machines.old
         → IsListRun db whole (held D.kept S.kept machines.old) log.now.items past → IfOk result (λ out. ListStepsOn db whole (held D.kept S.kept machines.old) (held D.kept S.kept machines.new) log.now.items (log.now.items ++ entry_of event.now out ∷ []) past × StandsIn db machines.new.desk) }
+    ensures follows { StaysOrFollows machines.old machines.new }
     ensures stays { OnErr result (StaysInForce machines.old machines.new) }
     ensures spared { (db : Database) (whole : Relations) (past : List (Deed (language db))) → IsOfCatalogue db → InForce db machines.old.desk.volatile.version machines.old.desk.catalog → OfStores D.is_clean S.is_clean machines.new → OfStores D.is_sound S.is_sound machines.old
         → IsRun db whole (held D.kept S.kept machines.old) log.now.items past → IfOk result (λ out. Spares (HaveRefused (counts D.refused S.refused machines.old) (counts D.refused S.refused machines.new)) db (held D.kept S.kept machines.old) (held D.kept S.kept machines.new) log.now.items (log.now.items ++ entry_of event.now out ∷ []) past event.now) }

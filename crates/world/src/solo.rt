@@ -22,7 +22,7 @@ ghost use Rattle.desk.specs.CatalogueDatabase.{database, databases, fits};
 ghost use Rattle.world.specs.Counted.{counts};
 ghost use Rattle.world.specs.BatchRuns.{HasRun, WasStopped};
 ghost use Rattle.world.specs.Fault.{FailsFor, is_memory};
-ghost use Rattle.world.specs.Frame.{ComesTo, LeavesDatabase, LeavesMachines, ListMakes, OverLists, StaysAsItIs};
+ghost use Rattle.world.specs.Frame.{ComesTo, EndsIn, LeavesDatabase, LeavesMachines, ListMakes, OverLists, StaysAsItIs};
 ghost use Rattle.world.specs.Batch.{RunsAll};
 ghost use Rattle.world.specs.Listed.{FitsList, IsListed, StandsIn};
 ghost use Rattle.world.specs.ListServed.{IsListServed, IsListServedOn, ListMade};
@@ -152,11 +152,10 @@ pub fn open_on<D: DeskStore + Drop, S: SiteStore + Drop>(
 }
 
 impl<D: DeskStore + Drop, S: SiteStore + Drop> Solo<D, S> {
-    /// Opens a database over these stores: those of its sites, in the order of the chain, and the coordinator's, whose
-    /// number says which catalogue is in force. Over the stores of an earlier run, wherever that was stopped, it goes on:
-    /// what was committed is there, what was prepared has come to its end, and nothing else has been done. So it begins
-    /// anew over the whole relations that the committed transactions have made, and over new stores without rows. On a
-    /// fault the stores are let go.
+    /// Opens a database over these stores: those of its sites, in the order of the chain, and the coordinator's, whose number says which
+    /// catalogue is in force; all behind it come later. Over the stores of an earlier run, wherever that was stopped, it goes on: what was
+    /// committed is there, what was prepared has come to its end, and nothing else has been done. So it begins anew over the whole relations
+    /// that the committed transactions have made, and over new stores without rows. On a fault the stores are let go.
     pub fn open_stores(
         alloc: Global,
         chain: &Chain,
@@ -171,6 +170,7 @@ impl<D: DeskStore + Drop, S: SiteStore + Drop> Solo<D, S> {
         ensures lists_without_rows { (first : Catalogue) (rest : List Catalogue) → map catalogue_of chain.now ≡ first ∷ rest → IfOk result (λ solo. OfStores D.is_clean S.is_clean solo.machines → ListBeginsWithoutRows first rest (D.kept desk) (map S.kept sites.items) solo.machines.desk (counted D.kept S.kept D.refused S.refused solo.machines)) }
         ensures clean { IfOk result (λ solo. OfStores D.is_clean S.is_clean solo.machines → OfGiven D.is_clean S.is_clean desk sites.items) }
         ensures sound { IfOk result (λ solo. OfStores D.is_clean S.is_clean solo.machines → OfStores D.is_sound S.is_sound solo.machines) }
+        ensures catalogs { IfOk result (λ solo. EndsIn (map catalogue_of chain.now) (catalogue_of solo.machines.desk.catalog ∷ map catalogue_of solo.machines.desk.later.items)) }
         ensures single { (catalogue : Catalogue) → map catalogue_of chain.now ≡ catalogue ∷ [] → IfOk result (λ solo. IsLast catalogue solo.machines.desk) }
         ensures last { (catalogue : Catalogue) → StandsLast (D.kept desk).version (map catalogue_of chain.now) catalogue → IfOk result (λ solo. OfStores D.is_clean S.is_clean solo.machines → IsLast catalogue solo.machines.desk) }
         ensures idle { IfOk result (λ solo. (solo.current ≡ None) × (solo.stopped ≡ None)) }

@@ -25,7 +25,7 @@ ghost use Rattle.world.specs.Events.{is_unsent};
 ghost use Rattle.world.specs.Counted.{HaveRefused, counts};
 ghost use Rattle.world.specs.Fault.{FailsFor, is_memory};
 ghost use Rattle.world.specs.Following.{Follows, FollowsAtLeast, Happens};
-ghost use Rattle.world.specs.Frame.{CallsNoStore, LeavesDatabase, LeavesMachines, StaysAsItIs, StaysInForce, StaysOnErr};
+ghost use Rattle.world.specs.Frame.{CallsNoStore, LeavesDatabase, LeavesMachines, StaysAsItIs, StaysInForce, StaysOnErr, StaysOrFollows};
 ghost use Rattle.world.specs.Listed.{FitsList, IsListed, StandsIn};
 ghost use Rattle.world.specs.Chain.{IsLast, StandsAt, sites_of};
 ghost use Rattle.world.specs.Contents.{OfGiven, OfStores, counted, held};
@@ -168,6 +168,7 @@ impl<D: DeskStore, S: SiteStore> World<D, S> {
             × Holds (on.run_on.version, whole) (world_of (database (catalogue_of self.old.machines.desk.catalog)) (held D.kept S.kept self.new.machines) (map (sent (database (catalogue_of self.old.machines.desk.catalog))) (letters_in self.new.entries.items)) (past ++ on.deeds))) }
         ensures lists { (db : Database) (whole : Relations) (past : List (Deed (language db))) → IsListed db → StandsIn db self.old.machines.desk → OfStores D.is_clean S.is_clean self.new.machines → OfStores D.is_sound S.is_sound self.old.machines
             → IsListRun db whole (held D.kept S.kept self.old.machines) self.old.entries.items past → OnOk result (ListGoesOn db whole (held D.kept S.kept self.old.machines) (held D.kept S.kept self.new.machines) self.old.entries.items self.new.entries.items past × StandsIn db self.new.machines.desk) }
+        ensures follows { StaysOrFollows self.old.machines self.new.machines }
         ensures stays { OnErr result (StaysInForce self.old.machines self.new.machines) }
         ensures spared { (whole : Relations) (past : List (Deed (language (database (catalogue_of self.old.machines.desk.catalog)))))
             → OfStores D.is_clean S.is_clean self.new.machines → OfStores D.is_sound S.is_sound self.old.machines

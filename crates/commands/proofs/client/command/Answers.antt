@@ -1,5 +1,6 @@
 use Rattle.std.proofs.Common.{ap, ◌∙◌, ◌≡◌, subst, None, OnOk}
 use Rattle.catalog.specs.Relation.{catalogue_of}
+use Rattle.world.proofs.Leaves.{ends_last}
 use Rattle.commands.specs.Client.{heard_text}
 use Rattle.commands.proofs.ClientLemmas.{is_heard, is_turned_away, not_stopped}
 use Rattle.commands.proofs.ListClientLemmas.{behind_of, is_heard_over, is_turned_away_over, stands_in}
@@ -9,7 +10,7 @@ pub returns-in_ok-heard_text-in-Ok : goal.returns-in_ok-heard_text-in-Ok
 returns-in_ok-heard_text-in-Ok g c = record {
   clean = c.execute.ensures.leaves.clean;
   answers = λ catalogue whole past clean h.
-      is_heard catalogue whole past c.args.database.now c.execute.new.self clean h c.args.mode c.args.text.now c.in-Ok.heard.items _ c.in-Ok.ensures.executes (subst (λ done. OnOk done (c.execute.new.self.stopped ≡ None)) c.in-Ok.is (c.execute.ensures.stops h.going).0) (ap catalogue_of (c.execute.ensures.leaves.catalogs h.served.fit.single).0) c.execute.ensures.leaves.sound
+      is_heard catalogue whole past c.args.database.now c.execute.new.self clean h c.args.mode c.args.text.now c.in-Ok.heard.items _ c.in-Ok.ensures.executes (subst (λ done. OnOk done (c.execute.new.self.stopped ≡ None)) c.in-Ok.is (c.execute.ensures.stops h.going).0) (ap catalogue_of (ends_last c.execute.ensures.leaves.catalogs h.served.fit.single).0) c.execute.ensures.leaves.sound
       (c.in_ok-heard_text-in-Ok.ensures ∙ ap (heard_text c.args.mode) c.as_slice.ensures.value);
   over = λ db whole happened listed clean h.
       let old = c.args.database.now in
@@ -25,7 +26,7 @@ returns-in-Err g c = record {
   clean = c.execute.ensures.leaves.clean;
   answers = λ catalogue whole past clean h.
       is_turned_away catalogue whole past c.args.database.now c.execute.new.self clean h c.args.mode c.args.text.now c.in-Err.refusal c.refused.result c.in-Err.ensures.executes (not_stopped c.execute.result c.in-Err.refusal c.execute.new.self.stopped (c.execute.ensures.stops h.going).1 c.in-Err.is)
-      (ap catalogue_of (c.execute.ensures.leaves.catalogs h.served.fit.single).0) c.execute.ensures.leaves.sound c.in-Err.ensures.still c.refused.ensures.goes_on c.refused.ensures.told;
+      (ap catalogue_of (ends_last c.execute.ensures.leaves.catalogs h.served.fit.single).0) c.execute.ensures.leaves.sound c.in-Err.ensures.still c.refused.ensures.goes_on c.refused.ensures.told;
   over = λ db whole happened listed clean h.
       let old = c.args.database.now in
       let new = c.execute.new.self in

@@ -6,6 +6,8 @@ use Rattle.catalog.specs.Catalogue.{Catalogue}
 use Rattle.catalog.specs.Relation.{catalogue_of}
 use Rattle.desk.specs.CatalogueDatabase.{database, databases}
 use Rattle.world.specs.Listed.{IsListed}
+use Rattle.world.proofs.Leaves.{ends_last}
+use Rattle.world.proofs.OneCatalogue.{none_of}
 use Rattle.commands.specs.Play.{StopsItems}
 use Rattle.commands.specs.Schedule.{HasRun, world_over}
 use Rattle.commands.specs.WorldOpener.{IsChainOpened, IsOpenedOver}
@@ -39,7 +41,7 @@ returns-clause-one g c = λ catalogue is.
       ended = ended;
       told = ran.told;
       plays = PlaysAll-weaker seen {Q = seen.is_clean ended.world} db whole c.args.items.now opening ended ran.told (λ clean. (clean, began clean)) (ran.plays db whole);
-      run = λ clean. reached_single catalogue whole (seen.machines ended.world) (seen.entries ended.world) (leaves.catalogs opened.single).1 (runs clean).reached;
+      run = λ clean. reached_single catalogue whole (seen.machines ended.world) (seen.entries ended.world) (none_of (seen.machines ended.world).later (ends_last leaves.catalogs (ap (map catalogue_of) opened.single)).1) (runs clean).reached;
       serial = λ clean. c.list_runs_are_serial.ensures db listed whole (seen.machines ended.world) (seen.entries ended.world) (runs clean).reached.0 (runs clean).reached.1;
       said = Appends-kept (g.W.Write.contents c.args.output.now) (g.W.Write.contents c.play_items-done.new.output) (g.W.Write.contents c.send_out-sent.new.output) ran.told ran.said c.send_out-sent.ensures.same;
     }
@@ -66,6 +68,7 @@ returns-clause-lists g c = λ first rest is.
       number = opened.number;
       catalogs = opened.catalogs;
       ended = ended;
+      left = leaves.catalogs;
       told = ran.told;
       plays = PlaysAll-weaker seen {Q = seen.is_clean ended.world} db whole c.args.items.now opening ended ran.told (λ clean. (clean, began clean)) (ran.plays db whole);
       stands = λ clean. (runs clean).stands;

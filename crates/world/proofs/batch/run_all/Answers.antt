@@ -19,6 +19,7 @@ use Rattle.world.proofs.ListCalls.{made_on, makes_on}
 use Rattle.world.proofs.ListDelivering.{on_then}
 use Rattle.world.proofs.Reaching.{same_on}
 use Rattle.world.proofs.Stops.{memory_stops}
+use Rattle.world.proofs.Leaves.{ends_last}
 use Rattle.world.proofs.batch.run_all.Goals as goal
 
 pub loop-transaction-init : goal.loop-transaction-init
@@ -81,7 +82,7 @@ returns-in-Err-run_one-clause-stops g c = λ db of is clean sound fit law.
     let so_far = c.loop-transaction.invariant.moves db of is clean_here sound fit in
     stops_here c.args.transactions.now c.loop-transaction.transaction-index _ c.transaction-item.result c.loop-transaction.outcomes.items (omega arith) c.transaction-item.is db before middle after _ (c.stop-in-Err-run_one.ensures.0 ∙ c.make_room.ensures.items)
     so_far
-    (λ whole past served. comes.served db whole past of law (in_force_on db _ _ _ _ (made_version db so_far.moves before middle so_far.made) (c.loop-transaction.invariant.catalogs fit.single).0 is) clean (c.loop-transaction.invariant.sound clean_here sound) served)
+    (λ whole past served. comes.served db whole past of law (in_force_on db _ _ _ _ (made_version db so_far.moves before middle so_far.made) (ends_last c.loop-transaction.invariant.catalogs fit.single).0 is) clean (c.loop-transaction.invariant.sound clean_here sound) served)
 
 pub returns-in-Err-run_one-clause-leaves : goal.returns-in-Err-run_one-clause-leaves
 returns-in-Err-run_one-clause-leaves g c =

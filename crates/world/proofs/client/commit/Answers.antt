@@ -24,6 +24,7 @@ use Rattle.world.proofs.Running.{over_of}
 use Rattle.world.proofs.Stops.{call_since}
 use Rattle.world.proofs.ListCalls.{lists_counted, refused_lists, commit_makes}
 use Rattle.world.proofs.ListDelivering.{asked_waits}
+use Rattle.world.proofs.Leaves.{ends_alike, ends_then}
 use Rattle.world.proofs.client.commit.Goals as goal
 
 pub returns-in-Ok : goal.returns-in-Ok
@@ -32,7 +33,7 @@ returns-in-Ok g c = one_call g.D.DeskStore.is_clean g.S.SiteStore.is_clean g.D.D
       clean = search rules;
       sound = search rules;
       counts = no_fewer_then (counts g.D.DeskStore.refused g.S.SiteStore.refused c.args.machines.now) (counts g.D.DeskStore.refused g.S.SiteStore.refused c.commit.new.self) (counts g.D.DeskStore.refused g.S.SiteStore.refused c.deliver_all.new.machines) (none_fewer (counts g.D.DeskStore.refused g.S.SiteStore.refused c.args.machines.now) (counts g.D.DeskStore.refused g.S.SiteStore.refused c.commit.new.self) (uncounted g.D.DeskStore.refused g.S.SiteStore.refused c.commit.ensures.uncalled)) c.deliver_all.ensures.leaves.counts;
-      catalogs = λ single. (let here = c.deliver_all.ensures.leaves.catalogs (c.commit.ensures.leaves.later ∙ single) in (here.0 ∙ c.commit.ensures.leaves.catalog, here.1));
+      catalogs = ends_then (ends_alike c.commit.ensures.leaves.catalog c.commit.ensures.leaves.later) c.deliver_all.ensures.leaves.catalogs;
     })
     (λ clean sound. call_since c.deliver_all.result (counts g.D.DeskStore.refused g.S.SiteStore.refused c.args.machines.now) (counts g.D.DeskStore.refused g.S.SiteStore.refused c.commit.new.self) (counts g.D.DeskStore.refused g.S.SiteStore.refused c.deliver_all.new.machines) (none_fewer (counts g.D.DeskStore.refused g.S.SiteStore.refused c.args.machines.now) (counts g.D.DeskStore.refused g.S.SiteStore.refused c.commit.new.self) (uncounted g.D.DeskStore.refused g.S.SiteStore.refused c.commit.ensures.uncalled)) (c.deliver_all.ensures.blames clean (c.commit.ensures.leaves.sound (c.deliver_all.ensures.leaves.clean clean) sound)))
     (λ db whole past of law is clean sound served.
@@ -76,7 +77,7 @@ returns-in-Err g c = one_call g.D.DeskStore.is_clean g.S.SiteStore.is_clean g.D.
       clean = search rules;
       sound = search rules;
       counts = none_fewer (counts g.D.DeskStore.refused g.S.SiteStore.refused c.args.machines.now) (counts g.D.DeskStore.refused g.S.SiteStore.refused c.commit.new.self) (uncounted g.D.DeskStore.refused g.S.SiteStore.refused c.commit.ensures.uncalled);
-      catalogs = λ single. (c.commit.ensures.leaves.catalog, c.commit.ensures.leaves.later ∙ single);
+      catalogs = ends_alike c.commit.ensures.leaves.catalog c.commit.ensures.leaves.later;
     })
     (λ clean sound. c.in-Err.ensures.blames)
     (λ db whole past of law is clean sound served.

@@ -20,6 +20,7 @@ use Rattle.world.proofs.Stops.{call_since}
 use Rattle.world.specs.Course.{Begins, IsOne}
 use Rattle.world.proofs.ListCalls.{begin_makes, lists_counted, unbegun_lists}
 use Rattle.world.proofs.ListDelivering.{begun_waits}
+use Rattle.world.proofs.Leaves.{ends_alike, ends_then}
 use Rattle.world.proofs.client.greet.Goals as goal
 
 pub returns-in-Ok-clause-ok : goal.returns-in-Ok-clause-ok
@@ -76,7 +77,7 @@ returns-in-Ok-clause-leaves g c = record {
   clean = search rules;
   sound = search rules;
   counts = no_fewer_then (counts g.D.DeskStore.refused g.S.SiteStore.refused c.args.machines.now) (counts g.D.DeskStore.refused g.S.SiteStore.refused c.begin.new.self) (counts g.D.DeskStore.refused g.S.SiteStore.refused c.deliver_all.new.machines) (none_fewer (counts g.D.DeskStore.refused g.S.SiteStore.refused c.args.machines.now) (counts g.D.DeskStore.refused g.S.SiteStore.refused c.begin.new.self) (uncounted g.D.DeskStore.refused g.S.SiteStore.refused c.begin.ensures.uncalled)) c.deliver_all.ensures.leaves.counts;
-  catalogs = λ single. (let here = c.deliver_all.ensures.leaves.catalogs (c.begin.ensures.leaves.later ∙ single) in (here.0 ∙ c.begin.ensures.leaves.catalog, here.1));
+  catalogs = ends_then (ends_alike c.begin.ensures.leaves.catalog c.begin.ensures.leaves.later) c.deliver_all.ensures.leaves.catalogs;
 }
 
 pub returns-in-Ok-clause-blames : goal.returns-in-Ok-clause-blames
@@ -87,7 +88,7 @@ returns-in-Err-clause-leaves g c = record {
   clean = search rules;
   sound = search rules;
   counts = none_fewer (counts g.D.DeskStore.refused g.S.SiteStore.refused c.args.machines.now) (counts g.D.DeskStore.refused g.S.SiteStore.refused c.begin.new.self) (uncounted g.D.DeskStore.refused g.S.SiteStore.refused c.begin.ensures.uncalled);
-  catalogs = λ single. (c.begin.ensures.leaves.catalog, c.begin.ensures.leaves.later ∙ single);
+  catalogs = ends_alike c.begin.ensures.leaves.catalog c.begin.ensures.leaves.later;
 }
 
 pub returns-in-Ok-clause-lists : goal.returns-in-Ok-clause-lists

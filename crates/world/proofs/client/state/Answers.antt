@@ -22,6 +22,7 @@ use Rattle.world.proofs.Refusing.{if_err}
 use Rattle.world.proofs.Stops.{call_since}
 use Rattle.world.proofs.ListCalls.{lists_counted, refused_lists, state_makes}
 use Rattle.world.proofs.ListDelivering.{asked_waits}
+use Rattle.world.proofs.Leaves.{ends_alike, ends_then}
 use Rattle.world.proofs.client.state.Goals as goal
 
 pub returns-in-Ok : goal.returns-in-Ok
@@ -30,7 +31,7 @@ returns-in-Ok g c = one_call g.D.DeskStore.is_clean g.S.SiteStore.is_clean g.D.D
       clean = search rules;
       sound = search rules;
       counts = no_fewer_then (counts g.D.DeskStore.refused g.S.SiteStore.refused c.args.machines.now) (counts g.D.DeskStore.refused g.S.SiteStore.refused c.statement.new.self) (counts g.D.DeskStore.refused g.S.SiteStore.refused c.deliver_all.new.machines) (none_fewer (counts g.D.DeskStore.refused g.S.SiteStore.refused c.args.machines.now) (counts g.D.DeskStore.refused g.S.SiteStore.refused c.statement.new.self) (uncounted g.D.DeskStore.refused g.S.SiteStore.refused c.statement.ensures.uncalled)) c.deliver_all.ensures.leaves.counts;
-      catalogs = λ single. (let here = c.deliver_all.ensures.leaves.catalogs (c.statement.ensures.leaves.later ∙ single) in (here.0 ∙ c.statement.ensures.leaves.catalog, here.1));
+      catalogs = ends_then (ends_alike c.statement.ensures.leaves.catalog c.statement.ensures.leaves.later) c.deliver_all.ensures.leaves.catalogs;
     })
     (λ clean sound. call_since c.deliver_all.result (counts g.D.DeskStore.refused g.S.SiteStore.refused c.args.machines.now) (counts g.D.DeskStore.refused g.S.SiteStore.refused c.statement.new.self) (counts g.D.DeskStore.refused g.S.SiteStore.refused c.deliver_all.new.machines) (none_fewer (counts g.D.DeskStore.refused g.S.SiteStore.refused c.args.machines.now) (counts g.D.DeskStore.refused g.S.SiteStore.refused c.statement.new.self) (uncounted g.D.DeskStore.refused g.S.SiteStore.refused c.statement.ensures.uncalled)) (c.deliver_all.ensures.blames clean (c.statement.ensures.leaves.sound (c.deliver_all.ensures.leaves.clean clean) sound)))
     (λ db whole past of law is clean sound served.
@@ -74,7 +75,7 @@ returns-in-Err g c = one_call g.D.DeskStore.is_clean g.S.SiteStore.is_clean g.D.
       clean = search rules;
       sound = search rules;
       counts = none_fewer (counts g.D.DeskStore.refused g.S.SiteStore.refused c.args.machines.now) (counts g.D.DeskStore.refused g.S.SiteStore.refused c.statement.new.self) (uncounted g.D.DeskStore.refused g.S.SiteStore.refused c.statement.ensures.uncalled);
-      catalogs = λ single. (c.statement.ensures.leaves.catalog, c.statement.ensures.leaves.later ∙ single);
+      catalogs = ends_alike c.statement.ensures.leaves.catalog c.statement.ensures.leaves.later;
     })
     (λ clean sound. c.in-Err.ensures.blames)
     (λ db whole past of law is clean sound served.

@@ -1,6 +1,6 @@
 -- Why `apply_event` meets its contract.
-use Rattle.world.proofs.Leaves.{database_still}
-use Rattle.std.proofs.Common.{ℕ, List, ◌++◌, ◌∷◌, [], ◌∙◌, refl, sym, ap, subst, true, IfErr, IfOk}
+use Rattle.world.proofs.Leaves.{database_still, leaves_so}
+use Rattle.std.proofs.Common.{ℕ, List, ◌++◌, ◌∷◌, [], ◌∙◌, inl, refl, sym, ap, subst, true, IfErr, IfOk}
 use Rattle.catalog.specs.Catalogue.{Catalogue}
 use Rattle.protocol.specs.World.{Desk_restarts, desk_restarts}
 use Rattle.world.specs.declared.event.Event as events
@@ -132,6 +132,21 @@ returns-in_err-copy-in-SiteInquires-clause-leaves g c = database_still g.D.DeskS
 
 pub returns-in_err-copy-in-SiteRestarts-clause-leaves : goal.returns-in_err-copy-in-SiteRestarts-clause-leaves
 returns-in_err-copy-in-SiteRestarts-clause-leaves g c = database_still g.D.DeskStore.is_clean g.S.SiteStore.is_clean g.D.DeskStore.is_sound g.S.SiteStore.is_sound g.D.DeskStore.refused g.S.SiteStore.refused c.args.machines.now
+
+pub returns-in-Call-clause-leaves : goal.returns-in-Call-clause-leaves
+returns-in-Call-clause-leaves g c = leaves_so g.D.DeskStore.is_clean g.S.SiteStore.is_clean g.D.DeskStore.is_sound g.S.SiteStore.is_sound g.D.DeskStore.refused g.S.SiteStore.refused c.args.machines.now c.call.new.machines c.call.ensures.leaves
+
+pub returns-in-DeskRestarts-clause-leaves : goal.returns-in-DeskRestarts-clause-leaves
+returns-in-DeskRestarts-clause-leaves g c = leaves_so g.D.DeskStore.is_clean g.S.SiteStore.is_clean g.D.DeskStore.is_sound g.S.SiteStore.is_sound g.D.DeskStore.refused g.S.SiteStore.refused c.args.machines.now c.restart.new.self c.restart.ensures.leaves
+
+pub returns-in_ok-copy-in-SiteGivesUp-clause-leaves : goal.returns-in_ok-copy-in-SiteGivesUp-clause-leaves
+returns-in_ok-copy-in-SiteGivesUp-clause-leaves g c = leaves_so g.D.DeskStore.is_clean g.S.SiteStore.is_clean g.D.DeskStore.is_sound g.S.SiteStore.is_sound g.D.DeskStore.refused g.S.SiteStore.refused c.args.machines.now c.apply_event_at.new.machines c.apply_event_at.ensures.leaves
+
+pub returns-in_ok-copy-in-SiteInquires-clause-leaves : goal.returns-in_ok-copy-in-SiteInquires-clause-leaves
+returns-in_ok-copy-in-SiteInquires-clause-leaves g c = leaves_so g.D.DeskStore.is_clean g.S.SiteStore.is_clean g.D.DeskStore.is_sound g.S.SiteStore.is_sound g.D.DeskStore.refused g.S.SiteStore.refused c.args.machines.now c.apply_event_at-in-SiteInquires.new.machines c.apply_event_at-in-SiteInquires.ensures.leaves
+
+pub returns-in_ok-copy-in-SiteRestarts-clause-leaves : goal.returns-in_ok-copy-in-SiteRestarts-clause-leaves
+returns-in_ok-copy-in-SiteRestarts-clause-leaves g c = leaves_so g.D.DeskStore.is_clean g.S.SiteStore.is_clean g.D.DeskStore.is_sound g.S.SiteStore.is_sound g.D.DeskStore.refused g.S.SiteStore.refused c.args.machines.now c.apply_event_at-in-SiteRestarts.new.machines c.apply_event_at-in-SiteRestarts.ensures.leaves
 
 pub returns-in-Call-clause-spared : goal.returns-in-Call-clause-spared
 returns-in-Call-clause-spared g c = λ db whole past of is clean sound so.
@@ -303,3 +318,27 @@ returns-in_ok-copy-in-SiteRestarts-clause-stays g c = on_any_err c.apply_event_a
 
 pub returns-in_err-copy-in-SiteRestarts-clause-stays : goal.returns-in_err-copy-in-SiteRestarts-clause-stays
 returns-in_err-copy-in-SiteRestarts-clause-stays g c = on_any_err c.from_residual-in_err-copy-in-SiteRestarts.result (desk_stays c.args.machines.now c.args.machines.now refl)
+
+pub returns-in-Call-clause-follows : goal.returns-in-Call-clause-follows
+returns-in-Call-clause-follows g c = inl (c.call.ensures.leaves.catalog, c.call.ensures.leaves.later)
+
+pub returns-in-DeskRestarts-clause-follows : goal.returns-in-DeskRestarts-clause-follows
+returns-in-DeskRestarts-clause-follows g c = inl (c.restart.ensures.leaves.catalog, c.restart.ensures.leaves.later)
+
+pub returns-in_ok-copy-in-SiteGivesUp-clause-follows : goal.returns-in_ok-copy-in-SiteGivesUp-clause-follows
+returns-in_ok-copy-in-SiteGivesUp-clause-follows g c = inl (c.apply_event_at.ensures.leaves.catalog, c.apply_event_at.ensures.leaves.later)
+
+pub returns-in_ok-copy-in-SiteInquires-clause-follows : goal.returns-in_ok-copy-in-SiteInquires-clause-follows
+returns-in_ok-copy-in-SiteInquires-clause-follows g c = inl (c.apply_event_at-in-SiteInquires.ensures.leaves.catalog, c.apply_event_at-in-SiteInquires.ensures.leaves.later)
+
+pub returns-in_ok-copy-in-SiteRestarts-clause-follows : goal.returns-in_ok-copy-in-SiteRestarts-clause-follows
+returns-in_ok-copy-in-SiteRestarts-clause-follows g c = inl (c.apply_event_at-in-SiteRestarts.ensures.leaves.catalog, c.apply_event_at-in-SiteRestarts.ensures.leaves.later)
+
+pub returns-in_err-copy-in-SiteGivesUp-clause-follows : goal.returns-in_err-copy-in-SiteGivesUp-clause-follows
+returns-in_err-copy-in-SiteGivesUp-clause-follows g c = inl (refl, refl)
+
+pub returns-in_err-copy-in-SiteInquires-clause-follows : goal.returns-in_err-copy-in-SiteInquires-clause-follows
+returns-in_err-copy-in-SiteInquires-clause-follows g c = inl (refl, refl)
+
+pub returns-in_err-copy-in-SiteRestarts-clause-follows : goal.returns-in_err-copy-in-SiteRestarts-clause-follows
+returns-in_err-copy-in-SiteRestarts-clause-follows g c = inl (refl, refl)

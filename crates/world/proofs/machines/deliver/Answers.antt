@@ -1,6 +1,6 @@
 -- Why `deliver` meets its contract.
 use Rattle.world.proofs.Leaves.{database_still}
-use Rattle.std.proofs.Common.{◌≡◌, ◌∙◌, sym, ap, rules, subst, not, false, true, nat_eq, List, ℕ, Some}
+use Rattle.std.proofs.Common.{◌≡◌, ◌∙◌, inl, refl, sym, ap, rules, subst, not, false, true, nat_eq, List, ℕ, Some}
 use Rattle.protocol.proofs.Basics.{clash}
 use Rattle.world.specs.Events.{is_none_of, is_unsent}
 use Rattle.std.specs.Cmp.Lexicographic.{pointwise}
@@ -18,7 +18,6 @@ use Rattle.world.proofs.Running.{comes_on, list_spared_on, spared_on}
 use Rattle.world.proofs.ListRunning.{list_comes_on}
 use Rattle.world.proofs.Listing.{desk_stays}
 use Rattle.world.proofs.SiteSteps.{on_any_err}
-use Rattle.std.proofs.Common.{refl}
 use Rattle.world.proofs.machines.deliver.Goals as goal
 
 pub returns-clause-ok : goal.returns-clause-ok
@@ -140,3 +139,12 @@ returns-then-not-has_site-clause-stays g c = desk_stays c.args.machines.now c.ar
 
 pub returns-in_err-again-clause-stays : goal.returns-in_err-again-clause-stays
 returns-in_err-again-clause-stays g c = on_any_err c.from_residual.result (desk_stays c.args.machines.now c.args.machines.now refl)
+
+pub returns-in_default-clause-follows : goal.returns-in_default-clause-follows
+returns-in_default-clause-follows g c = inl (refl, refl)
+
+pub returns-then-not-has_site-clause-follows : goal.returns-then-not-has_site-clause-follows
+returns-then-not-has_site-clause-follows g c = inl (refl, refl)
+
+pub returns-in_err-again-clause-follows : goal.returns-in_err-again-clause-follows
+returns-in_err-again-clause-follows g c = inl (refl, refl)

@@ -9,7 +9,7 @@ use Rattle.world.proofs.ListDelivering.{goes_silent, goes_then, on_then, only_fa
 use Rattle.world.proofs.ListDelivering.{nothing_goes as nothing_goes_list}
 use Rattle.world.specs.Taking.{put_out_by, scene, world_at}
 use Rattle.world.proofs.InForce.{in_force_on}
-use Rattle.world.proofs.Leaves.{same_then}
+use Rattle.world.proofs.Leaves.{ends_last, ends_same, ends_then}
 use Rattle.world.proofs.Deliveries.{alike_goes, all_nine, goes_settled, none_left, then_breaks, then_goes}
 use Rattle.world.proofs.SiteSteps.{on_any_err}
 use Rattle.world.proofs.Counting.{no_fewer, no_fewer_then}
@@ -24,7 +24,7 @@ loop-init g c =
     record {
       clean = λ x. x;
       sound = λ x s. s;
-      catalogs = λ single. (refl, single);
+      catalogs = ends_same refl;
       counts = no_fewer (counts g.D.DeskStore.refused g.S.SiteStore.refused c.args.machines.now);
       goes = λ db of is clean sound fit. alike_goes db (put_out_by m c.args.out) (scene m c.of-post.result) refl c.of-post.ensures.waiting c.of-post.ensures.heard fit;
       ranks = λ db of is clean sound fit. all_nine db (scene m c.of-post.result);
@@ -51,16 +51,16 @@ loop-preserved g c =
     record {
       clean = λ x. c.loop.invariant.clean (c.deliver_round.ensures.leaves.clean x);
       sound = λ x s. c.deliver_round.ensures.leaves.sound x (c.loop.invariant.sound (c.deliver_round.ensures.leaves.clean x) s);
-      catalogs = same_then (λ machines. machines.desk.later.items) c.args.machines.now c.loop.machines c.deliver_round.new.machines c.loop.invariant.catalogs c.deliver_round.ensures.leaves.catalogs;
+      catalogs = ends_then c.loop.invariant.catalogs c.deliver_round.ensures.leaves.catalogs;
       counts = no_fewer_then (counts g.D.DeskStore.refused g.S.SiteStore.refused c.args.machines.now) (counts g.D.DeskStore.refused g.S.SiteStore.refused c.loop.machines) (counts g.D.DeskStore.refused g.S.SiteStore.refused c.deliver_round.new.machines) c.loop.invariant.counts c.deliver_round.ensures.leaves.counts;
       goes = λ db of is clean sound fit.
           let so_far = c.loop.invariant.goes db of is (c.deliver_round.ensures.leaves.clean clean) sound fit in
-          then_goes db (λ w. w) first here so_far there (c.in_ok-deliver_round.ensures.ok db of (in_force_on db _ _ _ _ so_far.version (c.loop.invariant.catalogs fit.single).0 is) clean (c.loop.invariant.sound (c.deliver_round.ensures.leaves.clean clean) sound) so_far.fit);
+          then_goes db (λ w. w) first here so_far there (c.in_ok-deliver_round.ensures.ok db of (in_force_on db _ _ _ _ so_far.version (ends_last c.loop.invariant.catalogs fit.single).0 is) clean (c.loop.invariant.sound (c.deliver_round.ensures.leaves.clean clean) sound) so_far.fit);
       ranks = λ db of is clean sound fit.
           let so_far = c.loop.invariant.goes db of is (c.deliver_round.ensures.leaves.clean clean) sound fit in
           let ranked = c.loop.invariant.ranks db of is (c.deliver_round.ensures.leaves.clean clean) sound fit in
           subst (λ (k : ℕ). RanksUnder k (world_at db there)) same
-          (c.in_ok-deliver_round.ensures.ranks db (8 - c.loop.counter) of (in_force_on db _ _ _ _ so_far.version (c.loop.invariant.catalogs fit.single).0 is) clean (c.loop.invariant.sound (c.deliver_round.ensures.leaves.clean clean) sound) so_far.fit
+          (c.in_ok-deliver_round.ensures.ranks db (8 - c.loop.counter) of (in_force_on db _ _ _ _ so_far.version (ends_last c.loop.invariant.catalogs fit.single).0 is) clean (c.loop.invariant.sound (c.deliver_round.ensures.leaves.clean clean) sound) so_far.fit
           (subst (λ (k : ℕ). RanksUnder k (world_at db here)) one_less ranked));
       comes = λ db listed stands clean sound fits.
           let hold = held g.D.DeskStore.kept g.S.SiteStore.kept in
@@ -94,14 +94,14 @@ returns-in_err-deliver_round-clause-err g c = λ db of is clean sound fit.
     let here = scene (counted g.D.DeskStore.kept g.S.SiteStore.kept g.D.DeskStore.refused g.S.SiteStore.refused c.loop.machines) c.loop.post in
     let so_far = c.loop.invariant.goes db of is (c.deliver_round.ensures.leaves.clean clean) sound fit in
     on_any_err c.from_residual.result (then_breaks db (λ w. w) first here so_far (counted g.D.DeskStore.kept g.S.SiteStore.kept g.D.DeskStore.refused g.S.SiteStore.refused c.deliver_round.new.machines)
-    (c.in_err-deliver_round.ensures.err db of (in_force_on db _ _ _ _ so_far.version (c.loop.invariant.catalogs fit.single).0 is) clean (c.loop.invariant.sound (c.deliver_round.ensures.leaves.clean clean) sound) so_far.fit))
+    (c.in_err-deliver_round.ensures.err db of (in_force_on db _ _ _ _ so_far.version (ends_last c.loop.invariant.catalogs fit.single).0 is) clean (c.loop.invariant.sound (c.deliver_round.ensures.leaves.clean clean) sound) so_far.fit))
 
 pub returns-in_err-deliver_round-clause-leaves : goal.returns-in_err-deliver_round-clause-leaves
 returns-in_err-deliver_round-clause-leaves g c = record {
   clean = search rules;
   sound = search rules;
   counts = no_fewer_then (counts g.D.DeskStore.refused g.S.SiteStore.refused c.args.machines.now) (counts g.D.DeskStore.refused g.S.SiteStore.refused c.loop.machines) (counts g.D.DeskStore.refused g.S.SiteStore.refused c.deliver_round.new.machines) c.loop.invariant.counts c.deliver_round.ensures.leaves.counts;
-  catalogs = same_then (λ machines. machines.desk.later.items) c.args.machines.now c.loop.machines c.deliver_round.new.machines c.loop.invariant.catalogs c.deliver_round.ensures.leaves.catalogs;
+  catalogs = ends_then c.loop.invariant.catalogs c.deliver_round.ensures.leaves.catalogs;
 }
 
 pub returns-in_err-deliver_round-clause-blames : goal.returns-in_err-deliver_round-clause-blames

@@ -6,7 +6,7 @@ use Rattle.protocol.specs.Rounds.{RanksUnder}
 use Rattle.desk.specs.Database.{Database, language}
 use Rattle.desk.specs.OfCatalogue.{InForce, IsOfCatalogue}
 use Rattle.world.specs.Counted.{NoFewer, counts}
-use Rattle.world.specs.Frame.{SameCatalogs}
+use Rattle.world.specs.Frame.{KeepsCatalogs}
 use Rattle.world.specs.Mailbox.{Goes, ListComes}
 use Rattle.world.specs.Contents.{OfStores, counted, held}
 use Rattle.world.specs.Listed.{FitsList, IsListed, StandsIn}
@@ -19,7 +19,7 @@ abbrev pub invariant-loop : goal.invariant-loop
 invariant-loop g l = record {
   clean : OfStores g.D.DeskStore.is_clean g.S.SiteStore.is_clean l.machines → OfStores g.D.DeskStore.is_clean g.S.SiteStore.is_clean l.fn.machines;
   sound : OfStores g.D.DeskStore.is_clean g.S.SiteStore.is_clean l.machines → OfStores g.D.DeskStore.is_sound g.S.SiteStore.is_sound l.fn.machines → OfStores g.D.DeskStore.is_sound g.S.SiteStore.is_sound l.machines;
-  catalogs : SameCatalogs (λ machines. machines.desk.later.items) l.fn.machines l.machines;
+  catalogs : KeepsCatalogs (λ machines. machines.desk.later.items) l.fn.machines l.machines;
   counts : NoFewer (counts g.D.DeskStore.refused g.S.SiteStore.refused l.fn.machines) (counts g.D.DeskStore.refused g.S.SiteStore.refused l.machines);
   goes : (db : Database) → IsOfCatalogue db → InForce db l.fn.machines.desk.volatile.version l.fn.machines.desk.catalog → OfStores g.D.DeskStore.is_clean g.S.SiteStore.is_clean l.machines → OfStores g.D.DeskStore.is_sound g.S.SiteStore.is_sound l.fn.machines
       → AreFit db (counted g.D.DeskStore.kept g.S.SiteStore.kept g.D.DeskStore.refused g.S.SiteStore.refused l.fn.machines) → Goes db (λ w. w) (put_out_by (counted g.D.DeskStore.kept g.S.SiteStore.kept g.D.DeskStore.refused g.S.SiteStore.refused l.fn.machines) l.fn.out) (scene (counted g.D.DeskStore.kept g.S.SiteStore.kept g.D.DeskStore.refused g.S.SiteStore.refused l.machines) l.post);

@@ -15,6 +15,7 @@ use Rattle.world.specs.ListServed.{IsListWaiting, ListGoes}
 use Rattle.world.proofs.ListDelivering.{either_way, goes_as, goes_let_go}
 use Rattle.world.proofs.ListDelivering.{nothing_goes as nothing_goes_list}
 use Rattle.world.proofs.ListComings.{letter_comes, letter_ranked, nothing_comes}
+use Rattle.world.proofs.Leaves.{ends_same}
 use Rattle.world.proofs.mailbox.deliver_next.Goals as goal
 
 pub returns-in_default-clause-ok : goal.returns-in_default-clause-ok
@@ -56,7 +57,7 @@ returns-in_default-clause-leaves g c = record {
   clean = search rules;
   sound = search rules;
   counts = no_fewer (counts g.D.DeskStore.refused g.S.SiteStore.refused c.args.machines.now);
-  catalogs = λ single. (refl, single);
+  catalogs = ends_same refl;
 }
 
 pub returns-in-Ok-clause-leaves : goal.returns-in-Ok-clause-leaves

@@ -18,6 +18,7 @@ use Rattle.world.proofs.Listing.{stands_as, stays_held}
 use Rattle.world.proofs.Machinery.{fits_list}
 use Rattle.world.proofs.ListDelivering.{both_ways, came_goes, let_go, passed_goes, turned_goes, waits_same}
 use Rattle.world.proofs.ListComings.{list_passed, list_taken, list_turned}
+use Rattle.world.proofs.Leaves.{ends_alike, ends_last, ends_then}
 use Rattle.world.proofs.mailbox.deliver_one.Goals as goal
 
 pub returns-in-None-clause-ok : goal.returns-in-None-clause-ok
@@ -31,7 +32,7 @@ returns-in-None-clause-ok g c = λ db of is clean sound fit.
     let more = counts g.D.DeskStore.refused g.S.SiteStore.refused c.take.new.machines in
     let new = counts g.D.DeskStore.refused g.S.SiteStore.refused c.give_up.new.self in
     let same = c.in-Err.ensures.err (c.give_up.ensures.leaves.clean clean) sound in
-    let over = subst (λ (x : List (List ℕ) × List SplitRelation). IsOver db x.0) (sym (c.take.ensures.leaves.catalogs fit.single).0) (over_of db _ c.args.machines.now.desk.catalog of is) in
+    let over = subst (λ (x : List (List ℕ) × List SplitRelation). IsOver db x.0) (sym (ends_last c.take.ensures.leaves.catalogs fit.single).0) (over_of db _ c.args.machines.now.desk.catalog of is) in
     let why = is_turned db (counted g.D.DeskStore.kept content g.D.DeskStore.refused g.S.SiteStore.refused c.args.machines.now) c.args.letter (fits_list db (counted g.D.DeskStore.kept content g.D.DeskStore.refused g.S.SiteStore.refused c.args.machines.now) fit) c.in-Err.fault told (sym c.turns_away-is_turned_away.ensures ∙ c.if-is_turned_away.true) in
     if_ok c.give_up.result (λ out asked. turned_away db c.args.letter before after out.letters out.replies old new (no_fewer_then old more new c.take.ensures.leaves.counts (none_fewer more new (uncounted g.D.DeskStore.refused g.S.SiteStore.refused c.give_up.ensures.uncalled))) mid (no_choice db) same why asked.leads)
     (c.give_up.ensures.ok db (no_choice db) over (subst (AreFit db) (sym same) (fit_uncounted db before old fit)))
@@ -52,7 +53,7 @@ returns-in-None-clause-leaves g c = record {
   clean = search rules;
   sound = search rules;
   counts = no_fewer_then (counts g.D.DeskStore.refused g.S.SiteStore.refused c.args.machines.now) (counts g.D.DeskStore.refused g.S.SiteStore.refused c.take.new.machines) (counts g.D.DeskStore.refused g.S.SiteStore.refused c.give_up.new.self) c.take.ensures.leaves.counts (none_fewer (counts g.D.DeskStore.refused g.S.SiteStore.refused c.take.new.machines) (counts g.D.DeskStore.refused g.S.SiteStore.refused c.give_up.new.self) (uncounted g.D.DeskStore.refused g.S.SiteStore.refused c.give_up.ensures.uncalled));
-  catalogs = λ single. (let here = c.take.ensures.leaves.catalogs single in (c.give_up.ensures.leaves.catalog ∙ here.0, c.give_up.ensures.leaves.later ∙ here.1));
+  catalogs = ends_then c.take.ensures.leaves.catalogs (ends_alike c.give_up.ensures.leaves.catalog c.give_up.ensures.leaves.later);
 }
 
 pub returns-in-Some-clause-blames : goal.returns-in-Some-clause-blames

@@ -13,6 +13,7 @@ use Rattle.world.proofs.SiteSteps.{if_ok}
 use Rattle.world.proofs.Refusing.{if_err}
 use Rattle.catalog.specs.Relation.{catalogue_of}
 use Rattle.world.proofs.ListDelivering.{of_site_of}
+use Rattle.world.proofs.Leaves.{ends_same}
 use Rattle.world.proofs.mailbox.take.Goals as goal
 
 pub returns-clause-ok : goal.returns-clause-ok
@@ -32,7 +33,7 @@ returns-then-not-has_site-clause-leaves g c = record {
   clean = search rules;
   sound = search rules;
   counts = no_fewer (counts g.D.DeskStore.refused g.S.SiteStore.refused c.args.machines.now);
-  catalogs = λ single. (refl, single);
+  catalogs = ends_same refl;
 }
 
 pub returns-then-not-has_site-clause-told : goal.returns-then-not-has_site-clause-told

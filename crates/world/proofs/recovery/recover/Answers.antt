@@ -18,10 +18,16 @@ use Rattle.world.specs.Sites.{IsSeated}
 use Rattle.world.specs.Taking.{put_out_by}
 use Rattle.world.proofs.InForce.{in_force_on}
 use Rattle.world.proofs.Counting.{fit_uncounted, leads_counted}
-use Rattle.world.proofs.Leaves.{leaves_into}
+use Rattle.world.proofs.Leaves.{leaves_into, leaves_so}
 use Rattle.world.proofs.Recovers.{list_recovers, recovers}
 use Rattle.world.proofs.Running.{over_of}
 use Rattle.world.proofs.recovery.recover.Goals as goal
+
+pub returns-in_err-commits-clause-leaves : goal.returns-in_err-commits-clause-leaves
+returns-in_err-commits-clause-leaves g c = leaves_so g.D.DeskStore.is_clean g.S.SiteStore.is_clean g.D.DeskStore.is_sound g.S.SiteStore.is_sound g.D.DeskStore.refused g.S.SiteStore.refused c.args.machines.now c.restart.new.self c.restart.ensures.leaves
+
+pub returns-in_err-inquire_all-clause-leaves : goal.returns-in_err-inquire_all-clause-leaves
+returns-in_err-inquire_all-clause-leaves g c = leaves_so g.D.DeskStore.is_clean g.S.SiteStore.is_clean g.D.DeskStore.is_sound g.S.SiteStore.is_sound g.D.DeskStore.refused g.S.SiteStore.refused c.args.machines.now c.restart.new.self c.restart.ensures.leaves
 
 pub returns-in_err-_heard-clause-leaves : goal.returns-in_err-_heard-clause-leaves
 returns-in_err-_heard-clause-leaves g c =

@@ -1,5 +1,5 @@
 -- Why `deliver` meets its contract.
-use Rattle.std.proofs.Common.{◌≡◌, ◌⊎◌, nat_eq, true, false, [], refl, sym, subst, ◌∙◌, IfErr, IfOk, IfSome}
+use Rattle.std.proofs.Common.{◌≡◌, ◌⊎◌, nat_eq, true, false, [], inl, refl, sym, subst, ◌∙◌, IfErr, IfOk, IfSome}
 use Rattle.std.specs.Cmp.Lexicographic.{pointwise}
 use Rattle.std.specs.List.{list_any}
 use Rattle.meaning.specs.declared.answer.Answer.TheVariants.{Exists}
@@ -18,6 +18,7 @@ use Rattle.world.proofs.Listing.{desk_stays, stands_same}
 use Rattle.world.specs.Listed.{ListCame, StandsIn}
 use Rattle.world.specs.Frame.{StaysInForce}
 use Rattle.std.proofs.Common.{OnErr}
+use Rattle.world.proofs.Leaves.{leaves_so}
 use Rattle.world.proofs.machines.Machines.deliver.Goals as goal
 
 -- an order evaluates nothing, so any answer will do
@@ -139,3 +140,15 @@ returns-then-not-is_order-clause-stays g c =
 
 pub returns-in-Err-at_site-clause-stays : goal.returns-in-Err-at_site-clause-stays
 returns-in-Err-at_site-clause-stays g c = desk_stays c.args.self.now c.at_site.new.self c.at_site.ensures.desk
+
+pub returns-in-Ok-at_site-clause-leaves : goal.returns-in-Ok-at_site-clause-leaves
+returns-in-Ok-at_site-clause-leaves g c = leaves_so g.D.DeskStore.is_clean g.S.SiteStore.is_clean g.D.DeskStore.is_sound g.S.SiteStore.is_sound g.D.DeskStore.refused g.S.SiteStore.refused c.args.self.now c.at_site.new.self c.at_site.ensures.leaves
+
+pub returns-in-Err-at_site-clause-leaves : goal.returns-in-Err-at_site-clause-leaves
+returns-in-Err-at_site-clause-leaves g c = leaves_so g.D.DeskStore.is_clean g.S.SiteStore.is_clean g.D.DeskStore.is_sound g.S.SiteStore.is_sound g.D.DeskStore.refused g.S.SiteStore.refused c.args.self.now c.at_site.new.self c.at_site.ensures.leaves
+
+pub returns-in-Ok-at_site-clause-follows : goal.returns-in-Ok-at_site-clause-follows
+returns-in-Ok-at_site-clause-follows g c = inl (c.at_site.ensures.leaves.catalog, c.at_site.ensures.leaves.later)
+
+pub returns-in-Err-at_site-clause-follows : goal.returns-in-Err-at_site-clause-follows
+returns-in-Err-at_site-clause-follows g c = inl (c.at_site.ensures.leaves.catalog, c.at_site.ensures.leaves.later)

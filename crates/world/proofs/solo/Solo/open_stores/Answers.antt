@@ -21,8 +21,9 @@ use Rattle.world.proofs.DatabaseIsOpened.{placed}
 use Rattle.world.proofs.ListCalls.{served_without}
 use Rattle.world.proofs.ListIsBase.{head_is, stands_at}
 use Rattle.world.proofs.Listing.{stands_as}
-use Rattle.world.proofs.OfChain.{last_by, last_of}
+use Rattle.world.proofs.OfChain.{ends_from, last_by, last_of}
 use Rattle.world.proofs.Recovers.{goes_further, list_further}
+use Rattle.world.proofs.Leaves.{ends_alike, ends_last, ends_map, ends_then}
 use Rattle.world.proofs.solo.Solo.open_stores.Goals as goal
 
 pub sites_up-requires : goal.sites_up-requires
@@ -36,15 +37,21 @@ returns-clause-last g c = λ catalogue at clean.
     let now = c.recover.ensures.leaves.clean (c.ensure_no_commit_row.ensures.leaves.clean clean) in
     let rises = up.rises (database (catalogue_of c.catalog-catalog.result.now)) (record { sites = ap (λ (x : List (List ℕ) × List SplitRelation). x.0) c.catalog-catalog.ensures; distinct = (c.database_is_of_catalogue.ensures.of_catalogue.formed 0).distinct }) now.0 in
     let last = last_by desk.volatile.version (D.kept c.args.desk).version catalogue _ desk (rises.fits.version ∙ (up.life now.0).version) at c.in_ok-desk.ensures.catalogs in
-    let stays = c.recover.ensures.leaves.catalogs last.none in
+    let stays = ends_last c.recover.ensures.leaves.catalogs last.none in
     record { is = ap catalogue_of (c.ensure_no_commit_row.ensures.leaves.catalog ∙ stays.0) ∙ last.is; none = c.ensure_no_commit_row.ensures.leaves.later ∙ stays.1 }
 
 pub returns-clause-single : goal.returns-clause-single
 returns-clause-single g c = λ catalogue alone.
     let desk = c.in_ok-desk.desk in
     let last = last_of desk.volatile.version catalogue _ desk alone c.in_ok-desk.ensures.catalogs in
-    let stays = c.recover.ensures.leaves.catalogs last.none in
+    let stays = ends_last c.recover.ensures.leaves.catalogs last.none in
     record { is = ap catalogue_of (c.ensure_no_commit_row.ensures.leaves.catalog ∙ stays.0) ∙ last.is; none = c.ensure_no_commit_row.ensures.leaves.later ∙ stays.1 }
+
+pub returns-clause-catalogs : goal.returns-clause-catalogs
+returns-clause-catalogs g c =
+    let desk = c.in_ok-desk.desk in
+    ends_then (ends_from desk.volatile.version (catalogue_of desk.catalog) (map catalogue_of desk.later.items) (map catalogue_of c.args.chain.now) c.in_ok-desk.ensures.catalogs)
+    (ends_then (ends_map catalogue_of c.recover.ensures.leaves.catalogs) (ends_alike (ap catalogue_of c.ensure_no_commit_row.ensures.leaves.catalog) (ap (map catalogue_of) c.ensure_no_commit_row.ensures.leaves.later)))
 
 pub returns-clause-goes_on : goal.returns-clause-goes_on
 returns-clause-goes_on g c = λ catalogue at clean.

@@ -1,6 +1,6 @@
 -- Why `World::happens` meets its contract.
 use Rattle.world.proofs.Leaves.{database_still}
-use Rattle.std.proofs.Common.{refl, sym, subst, ◌++◌, List}
+use Rattle.std.proofs.Common.{inl, refl, sym, subst, ◌++◌, List}
 use Rattle.catalog.specs.Relation.{catalogue_of}
 use Rattle.desk.specs.OfCatalogue.{IsOfCatalogue}
 use Rattle.world.specs.declared.event.Entry.{Entry}
@@ -94,3 +94,6 @@ returns-in-Ok-clause-lists g c = λ db whole past listed stands clean sound run.
 
 pub returns-in_err-make_room-clause-stays : goal.returns-in_err-make_room-clause-stays
 returns-in_err-make_room-clause-stays g c = on_any_err c.from_residual.result (desk_stays c.args.self.now.machines c.args.self.now.machines refl)
+
+pub returns-in_err-make_room-clause-follows : goal.returns-in_err-make_room-clause-follows
+returns-in_err-make_room-clause-follows g c = inl (refl, refl)

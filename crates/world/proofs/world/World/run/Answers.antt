@@ -15,7 +15,7 @@ use Rattle.world.specs.Runs.{IsRun, ListRunsOn, RunsOn}
 use Rattle.world.proofs.Listing.{stands_as}
 use Rattle.world.proofs.Counting.{with_counts}
 use Rattle.world.proofs.RunGoesOn.{follows_more, runs_further, runs_still}
-use Rattle.world.proofs.Leaves.{database_still, leaves_then}
+use Rattle.world.proofs.Leaves.{database_still, ends_last, leaves_then}
 use Rattle.world.proofs.world.World.run.Goals as goal
 
 pub loop-event-init : goal.loop-event-init
@@ -36,7 +36,7 @@ loop-event-preserved g c =
     let events = c.args.events.now in
     let what = c.event-item.result in
     let db = database (catalogue_of start.machines.desk.catalog) in
-    let same : start.machines.desk.later.items ≡ [] → catalogue_of mid.machines.desk.catalog ≡ catalogue_of start.machines.desk.catalog = λ single. ap catalogue_of (all.0.catalogs single).0 in
+    let same : start.machines.desk.later.items ≡ [] → catalogue_of mid.machines.desk.catalog ≡ catalogue_of start.machines.desk.catalog = λ single. ap catalogue_of (ends_last all.0.catalogs single).0 in
     let passed = λ (single : start.machines.desk.later.items ≡ []). subst (λ x. (whole : Relations) (past : List (Deed (language (database x)))) → OfStores D.is_clean S.is_clean now.machines → OfStores D.is_sound S.is_sound mid.machines
     → IsRun (database x) whole (held D.kept S.kept mid.machines) mid.entries.items past → RunsOn (database x) whole (held D.kept S.kept now.machines) now.entries.items past) (same single) c.in-Ok.ensures.runs in
     let happened = λ (single : start.machines.desk.later.items ≡ []). subst (λ x. (whole : Relations) (past : List (Deed (language (database x)))) → OfStores D.is_clean S.is_clean now.machines → OfStores D.is_sound S.is_sound mid.machines
