@@ -1,5 +1,5 @@
 -- Lemmas on a database for one client over a list of catalogues.
-use Rattle.std.proofs.Common.{◌≡◌, ◌++◌, ◌∷◌, [], IfOk, OnOk, map, ℕ, Bool, suc, List, Option, None, true, false, inl, inr, ◌⊎◌, Result, Ok, Err, ap, refl, subst, sym, ◌∙◌}
+use Rattle.std.proofs.Common.{◌≡◌, ◌++◌, ◌∷◌, [], IfOk, OnErr, OnOk, map, ℕ, Bool, suc, List, Option, None, true, false, inl, inr, ◌⊎◌, Result, Ok, Err, ap, refl, subst, sym, ◌∙◌}
 use Rattle.terms.specs.declared.value.Value.{Value}
 use Rattle.meaning.specs.declared.statement.Statement.{Statement}
 use Rattle.meaning.specs.Whole.{Relations}
@@ -20,7 +20,7 @@ use Rattle.desk.specs.CatalogueDatabase.{databases}
 use Rattle.desk.specs.Database.{Database, language, statements}
 use Rattle.desk.specs.OfCatalogue.{AreNextOf}
 use Rattle.world.specs.Commands.{IsCommand}
-use Rattle.world.specs.Course.{said_in}
+use Rattle.world.specs.Course.{CommitsNone, said_in}
 use Rattle.world.specs.Listed.{FitsList, IsListed, StandsIn}
 use Rattle.world.specs.ListServed.{IsListServed, ListHeardIsSerial, ListMade}
 use Rattle.world.specs.Machines.{Machines}
@@ -114,7 +114,7 @@ module _ {B : Type 0} {seen : Seen B} (db : Database) (whole : Relations) (happe
 
   -- a command makes moves
   abbrev Makes : List ℕ → Result (List Notice) Refusal → Type 0
-  Makes text reply = ListMade db whole (seen.machines new) happened.deeds (λ moves. IsCommand db.schemas text (seen.current old) (seen.current new) moves reply)
+  Makes text reply = ListMade db whole (seen.machines new) happened.deeds (λ moves. IsCommand db.schemas text (seen.current old) (seen.current new) moves reply × OnErr reply (CommitsNone moves))
 
   abbrev more : (text : List ℕ) (reply : Result (List Notice) Refusal) → Makes text reply → Happened db
   more text reply made = record { deeds = happened.deeds ++ made.deeds; entries = happened.entries ++ said_in made.moves }
@@ -123,7 +123,7 @@ module _ {B : Type 0} {seen : Seen B} (db : Database) (whole : Relations) (happe
   told_more text reply made = record { served = made.served; tells = made.tells happened.entries h.told.tells }
 
   is_done_over : (text : List ℕ) (reply : Result (List Notice) Refusal) (made : Makes text reply) → IsDoneOver db whole text (list_standing_of seen old happened) (list_standing_of seen new (more text reply made)) reply
-  is_done_over text reply made = record { moves = made.moves; deeds = made.deeds; command = made.is; reasons = made.reasons; happened = refl; told = told_more text reply made }
+  is_done_over text reply made = record { moves = made.moves; deeds = made.deeds; command = made.is.0; reasons = made.reasons; happened = refl; told = told_more text reply made }
 
   -- it is heard
   pub is_heard_over : (mode : Mode) (text : List ℕ) (heard : List Notice) (told : List ℕ) → Makes text (Ok heard) → seen.stopped new ≡ None → StandsNow → Sounds → told ≡ heard_text mode heard → IsAnsweredOver seen mode db whole (Runs text) happened old new (Answered told)
@@ -141,7 +141,7 @@ module _ {B : Type 0} {seen : Seen B} (db : Database) (whole : Relations) (happe
       subst (IsAnsweredOver seen mode db whole (Runs text) happened old new) (sym told) (record {
         later = more text (Err refusal) made;
         goes_on = goes_over (more text (Err refusal) made) (going goes) stands sound (told_more text (Err refusal) made);
-        answers = record { refusal = refusal; does = is_done_over text (Err refusal) made; goes_on = goes; same = still; line = refl };
+        answers = record { refusal = refusal; does = is_done_over text (Err refusal) made; goes_on = goes; same = still; uncommitted = made.uncommitted made.is.1; line = refl };
       })
   is_turned_away_over mode text refusal (Err e) makes going stands sound still goes told = tt
 

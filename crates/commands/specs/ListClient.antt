@@ -8,6 +8,7 @@ use Rattle.catalog.specs.Catalogue.{Catalogue}
 use Rattle.catalog.specs.FragmentLeaf.{catalogue_leaves}
 use Rattle.store.specs.declared.name.Txn.{Txn}
 use Rattle.protocol.specs.Desk.{Deed}
+use Rattle.protocol.specs.Serial.{committed}
 use Rattle.desk.specs.declared.refusal.Refusal.{Refusal}
 use Rattle.desk.specs.declared.reply.Notice.{Notice}
 use Rattle.desk.specs.Database.{Database, language}
@@ -88,12 +89,13 @@ pub record IsHeardOver (mode : Mode) (db : Database) (whole : Relations) (text :
   pub does : IsDoneOver db whole text before after (Ok heard)
   pub lines : told ≡ heard_text mode heard
 
--- it is refused, which stops nothing, and that is told; the transaction that was open stays so
+-- it is refused, which stops nothing, and that is told; the transaction that was open stays so, and nothing is committed
 pub record IsTurnedAwayOver (mode : Mode) (db : Database) (whole : Relations) (text : List ℕ) (before after : ListStanding db) (told : List ℕ) : Type 0 where
   pub refusal : Refusal
   pub does : IsDoneOver db whole text before after (Err refusal)
   pub goes_on : is_stop refusal ≡ false
   pub same : after.current ≡ before.current
+  pub uncommitted : committed after.happened.deeds ≡ committed before.happened.deeds
   pub line : told ≡ line_in mode (refused_text refusal)
 
 -- what a command is answered by

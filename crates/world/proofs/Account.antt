@@ -34,7 +34,7 @@ use Rattle.world.proofs.Told.{tells_more}
 
 -- ---- letters that come show neither a first phase nor a statement
 module _ {L : Lang} where
-  record Silently (w v : World L) : Type 0 where
+  pub record Silently (w v : World L) : Type 0 where
     pub more : List (Deed L)
     pub is : v.past ≡ w.past ++ more
     pub silent : IsSilent more
@@ -67,7 +67,7 @@ module _ {L : Lang} where
   first_silently w (Turned_away choice) (l ∷ q) = let one = turns_silently (record w { letters = q }) l.txn (on_request l.txn choice Give_up (w.desk.txn l.txn)) (give_up_silent l.txn choice (w.desk.txn l.txn)) in record { more = one.more; is = one.is; silent = one.silent }
   first_silently w Passed_over (l ∷ q) = nothing w (record w { letters = q }) refl
 
-  all_silently : (cs : List (Coming L)) (w : World L) → Silently w (all_come cs w)
+  pub all_silently : (cs : List (Coming L)) (w : World L) → Silently w (all_come cs w)
   all_silently [] w = nothing w w refl
   all_silently (c ∷ cs) w = then_silently w (come w c) (all_come cs (come w c)) (first_silently w c w.letters) (all_silently cs (come w c))
 

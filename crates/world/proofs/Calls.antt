@@ -108,9 +108,9 @@ module _ {T U : Type 0} (K : Result T Refusal → List Move → Type 0) (M : Res
   list_turned db whole after past first result stops so makes = go first makes stops so
     where
       made_so : (kind : List Move → Type 0) (r : Result U Refusal) → ((moves : List Move) → kind moves → Stops r ⊎ M r moves) → ListMade db whole after past kind → ListMakes db whole after past r M
-      made_so kind (Ok y) so made = ⊎_elim (λ none. absurd none) (λ is. record { moves = made.moves; deeds = made.deeds; served = made.served; tells = made.tells; reasons = made.reasons; is = is }) (so made.moves made.is)
+      made_so kind (Ok y) so made = ⊎_elim (λ none. absurd none) (λ is. record { moves = made.moves; deeds = made.deeds; served = made.served; tells = made.tells; reasons = made.reasons; uncommitted = made.uncommitted; is = is }) (so made.moves made.is)
       made_so kind (Err told) so made =
-          ⊎_elim (λ stop. inl (stop, record { deeds = made.deeds; served = made.served })) (λ is. inr (record { moves = made.moves; deeds = made.deeds; served = made.served; tells = made.tells; reasons = made.reasons; is = is })) (so made.moves made.is)
+          ⊎_elim (λ stop. inl (stop, record { deeds = made.deeds; served = made.served })) (λ is. inr (record { moves = made.moves; deeds = made.deeds; served = made.served; tells = made.tells; reasons = made.reasons; uncommitted = made.uncommitted; is = is })) (so made.moves made.is)
 
       stopped : (r : Result U Refusal) → Stops r → IsListServedOn db whole after past → ListMakes db whole after past r M
       stopped (Ok y) none on = absurd none

@@ -16,7 +16,7 @@ use Rattle.desk.specs.declared.reply.Notice.{Notice}
 use Rattle.desk.specs.Database.{Database, language}
 use Rattle.world.specs.Mailbox.{Ask, Coming, IsStill, Passed_over, Serves, Taken, To_begin, To_do, Turned_away, all_come, asked, come, first_comes}
 use Rattle.world.specs.Client.{IsServed}
-use Rattle.world.specs.Course.{Begins, Commits, Made, Move, Moves, Refragments, Refuses, Rolls_back, States, deeds_in, deeds_of}
+use Rattle.world.specs.Course.{Begins, Commits, CommitsNone, Made, Move, Moves, Refragments, Refuses, Rolls_back, States, deeds_in, deeds_of}
 use Rattle.world.specs.Machines.{AreFit, Machines, world_of}
 use Rattle.world.proofs.Reaching.{serves_past}
 
@@ -89,7 +89,7 @@ module _ {L : Lang} where
   comes_first w (Turned_away choice) (l ∷ q) calm e = let one = give_up_vainly (record w { letters = q }) calm.1 l.txn choice in record { more = one.more; vain = one.vain; is = one.is; calm = one.calm }
   comes_first w Passed_over (l ∷ q) calm e = let one = vainly_none (record w { letters = q }) calm.1 in record { more = one.more; vain = one.vain; is = one.is; calm = one.calm }
 
-  all_vainly : (cs : List (Coming L)) (w : World L) → AreCalm w.letters → Vainly w (all_come cs w)
+  pub all_vainly : (cs : List (Coming L)) (w : World L) → AreCalm w.letters → Vainly w (all_come cs w)
   all_vainly [] w calm = vainly_none w calm
   all_vainly (c ∷ cs) w calm = let one = comes_first w c w.letters calm refl in vainly_then w (come w c) (all_come cs (come w c)) one (all_vainly cs (come w c) one.calm)
 
@@ -99,16 +99,6 @@ module _ (db : Database) where
       let w = world_of db before [] [] in
       let all = vainly_then w (asked ask w) (all_come serves.comings (asked ask w)) first (all_vainly serves.comings (asked ask w) first.calm) in
       subst AreInVain (sym all.is ∙ ap (λ (v : World (language db)). v.past) (serves.is [])) all.vain
-
-  -- no commit is asked for and done by these moves
-  abbrev pub CommitsNone : List Move → Type 0
-  CommitsNone [] = Unit
-  CommitsNone (Begins txn heard ∷ moves) = CommitsNone moves
-  CommitsNone (States txn text heard ∷ moves) = CommitsNone moves
-  CommitsNone (Commits txn heard ∷ moves) = ⊥
-  CommitsNone (Rolls_back txn heard ∷ moves) = CommitsNone moves
-  CommitsNone (Refragments text came ∷ moves) = CommitsNone moves
-  CommitsNone (Refuses asked told ∷ moves) = CommitsNone moves
 
   made_vainly : (moves : List Move) (before after : Machines) (made : Made db moves before after) → CommitsNone moves → AreInVain (deeds_in db moves before after made)
   made_vainly [] before after same none = tt

@@ -74,6 +74,7 @@ pub mod Listing
 pub mod Texts
 pub mod ListRunning
 pub mod ListDelivering
+pub mod ListVain
 pub mod ListCalls
 pub mod ListSolo
 pub mod ListIsBase

@@ -15,8 +15,11 @@ use Rattle.protocol.specs.Accepted.{stated_by, stated_of}
 use Rattle.protocol.specs.Desk.{Began, Choice, Commit_call, Deed, Known, Rollback, fresh_as, next_txn}
 use Rattle.protocol.specs.Language.{Name}
 use Rattle.protocol.specs.Letters.{txn_name}
-use Rattle.protocol.specs.Serial.{phased_of, phases_of}
+use Rattle.protocol.specs.NothingCommits.{is_of_commit}
+use Rattle.protocol.specs.Serial.{committed, phased_of, phases_of}
 use Rattle.protocol.specs.World.{World, begun, first_turn}
+use Rattle.protocol.proofs.Basics.{every_append}
+use Rattle.protocol.proofs.NothingCommits.{committed_still}
 use Rattle.desk.specs.declared.refusal.Refusal.{Refusal}
 use Rattle.desk.specs.declared.refusal.Refusal.TheVariants as refusal
 use Rattle.desk.specs.declared.reply.Notice.{Notice}
@@ -34,7 +37,7 @@ use Rattle.world.specs.declared.event.Event.TheVariants as event
 use Rattle.world.specs.declared.machines.Machines as code
 use Rattle.world.specs.Contents.{OfStores, counted, held}
 use Rattle.world.specs.Commands.{heard_in}
-use Rattle.world.specs.Course.{Begins, Commits, IsOne, Move, Refragments, Refuses, Rolls_back, States, said, said_in, said_of}
+use Rattle.world.specs.Course.{Begins, Commits, CommitsNone, IsOne, Move, Refragments, Refuses, Rolls_back, States, said, said_in, said_of}
 use Rattle.world.specs.Frame.{ListMakes, OverLists}
 use Rattle.world.specs.Listed.{FitsList, IsListed, ListAsked, ListBegun, ListMoved, ListStated, StandsIn}
 use Rattle.world.specs.ListServed.{HasItsReason, IsListServed, IsListServedOn, ListGoes, ListHeardIsSerial, ListMade, RefusedOnTheWay}
@@ -47,6 +50,7 @@ use Rattle.world.proofs.Heard.{serial_run}
 use Rattle.world.proofs.Listing.{stands_as}
 use Rattle.world.proofs.Running.{all_both}
 use Rattle.world.proofs.ListDelivering.{list_served_serial, on_then}
+use Rattle.world.proofs.ListVain.{IsVain, VainlyGoes, begun_vain, moved_vain, rolled_back_vain, stated_vain}
 use Rattle.world.proofs.Shown.{commit_shows, rollback_silent, state_shows}
 use Rattle.world.proofs.Told.{tells_more}
 
@@ -64,6 +68,16 @@ pub list_heard_serial : (db : Database) → IsListed db → ListHeardIsSerial db
 list_heard_serial db listed whole machines entries past so served =
     let serial = list_served_serial db listed whole machines past served in
     serial_run db whole machines entries past so (record { answers = serial.answers; rebuilt = serial.rebuilt })
+
+-- two lists of moves
+none_both : (one more : List Move) → CommitsNone (one ++ more) → CommitsNone one × CommitsNone more
+none_both [] more none = (tt, none)
+none_both (Begins txn heard ∷ one) more none = none_both one more none
+none_both (States txn text heard ∷ one) more none = none_both one more none
+none_both (Commits txn heard ∷ one) more none = absurd none
+none_both (Rolls_back txn heard ∷ one) more none = none_both one more none
+none_both (Refragments text came ∷ one) more none = none_both one more none
+none_both (Refuses asked told ∷ one) more none = none_both one more none
 
 -- what holds of each item, from something else of each
 all_to : {A : Type 0} {P Q : A → Type 0} (xs : List A) → ((x : A) → P x → Q x) → AllByRecursion P xs → AllByRecursion Q xs
@@ -140,7 +154,7 @@ module _ (db : Database) (whole : Relations) where
 
   -- they are of another kind too
   pub made_as : (machines : Machines) (past : List (Deed (language db))) (K M : List Move → Type 0) → ((moves : List Move) → K moves → M moves) → ListMade db whole machines past K → ListMade db whole machines past M
-  made_as machines past K M so made = record { moves = made.moves; deeds = made.deeds; served = made.served; tells = made.tells; reasons = made.reasons; is = so made.moves made.is }
+  made_as machines past K M so made = record { moves = made.moves; deeds = made.deeds; served = made.served; tells = made.tells; reasons = made.reasons; uncommitted = made.uncommitted; is = so made.moves made.is }
 
   pub makes_as : {T : Type 0} (machines : Machines) (past : List (Deed (language db))) (result : Result T Refusal) (K M : Kinds T) → ((moves : List Move) → K result moves → M result moves) → ListMakes db whole machines past result K → ListMakes db whole machines past result M
   makes_as machines past (Ok x) K M so made = made_as machines past (K (Ok x)) (M (Ok x)) so made
@@ -149,7 +163,7 @@ module _ (db : Database) (whole : Relations) where
 
   -- none is made
   pub none_made : (machines : Machines) (past : List (Deed (language db))) (kind : List Move → Type 0) → kind [] → IsListServed db whole machines past → ListMade db whole machines past kind
-  none_made machines past kind is served = record { moves = []; deeds = []; served = subst (IsListServed db whole machines) (sym (append-nil past)) served; tells = λ entries so. tells_no_more db entries past so; reasons = tt; is = is }
+  none_made machines past kind is served = record { moves = []; deeds = []; served = subst (IsListServed db whole machines) (sym (append-nil past)) served; tells = λ entries so. tells_no_more db entries past so; reasons = tt; uncommitted = λ none. ap committed (append-nil past); is = is }
 
   -- some, and then others
   pub made_then : (middle after : Machines) (past : List (Deed (language db))) (K L M : List Move → Type 0) → ((one more : List Move) → K one → L more → M (one ++ more)) → (one : ListMade db whole middle past K) → ListMade db whole after (past ++ one.deeds) L → ListMade db whole after past M
@@ -161,6 +175,9 @@ module _ (db : Database) (whole : Relations) where
         subst (λ es. Tells db es (past ++ (one.deeds ++ two.deeds))) (append_assoc entries (said_in one.moves) (said_in two.moves) ∙ ap (λ more. entries ++ more) (sym (said_both one.moves two.moves)))
         (subst (Tells db ((entries ++ said_in one.moves) ++ said_in two.moves)) (append_assoc past one.deeds two.deeds) (two.tells (entries ++ said_in one.moves) (one.tells entries so)));
     reasons = all_both (HasItsReason db whole past (one.deeds ++ two.deeds)) one.moves two.moves (all_to one.moves (reason_front past one.deeds two.deeds) one.reasons) (all_to two.moves (reason_back past one.deeds two.deeds) two.reasons);
+    uncommitted = λ none.
+        let parts = none_both one.moves two.moves none in
+        ap committed (sym (append_assoc past one.deeds two.deeds)) ∙ two.uncommitted parts.1 ∙ one.uncommitted parts.0;
     is = join one.moves two.moves one.is two.is;
   }
 
@@ -175,9 +192,10 @@ module _ (db : Database) (whole : Relations) where
   abbrev pub Opens : List (Deed (language db)) → List Notice → Type 0
   Opens first heard = (rest : List (Name × Reply)) × (map notice_of heard ≡ filter_map (told db) first ++ rest)
 
-  call_made : (what : calls.Call) (move : Move) (after : Machines) (replies : List Notice) (past first : List (Deed (language db))) (heard : List Notice) → said_of move ≡ said what heard ∷ [] → map notice_of replies ≡ filter_map (told db) first → map txn_name (phased_by (event.Call what)) ≡ phases_of first →
-      (Opens first heard → AreStated db (text_by (event.Call what) heard) (stated_of first)) → ListGoes db whole after [] (past ++ first) replies heard → ListMade db whole after past (λ moves. (moves ≡ move ∷ []) × Opens first heard)
-  call_made what move after replies past first heard is answers phased stated goes =
+  call_made : (what : calls.Call) (move : Move) (after : Machines) (out : Out) (past first : List (Deed (language db))) (heard : List Notice) → said_of move ≡ said what heard ∷ [] → map notice_of out.replies ≡ filter_map (told db) first → map txn_name (phased_by (event.Call what)) ≡ phases_of first →
+      (Opens first heard → AreStated db (text_by (event.Call what) heard) (stated_of first)) → (CommitsNone (move ∷ []) → IsVain db first out.letters) → VainlyGoes db whole after out.letters (past ++ first) out.replies heard → ListMade db whole after past (λ moves. (moves ≡ move ∷ []) × Opens first heard)
+  call_made what move after out past first heard is answers phased stated vain all =
+      let goes = all.0 in
       let deeds = first ++ goes.deeds in
       let hears : map notice_of heard ≡ filter_map (told db) first ++ filter_map (told db) goes.deeds = goes.replies ∙ ap (λ front. front ++ filter_map (told db) goes.deeds) answers in
       let opens : Opens first heard = (filter_map (told db) goes.deeds, hears) in
@@ -191,40 +209,41 @@ module _ (db : Database) (whole : Relations) where
         served = subst (IsListServed db whole after) (append_assoc past first goes.deeds) goes.served;
         tells = λ entries so. subst (λ es. Tells db (entries ++ (es ++ [])) (past ++ deeds)) (sym is) (tells_more db entries (said what heard) past deeds so shows (hears ∙ sym (filter_map-append (told db) first goes.deeds)));
         reasons = (was_spoken past deeds move (said what heard) is, tt);
+        uncommitted = λ none. (let so = vain none in committed_still past deeds (every_append (λ d. is_of_commit d ≡ false) first goes.deeds so.0 (all.1 so.1)));
         is = (refl, opens);
       }
 
   -- so by what the letters of the call came to
-  call_comes : {T R : Type 0} (what : calls.Call) (move : T → Move) (items : T → List Notice) (after : Machines) (replies : List Notice) (past first : List (Deed (language db))) (result : Result T Refusal) (kind : Kinds T) → ((x : T) → said_of (move x) ≡ said what (items x) ∷ []) →
-      map notice_of replies ≡ filter_map (told db) first → map txn_name (phased_by (event.Call what)) ≡ phases_of first → ((heard : List Notice) → Opens first heard → AreStated db (text_by (event.Call what) heard) (stated_of first)) → ((x : T) → Opens first (items x) → kind (Ok x) (move x ∷ [])) → IfErr result (λ why. is_stop why ≡ true) →
-      IfOk result (λ x. ListGoes db whole after [] (past ++ first) replies (items x)) × OnErr result (IsListServedOn db whole after (past ++ first)) × R → ListMakes db whole after past result kind × R
-  call_comes what move items after replies past first (Ok x) kind is answers phased stated so own goes = (
-    made_as after past (λ moves. (moves ≡ move x ∷ []) × Opens first (items x)) (kind (Ok x)) (λ moves one. subst (kind (Ok x)) (sym one.0) (so x one.1)) (call_made what (move x) after replies past first (items x) (is x) answers phased (stated (items x)) goes.0),
+  call_comes : {T R : Type 0} (what : calls.Call) (move : T → Move) (items : T → List Notice) (after : Machines) (out : Out) (past first : List (Deed (language db))) (result : Result T Refusal) (kind : Kinds T) → ((x : T) → said_of (move x) ≡ said what (items x) ∷ []) →
+      map notice_of out.replies ≡ filter_map (told db) first → map txn_name (phased_by (event.Call what)) ≡ phases_of first → ((heard : List Notice) → Opens first heard → AreStated db (text_by (event.Call what) heard) (stated_of first)) → ((x : T) → Opens first (items x) → kind (Ok x) (move x ∷ [])) → ((x : T) → CommitsNone (move x ∷ []) → IsVain db first out.letters) → IfErr result (λ why. is_stop why ≡ true) →
+      IfOk result (λ x. VainlyGoes db whole after out.letters (past ++ first) out.replies (items x)) × OnErr result (IsListServedOn db whole after (past ++ first)) × R → ListMakes db whole after past result kind × R
+  call_comes what move items after out past first (Ok x) kind is answers phased stated so vain own goes = (
+    made_as after past (λ moves. (moves ≡ move x ∷ []) × Opens first (items x)) (kind (Ok x)) (λ moves one. subst (kind (Ok x)) (sym one.0) (so x one.1)) (call_made what (move x) after out past first (items x) (is x) answers phased (stated (items x)) (vain x) goes.0),
     goes.2,
   )
-  call_comes what move items after replies past first (Err why) kind is answers phased stated so own goes = (inl (own, on_then db whole after past first goes.1), goes.2)
+  call_comes what move items after out past first (Err why) kind is answers phased stated so vain own goes = (inl (own, on_then db whole after past first goes.1), goes.2)
 
   pub commit_makes : {T R : Type 0} (txn : Txn) (choice : Choice (language db)) (move : T → Move) (items : T → List Notice) (before mid after : Machines) (out : Out) (past : List (Deed (language db))) (result : Result T Refusal) → ((x : T) → said_of (move x) ≡ said (call.Commit txn) (items x) ∷ []) →
-      (asked : ListAsked db txn choice Commit_call before mid out.letters out.replies) → IfErr result (λ why. is_stop why ≡ true) →
-      IfOk result (λ x. ListGoes db whole after [] (past ++ asked.leads.deeds) out.replies (items x)) × OnErr result (IsListServedOn db whole after (past ++ asked.leads.deeds)) × R → ListMakes db whole after past result (IsOne move (call.Commit txn)) × R
-  commit_makes txn choice move items before mid after out past result is asked own goes =
+      (asked : ListAsked db txn choice Commit_call before mid out.letters out.replies) → ((x : T) → CommitsNone (move x ∷ []) → ⊥) → IfErr result (λ why. is_stop why ≡ true) →
+      IfOk result (λ x. VainlyGoes db whole after out.letters (past ++ asked.leads.deeds) out.replies (items x)) × OnErr result (IsListServedOn db whole after (past ++ asked.leads.deeds)) × R → ListMakes db whole after past result (IsOne move (call.Commit txn)) × R
+  commit_makes txn choice move items before mid after out past result is asked never own goes =
       let shown = commit_shows (txn_name txn) choice (txn_in db before.table txn) asked.accepted in
-      call_comes (call.Commit txn) move items after out.replies past asked.leads.deeds result (IsOne move (call.Commit txn)) is asked.leads.replies (sym shown.0 ∙ ap phases_of (sym asked.all)) (λ heard opens. subst (AreStated db []) (sym (ap stated_of asked.all ∙ shown.1)) tt) (λ x opens. refl) own goes
+      call_comes (call.Commit txn) move items after out past asked.leads.deeds result (IsOne move (call.Commit txn)) is asked.leads.replies (sym shown.0 ∙ ap phases_of (sym asked.all)) (λ heard opens. subst (AreStated db []) (sym (ap stated_of asked.all ∙ shown.1)) tt) (λ x opens. refl) (λ x none. absurd (never x none)) own goes
 
   pub rollback_makes : {T R : Type 0} (txn : Txn) (choice : Choice (language db)) (move : T → Move) (items : T → List Notice) (before mid after : Machines) (out : Out) (past : List (Deed (language db))) (result : Result T Refusal) → ((x : T) → said_of (move x) ≡ said (call.Rollback txn) (items x) ∷ []) →
       (asked : ListAsked db txn choice Rollback before mid out.letters out.replies) → IfErr result (λ why. is_stop why ≡ true) →
-      IfOk result (λ x. ListGoes db whole after [] (past ++ asked.leads.deeds) out.replies (items x)) × OnErr result (IsListServedOn db whole after (past ++ asked.leads.deeds)) × R → ListMakes db whole after past result (IsOne move (call.Rollback txn)) × R
+      IfOk result (λ x. VainlyGoes db whole after out.letters (past ++ asked.leads.deeds) out.replies (items x)) × OnErr result (IsListServedOn db whole after (past ++ asked.leads.deeds)) × R → ListMakes db whole after past result (IsOne move (call.Rollback txn)) × R
   rollback_makes txn choice move items before mid after out past result is asked own goes =
       let shown = rollback_silent (txn_name txn) choice (txn_in db before.table txn) in
-      call_comes (call.Rollback txn) move items after out.replies past asked.leads.deeds result (IsOne move (call.Rollback txn)) is asked.leads.replies (sym shown.0 ∙ ap phases_of (sym asked.all)) (λ heard opens. subst (AreStated db []) (sym (ap stated_of asked.all ∙ shown.1)) tt) (λ x opens. refl) own goes
+      call_comes (call.Rollback txn) move items after out past asked.leads.deeds result (IsOne move (call.Rollback txn)) is asked.leads.replies (sym shown.0 ∙ ap phases_of (sym asked.all)) (λ heard opens. subst (AreStated db []) (sym (ap stated_of asked.all ∙ shown.1)) tt) (λ x opens. refl) (λ x none. rolled_back_vain db txn choice before mid out.letters out.replies asked) own goes
 
   pub state_makes : {T R : Type 0} (txn : Txn) (text : List ℕ) (move : T → Move) (items : T → List Notice) (before mid after : Machines) (out : Out) (past : List (Deed (language db))) (result : Result T Refusal) → ((x : T) → said_of (move x) ≡ said (call.State txn text) (items x) ∷ []) →
       (stated : ListStated db txn text before mid out.letters out.replies) → IfErr result (λ why. is_stop why ≡ true) →
-      IfOk result (λ x. ListGoes db whole after [] (past ++ stated.asked.leads.deeds) out.replies (items x)) × OnErr result (IsListServedOn db whole after (past ++ stated.asked.leads.deeds)) × R → ListMakes db whole after past result (IsOne move (call.State txn text)) × R
+      IfOk result (λ x. VainlyGoes db whole after out.letters (past ++ stated.asked.leads.deeds) out.replies (items x)) × OnErr result (IsListServedOn db whole after (past ++ stated.asked.leads.deeds)) × R → ListMakes db whole after past result (IsOne move (call.State txn text)) × R
   state_makes txn text move items before mid after out past result is stated own goes =
       let asked = stated.asked in
       let shown = state_shows (txn_name txn) (before.table.version, stated.statement) stated.choice (txn_in db before.table txn) asked.accepted in
-      call_comes (call.State txn text) move items after out.replies past asked.leads.deeds result (IsOne move (call.State txn text)) is asked.leads.replies (sym shown.0 ∙ ap phases_of (sym asked.all)) (λ heard opens. subst (AreStated db ((txn, text) ∷ [])) (sym (ap stated_of asked.all ∙ shown.1)) ((refl, stated.spelled), tt)) (λ x opens. refl) own goes
+      call_comes (call.State txn text) move items after out past asked.leads.deeds result (IsOne move (call.State txn text)) is asked.leads.replies (sym shown.0 ∙ ap phases_of (sym asked.all)) (λ heard opens. subst (AreStated db ((txn, text) ∷ [])) (sym (ap stated_of asked.all ∙ shown.1)) ((refl, stated.spelled), tt)) (λ x opens. refl) (λ x none. stated_vain db txn text before mid out.letters out.replies stated) own goes
 
   -- a transaction begins, of which its client hears
   some_heard : (t : Name) (rest more : List (Name × Reply)) (heard : List Notice) → map notice_of heard ≡ ((t, Begun) ∷ rest) ++ more → heard ≢ []
@@ -237,13 +256,13 @@ module _ (db : Database) (whole : Relations) where
 
   pub begin_makes : {T R : Type 0} (move : T → Move) (items : T → List Notice) (before mid after : Machines) (out : Out) (past : List (Deed (language db))) (result : Result T Refusal) → ((x : T) → said_of (move x) ≡ said call.Begin (items x) ∷ []) →
       (began : ListBegun db before mid out.letters out.replies) → IfErr result (λ why. is_stop why ≡ true) →
-      IfOk result (λ x. ListGoes db whole after [] (past ++ began.leads.deeds) out.replies (items x)) × OnErr result (IsListServedOn db whole after (past ++ began.leads.deeds)) × R →
+      IfOk result (λ x. VainlyGoes db whole after out.letters (past ++ began.leads.deeds) out.replies (items x)) × OnErr result (IsListServedOn db whole after (past ++ began.leads.deeds)) × R →
       ListMakes db whole after past result (λ done moves. IsOne move call.Begin done moves × IfOk done (λ x. items x ≢ [])) × R
   begin_makes move items before mid after out past result is began own goes =
       let deeds = begun_deeds before mid out.letters out.replies began in
       let t = next_txn (desk_of db before.table) in
-      call_comes call.Begin move items after out.replies past began.leads.deeds result (λ done moves. IsOne move call.Begin done moves × IfOk done (λ x. items x ≢ [])) is began.leads.replies (sym (ap phases_of deeds)) (λ heard opens. subst (AreStated db []) (sym (ap stated_of deeds)) tt)
-      (λ x opens. (refl, some_heard t [] opens.0 (items x) (opens.1 ∙ ap (λ (ds : List (Deed (language db))). filter_map (told db) ds ++ opens.0) deeds))) own goes
+      call_comes call.Begin move items after out past began.leads.deeds result (λ done moves. IsOne move call.Begin done moves × IfOk done (λ x. items x ≢ [])) is began.leads.replies (sym (ap phases_of deeds)) (λ heard opens. subst (AreStated db []) (sym (ap stated_of deeds)) tt)
+      (λ x opens. (refl, some_heard t [] opens.0 (items x) (opens.1 ∙ ap (λ (ds : List (Deed (language db))). filter_map (told db) ds ++ opens.0) deeds))) (λ x none. begun_vain db before mid out.letters out.replies began) own goes
 
   -- the transaction that has begun is the one that the first notice names
   pub named_makes : {T : Type 0} (txn_of : T → Txn) (items : T → List Notice) (machines : Machines) (heard : List Notice) (past : List (Deed (language db))) (result : Result T Refusal) → ((txn : Txn) → ListMade db whole machines past (λ moves. (moves ≡ Begins txn heard ∷ []) × (heard ≢ []))) →
@@ -259,7 +278,7 @@ module _ (db : Database) (whole : Relations) where
   -- a relation gets another split
   pub moved_makes : {T R : Type 0} (text : List ℕ) (items : T → List Notice) (before mid after : Machines) (out : Out) (past : List (Deed (language db))) (result : Result T Refusal) →
       (moved : ListMoved db text before mid out.letters out.replies) → IfErr result (λ why. is_stop why ≡ true) →
-      IfOk result (λ x. ListGoes db whole after [] (past ++ moved.leads.deeds) out.replies (items x)) × OnErr result (IsListServedOn db whole after (past ++ moved.leads.deeds)) × R →
+      IfOk result (λ x. VainlyGoes db whole after out.letters (past ++ moved.leads.deeds) out.replies (items x)) × OnErr result (IsListServedOn db whole after (past ++ moved.leads.deeds)) × R →
       ListMakes db whole after past result (λ done moves. (moves ≡ Refragments text (heard_in items done) ∷ []) × IfOk done (λ x. items x ≢ [])) × R
   moved_makes text items before mid after out past result moved own goes =
       let t = next_txn (desk_of db before.table) in
@@ -267,9 +286,9 @@ module _ (db : Database) (whole : Relations) where
       let turn = first_turn (world_of db before [] []) s moved.choice in
       let shown : (phases_of turn.deeds ≡ []) × (stated_of turn.deeds ≡ (t, s) ∷ []) = state_shows {L = language db} t s moved.choice (Known (fresh_as true)) refl in
       let opened : (heard : List Notice) (opens : Opens moved.leads.deeds heard) → map notice_of heard ≡ ((t, Begun) ∷ filter_map (told db) turn.deeds) ++ opens.0 = λ heard opens. opens.1 ∙ ap (λ (ds : List (Deed (language db))). filter_map (told db) ds ++ opens.0) moved.all in
-      call_comes (call.Refragment text) (λ x. Refragments text (Ok (items x))) items after out.replies past moved.leads.deeds result (λ done moves. (moves ≡ Refragments text (heard_in items done) ∷ []) × IfOk done (λ x. items x ≢ [])) (λ x. refl) moved.leads.replies (sym (ap phases_of moved.all ∙ shown.0))
+      call_comes (call.Refragment text) (λ x. Refragments text (Ok (items x))) items after out past moved.leads.deeds result (λ done moves. (moves ≡ Refragments text (heard_in items done) ∷ []) × IfOk done (λ x. items x ≢ [])) (λ x. refl) moved.leads.replies (sym (ap phases_of moved.all ∙ shown.0))
       (λ heard opens. subst (AreStated db (text_by (event.Call (call.Refragment text)) heard)) (sym (ap stated_of moved.all ∙ shown.1)) (first_named heard (filter_map (told db) turn.deeds) opens.0 (opened heard opens)))
-      (λ x opens. (refl, some_heard t (filter_map (told db) turn.deeds) opens.0 (items x) (opened (items x) opens))) own goes
+      (λ x opens. (refl, some_heard t (filter_map (told db) turn.deeds) opens.0 (items x) (opened (items x) opens))) (λ x none. moved_vain db text before mid out.letters out.replies moved) own goes
     where
       -- the first notice names the transaction that has begun
       first_named : (heard : List Notice) (rest more : List (Name × Reply)) → map notice_of heard ≡ ((next_txn (desk_of db before.table), Begun) ∷ rest) ++ more →
@@ -288,6 +307,7 @@ module _ (db : Database) (whole : Relations) where
     served = subst (λ (m : Machines). IsListServed db whole m (past ++ [])) (sym same) (subst (IsListServed db whole before) (sym (append-nil past)) served);
     tells = λ entries so. subst (λ es. Tells db (entries ++ es) (past ++ [])) (sym none) (tells_no_more db entries past so);
     reasons = reasons;
+    uncommitted = λ so. ap committed (append-nil past);
     is = is;
   }
 
@@ -312,7 +332,7 @@ module _ (db : Database) (whole : Relations) where
   served_without machines counts past served = record { version = served.version; reached = served.reached; fit = fits_without machines counts served.fit }
 
   made_with : (machines : Machines) (counts : List ℕ) (past : List (Deed (language db))) (kind : List Move → Type 0) → ListMade db whole machines past kind → ListMade db whole (with_counts machines counts) past kind
-  made_with machines counts past kind made = record { moves = made.moves; deeds = made.deeds; served = served_with machines counts (past ++ made.deeds) made.served; tells = made.tells; reasons = made.reasons; is = made.is }
+  made_with machines counts past kind made = record { moves = made.moves; deeds = made.deeds; served = served_with machines counts (past ++ made.deeds) made.served; tells = made.tells; reasons = made.reasons; uncommitted = made.uncommitted; is = made.is }
 
   pub makes_with : {T : Type 0} (machines : Machines) (counts : List ℕ) (past : List (Deed (language db))) (result : Result T Refusal) (kind : Kinds T) → ListMakes db whole machines past result kind → ListMakes db whole (with_counts machines counts) past result kind
   makes_with machines counts past (Ok x) kind made = made_with machines counts past (kind (Ok x)) made

@@ -1,5 +1,5 @@
 -- What a command comes to.
-use Rattle.std.proofs.Common.{◌≡◌, sym, ap, ◌∙◌, subst, ℕ, true, false, List, [], ◌∷◌, ◌++◌, map, ◌⊎◌, inl, inr, ⊎_elim, Bool, Option, Some, None, Result, Ok, Err}
+use Rattle.std.proofs.Common.{◌≡◌, refl, sym, ap, ◌∙◌, subst, ℕ, true, false, List, [], ◌∷◌, ◌++◌, map, ◌⊎◌, inl, inr, ⊎_elim, Bool, Option, Some, None, Result, Ok, Err, OnErr}
 use Rattle.meaning.specs.declared.answer.Answer.{Answer as AnswerNow}
 use Rattle.meaning.specs.declared.statement.Refragment.{Refragment}
 use Rattle.meaning.specs.declared.statement.Statement.{Statement}
@@ -27,13 +27,13 @@ use Rattle.world.specs.declared.event.Call as calls
 use Rattle.world.specs.declared.event.Call.TheVariants as call
 use Rattle.world.specs.Client.{IsServed, autocommit_reply, is_end, still_open, tells}
 use Rattle.world.specs.Commands.{CommandsFollow, Executes, IsCallOf, IsCommand, IsDecided, IsLone, IsRefragmented, IsStated, IsTakenBack, MovesFollow, Outcome, UnlessStopped, finds_no_number, has_answered, has_begun, has_committed, has_rolled_back, heard_in, is_hindered, is_misplaced, is_refragment_inside, is_too_much, is_too_much_alone}
-use Rattle.world.specs.Course.{Begins, Made, Move, Refragments, Refuses, SomeHindered, States, deeds_in, said_in}
+use Rattle.world.specs.Course.{Begins, CommitsNone, Made, Move, Refragments, Refuses, SomeHindered, States, deeds_in, said_in}
 use Rattle.world.specs.Executed.{ObeysUnlessRefused, Stands}
 use Rattle.world.specs.Frame.{MakesMoves}
 use Rattle.world.specs.Machines.{Machines}
 use Rattle.world.specs.Refused.{IsRefused}
 use Rattle.world.specs.Settling.{GrowsQuiet}
-use Rattle.world.proofs.Deeds.{CommitsNone, committed_none, move_served}
+use Rattle.world.proofs.Deeds.{committed_none, move_served}
 use Rattle.world.proofs.Denials.{is_full, no_commit, no_rollback, no_room}
 use Rattle.world.proofs.Executed.{heard_alone, not_ended, still_there, tells_more}
 use Rattle.world.proofs.Moves.{back_cases, command_cases, decided_cases, lone_cases, refragmented_cases, stated_cases}
@@ -41,31 +41,36 @@ use Rattle.world.proofs.RoomToBegin.{numbers_run_out}
 use Rattle.world.proofs.Standing.{begun, command_stands, stands_whenever, stated}
 
 -- ---- a command that is refused commits nothing
-module _ (db : Database) (told : refusals.Refusal) (reply : Result (List Notice) refusals.Refusal) (is : reply ≡ Err told) where
+module _ (told : refusals.Refusal) (reply : Result (List Notice) refusals.Refusal) (is : reply ≡ Err told) where
   not_heard : {A : Type 0} (heard : List Notice) → reply ≡ Ok heard → A
   not_heard heard says = let e : Ok heard ≡ Err told = sym says ∙ is in cc
 
-  back_none : (txn : Txn) (moves : List Move) → IsTakenBack txn moves → CommitsNone db moves
-  back_none txn = back_cases txn (CommitsNone db) (λ heard. tt) (λ why. tt)
+  back_none : (txn : Txn) (moves : List Move) → IsTakenBack txn moves → CommitsNone moves
+  back_none txn = back_cases txn CommitsNone (λ heard. tt) (λ why. tt)
 
-  lone_none : (text : List ℕ) (moves : List Move) → IsLone text moves reply → CommitsNone db moves
-  lone_none text = lone_cases text reply (CommitsNone db)
-      (λ txn greeted. stated_cases text txn greeted reply (CommitsNone db)
-      (λ answered. decided_cases txn (greeted ++ answered) reply (CommitsNone db) (λ ended says. not_heard (autocommit_reply (greeted ++ answered)) says) (λ decided goes says. not_heard (autocommit_reply ((greeted ++ answered) ++ decided)) says) (λ why back goes taken says. back_none txn back taken))
+  lone_none : (text : List ℕ) (moves : List Move) → IsLone text moves reply → CommitsNone moves
+  lone_none text = lone_cases text reply CommitsNone
+      (λ txn greeted. stated_cases text txn greeted reply CommitsNone
+      (λ answered. decided_cases txn (greeted ++ answered) reply CommitsNone (λ ended says. not_heard (autocommit_reply (greeted ++ answered)) says) (λ decided goes says. not_heard (autocommit_reply ((greeted ++ answered) ++ decided)) says) (λ why back goes taken says. back_none txn back taken))
       (λ why back taken says. back_none txn back taken))
       (λ why says. tt)
 
-  moved_none : (text : List ℕ) (moves : List Move) → IsRefragmented text moves reply → CommitsNone db moves
-  moved_none text = refragmented_cases text reply (CommitsNone db) (λ came moves so. after came moves so)
+  moved_none : (text : List ℕ) (moves : List Move) → IsRefragmented text moves reply → CommitsNone moves
+  moved_none text = refragmented_cases text reply CommitsNone (λ came moves so. after came moves so)
     where
-      after : (came : Result (List Notice) refusals.Refusal) (moves : List Move) → IsRefragmented text (Refragments text came ∷ moves) reply → CommitsNone db moves
-      after (Ok answered) moves so = decided_cases so.1.0 answered reply (CommitsNone db) (λ ended says. not_heard (autocommit_reply answered) says) (λ decided goes says. not_heard (autocommit_reply (answered ++ decided)) says) (λ why back goes taken says. back_none so.1.0 back taken) moves so.1.2
+      after : (came : Result (List Notice) refusals.Refusal) (moves : List Move) → IsRefragmented text (Refragments text came ∷ moves) reply → CommitsNone moves
+      after (Ok answered) moves so = decided_cases so.1.0 answered reply CommitsNone (λ ended says. not_heard (autocommit_reply answered) says) (λ decided goes says. not_heard (autocommit_reply (answered ++ decided)) says) (λ why back goes taken says. back_none so.1.0 back taken) moves so.1.2
       after (Err why) [] so = tt
       after (Err why) (move ∷ moves) none = absurd none
 
-  pub refused_none : (schemas : _) (text : List ℕ) (current later : Option Txn) (moves : List Move) → IsCommand schemas text current later moves reply → CommitsNone db moves
-  refused_none schemas text current later = command_cases schemas text current later reply (CommitsNone db) (λ still why says misplaced. tt) (λ txn heard of some says. tt) (λ txn given heard of still says. tt)
+  pub refused_none : (schemas : _) (text : List ℕ) (current later : Option Txn) (moves : List Move) → IsCommand schemas text current later moves reply → CommitsNone moves
+  refused_none schemas text current later = command_cases schemas text current later reply CommitsNone (λ still why says misplaced. tt) (λ txn heard of some says. tt) (λ txn given heard of still says. tt)
       (λ txn heard of none says. not_heard heard says) (λ txn heard of none says. tt) (λ asked why of still says. tt) (λ moves statement spelled ordinary none after_none lone. lone_none text moves lone) (λ moves refragment spelled none after_none moved. moved_none text moves moved)
+
+-- so of a call of the code
+pub refused_commits_none : {T : Type 0} (items : T → List Notice) (result : Result T refusals.Refusal) (schemas : _) (text : List ℕ) (current later : Option Txn) (moves : List Move) → IsCommand schemas text current later moves (heard_in items result) → OnErr result (CommitsNone moves)
+refused_commits_none items (Ok x) schemas text current later moves command = tt
+refused_commits_none items (Err why) schemas text current later moves command = refused_none why (Err why) refl schemas text current later moves command
 
 -- ---- outcomes
 module _ (db : Database) (fits : Place → Content → Bool) (reached : ReachedLaw (language db)) (obeys : ObeysUnlessRefused db fits) (law : GrowsQuiet db fits) (one : OneCommandOfText) (whole : Relations) (text : List ℕ) (reply : Result (List Notice) refusals.Refusal) where
@@ -200,7 +205,7 @@ commands_follow db fits reached obeys law one follow whole text current later be
       served = served_more;
       tells = λ entries told. follow.tells moves before after entries past told made;
       serial = λ entries told. follow.serial whole after (entries ++ said_in moves) more (follow.tells moves before after entries past told made) served_more;
-      uncommitted = λ refused is. committed_none db moves before after made past (refused_none db refused reply is db.schemas text current later moves command);
+      uncommitted = λ refused is. committed_none db moves before after made past (refused_none refused reply is db.schemas text current later moves command);
       stands = λ stands. stands_whenever db fits later after past more (command_stands db fits reached obeys law whole past db.schemas text current later reply before after served stands moves command made);
       outcome = λ stands. command_comes db fits reached obeys law one whole text reply past current later before after served stands moves command made;
     }

@@ -1,5 +1,5 @@
 -- What a client asks for and what comes of it, call by call.
-use Rattle.std.specs.Prelude.{◌≡◌, ◌⊎◌, ℕ, true, List, [], ◌∷◌, ◌++◌, Result, Ok, Err}
+use Rattle.std.specs.Prelude.{◌≡◌, ◌⊎◌, ⊤, ℕ, true, List, [], ◌∷◌, ◌++◌, Result, Ok, Err}
 use Rattle.store.specs.declared.name.Txn.{Txn}
 use Rattle.protocol.specs.Desk.{Commit_call, Deed, Rollback}
 use Rattle.desk.specs.declared.refusal.Refusal.{Refusal}
@@ -46,6 +46,16 @@ said_of (Refuses asked told) = []
 abbrev pub said_in : List Move → List Entry
 said_in [] = []
 said_in (move ∷ moves) = said_of move ++ said_in moves
+
+-- no commit is asked for and done by these moves
+abbrev pub CommitsNone : List Move → Type 0
+CommitsNone [] = ⊤
+CommitsNone (Begins txn heard ∷ moves) = CommitsNone moves
+CommitsNone (States txn text heard ∷ moves) = CommitsNone moves
+CommitsNone (Commits txn heard ∷ moves) = ⊥
+CommitsNone (Rolls_back txn heard ∷ moves) = CommitsNone moves
+CommitsNone (Refragments text came ∷ moves) = CommitsNone moves
+CommitsNone (Refuses asked told ∷ moves) = CommitsNone moves
 
 -- ---- the machines
 module _ (db : Database) where

@@ -8,7 +8,7 @@ use Rattle.protocol.specs.Catalogues.{IsSerialList}
 use Rattle.protocol.specs.Client.{IsReached}
 use Rattle.protocol.specs.Desk.{Deed}
 use Rattle.protocol.specs.Local.{local}
-use Rattle.protocol.specs.Serial.{phases_of}
+use Rattle.protocol.specs.Serial.{committed, phases_of}
 use Rattle.desk.specs.declared.refusal.Refusal.{Refusal}
 use Rattle.desk.specs.declared.reply.Notice.{Notice}
 use Rattle.desk.specs.Database.{Database, language, sent, statements}
@@ -17,7 +17,7 @@ use Rattle.desk.specs.Transition.{told}
 use Rattle.world.specs.declared.event.Call as calls
 use Rattle.world.specs.declared.event.Call.TheVariants as call
 use Rattle.world.specs.declared.event.Entry.{Entry}
-use Rattle.world.specs.Course.{Begins, Commits, Move, Refragments, Refuses, Rolls_back, States, said_in}
+use Rattle.world.specs.Course.{Begins, Commits, CommitsNone, Move, Refragments, Refuses, Rolls_back, States, said_in}
 use Rattle.world.specs.Listed.{FitsList}
 use Rattle.world.specs.Machines.{Machines, world_of}
 use Rattle.world.specs.Refused.{IsRefused}
@@ -67,13 +67,14 @@ HasItsReason db whole past deeds (Refragments text (Ok heard)) = ⊤
 HasItsReason db whole past deeds (Refragments text (Err told)) = (is_stop told ≡ true) ⊎ RefusedOnTheWay db whole past deeds (call.Refragment text) told
 HasItsReason db whole past deeds (Refuses asked told) = (is_stop told ≡ true) ⊎ RefusedOnTheWay db whole past deeds asked told
 
--- moves of this kind were made, by further deeds: what was asked for and heard tells of them, with all that was asked for and heard before; and each that was refused has its reason
+-- moves of this kind were made, by further deeds: what was asked for and heard tells of them, with all that was asked for and heard before; each that was refused has its reason; and where no commit is asked for and done, nothing more is committed
 pub record ListMade (db : Database) (whole : Relations) (machines : Machines) (past : List (Deed (language db))) (kind : List Move → Type 0) : Type 0 where
   pub moves : List Move
   pub deeds : List (Deed (language db))
   pub served : IsListServed db whole machines (past ++ deeds)
   pub tells : (entries : List Entry) → Tells db entries past → Tells db (entries ++ said_in moves) (past ++ deeds)
   pub reasons : AllByRecursion (HasItsReason db whole past deeds) moves
+  pub uncommitted : CommitsNone moves → committed (past ++ deeds) ≡ committed past
   pub is : kind moves
 
 -- the serial law of a client's database over this list: the committed transactions, ordinary ones and REFRAGMENTs, one after another over the whole relations, give the answers that were given and, under the catalogue in force, what the settled fragments rebuild

@@ -24,6 +24,7 @@ ghost use Rattle.world.specs.BatchRuns.{HasRun, WasStopped};
 ghost use Rattle.world.specs.Fault.{FailsFor, is_memory};
 ghost use Rattle.world.specs.Frame.{ComesTo, EndsIn, LeavesDatabase, LeavesMachines, ListMakes, OverLists, StaysAsItIs};
 ghost use Rattle.world.specs.Batch.{RunsAll};
+ghost use Rattle.world.specs.Course.{CommitsNone};
 ghost use Rattle.world.specs.Listed.{FitsList, IsListed, StandsIn};
 ghost use Rattle.world.specs.ListServed.{IsListServed, IsListServedOn, ListMade};
 ghost use Rattle.world.specs.Chain.{IsLast, StandsAt, StandsLast, sites_of};
@@ -89,9 +90,8 @@ pub struct Solo<D: DeskStore, S: SiteStore> {
     stopped: Option<Refusal>,
 }
 
-/// A database over lists is opened, under the first catalogue of a chain: the fragments rebuild these whole relations. Only want of
-/// memory is a fault. Of one client's database the clauses `lists` speak of every chain, here and below, and
-/// the others where no catalogue comes later.
+/// A database over lists is opened, under the first catalogue of a chain: the fragments rebuild these whole relations. Only want of memory
+/// is a fault. The clauses `lists` of one client's database, here and below, speak of every chain, the others where no catalogue comes later.
 pub fn open(
     alloc: Global,
     chain: &Chain,
@@ -345,7 +345,7 @@ impl<D: DeskStore, S: SiteStore> Solo<D, S> {
         ensures served { (whole : Relations) (past : List (Deed (language (database (catalogue_of self.old.machines.desk.catalog))))) → OfStores D.is_clean S.is_clean self.new.machines → OfStores D.is_sound S.is_sound self.old.machines
             → IsServed (database (catalogue_of self.old.machines.desk.catalog)) whole (counted D.kept S.kept D.refused S.refused self.old.machines) past → (deeds : List (Deed (language (database (catalogue_of self.old.machines.desk.catalog))))) × IsServed (database (catalogue_of self.old.machines.desk.catalog)) whole (counted D.kept S.kept D.refused S.refused self.new.machines) (past ++ deeds) }
         ensures lists { self.old.stopped ≡ None → OverLists (OfStores D.is_clean S.is_clean) (OfStores D.is_sound S.is_sound) (counted D.kept S.kept D.refused S.refused) self.old.machines self.new.machines
-            (λ db whole past. ListMakes db whole (counted D.kept S.kept D.refused S.refused self.new.machines) past result (λ done moves. IsCommand db.schemas text.now self.old.current self.new.current moves (heard_in (λ heard. heard.items) done))) }
+            (λ db whole past. ListMakes db whole (counted D.kept S.kept D.refused S.refused self.new.machines) past result (λ done moves. IsCommand db.schemas text.now self.old.current self.new.current moves (heard_in (λ heard. heard.items) done) × OnErr done (CommitsNone moves))) }
         ensures served_lists { OverLists (OfStores D.is_clean S.is_clean) (OfStores D.is_sound S.is_sound) (counted D.kept S.kept D.refused S.refused) self.old.machines self.new.machines (λ db whole past. IsListServedOn db whole (counted D.kept S.kept D.refused S.refused self.new.machines) past) }
         ensures blames { self.old.stopped ≡ None → OfStores D.is_clean S.is_clean self.new.machines → OfStores D.is_sound S.is_sound self.old.machines → IfErr result (StopsFor (counts D.refused S.refused self.old.machines) (counts D.refused S.refused self.new.machines)) }
         ensures inside { (txn : TxnNow) → self.old.stopped ≡ None → self.old.current ≡ Some txn → IsTextOf (schemas_of (catalogue_of self.old.machines.desk.catalog)) text.now Begin → (result ≡ Err refusals.Busy) ⊎ (result ≡ Err refusals.Memory) }

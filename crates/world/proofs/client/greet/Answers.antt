@@ -20,6 +20,7 @@ use Rattle.world.proofs.Stops.{call_since}
 use Rattle.world.specs.Course.{Begins, IsOne}
 use Rattle.world.proofs.ListCalls.{begin_makes, lists_counted, unbegun_lists}
 use Rattle.world.proofs.ListDelivering.{begun_waits}
+use Rattle.world.proofs.ListVain.{all_goes}
 use Rattle.world.proofs.Leaves.{ends_alike, ends_then}
 use Rattle.world.proofs.client.greet.Goals as goal
 
@@ -98,7 +99,8 @@ returns-in-Ok-clause-lists g c = λ txn.
     let hold = held g.D.DeskStore.kept g.S.SiteStore.kept in
     let made = c.in-Ok.ensures.lists db listed.base.of_catalogue stands served.fit in
     let waits = begun_waits db whole listed (hold c.args.machines.now) (hold c.begin.new.self) c.in-Ok.out.letters c.in-Ok.out.replies past served made.0 in
-    let came = c.deliver_all.ensures.lists db whole (past ++ made.0.leads.deeds) listed made.1 clean (c.begin.ensures.leaves.sound (c.deliver_all.ensures.leaves.clean clean) sound) waits in
+    let came = all_goes db whole _ listed (λ heard. heard.items) (hold c.begin.new.self) (hold c.deliver_all.new.machines) c.in-Ok.out (past ++ made.0.leads.deeds) c.deliver_all.result waits
+    (c.deliver_all.ensures.comes db listed made.1 clean (c.begin.ensures.leaves.sound (c.deliver_all.ensures.leaves.clean clean) sound) waits.fit) (c.deliver_all.ensures.lists db whole (past ++ made.0.leads.deeds) listed made.1 clean (c.begin.ensures.leaves.sound (c.deliver_all.ensures.leaves.clean clean) sound) waits) in
     begin_makes db whole (λ heard. Begins txn heard.items) (λ heard. heard.items) (hold c.args.machines.now) (hold c.begin.new.self) (hold c.deliver_all.new.machines) c.in-Ok.out past c.deliver_all.result (λ heard. refl) made.0 c.deliver_all.ensures.own came)
 
 pub returns-in-Err-clause-lists : goal.returns-in-Err-clause-lists

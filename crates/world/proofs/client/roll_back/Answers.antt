@@ -24,6 +24,7 @@ use Rattle.world.proofs.Running.{over_of}
 use Rattle.world.proofs.Stops.{call_since}
 use Rattle.world.proofs.ListCalls.{lists_counted, refused_lists, rollback_makes}
 use Rattle.world.proofs.ListDelivering.{asked_waits}
+use Rattle.world.proofs.ListVain.{all_goes}
 use Rattle.world.proofs.Leaves.{ends_alike, ends_then}
 use Rattle.world.proofs.client.roll_back.Goals as goal
 
@@ -68,7 +69,8 @@ returns-in-Ok g c = one_call g.D.DeskStore.is_clean g.S.SiteStore.is_clean g.D.D
     let hold = held g.D.DeskStore.kept g.S.SiteStore.kept in
     let made = c.in-Ok.ensures.lists db (no_choice db) listed.base.of_catalogue stands served.fit in
     let waits = asked_waits db whole listed c.args.txn (no_choice db) Rollback (hold c.args.machines.now) (hold c.rollback.new.self) [] c.in-Ok.out.letters c.in-Ok.out.replies past served made.0 in
-    let came = c.deliver_all.ensures.lists db whole (past ++ made.0.leads.deeds) listed made.1 clean (c.rollback.ensures.leaves.sound (c.deliver_all.ensures.leaves.clean clean) sound) waits in
+    let came = all_goes db whole _ listed (λ heard. heard.items) (hold c.rollback.new.self) (hold c.deliver_all.new.machines) c.in-Ok.out (past ++ made.0.leads.deeds) c.deliver_all.result waits
+    (c.deliver_all.ensures.comes db listed made.1 clean (c.rollback.ensures.leaves.sound (c.deliver_all.ensures.leaves.clean clean) sound) waits.fit) (c.deliver_all.ensures.lists db whole (past ++ made.0.leads.deeds) listed made.1 clean (c.rollback.ensures.leaves.sound (c.deliver_all.ensures.leaves.clean clean) sound) waits) in
     rollback_makes db whole c.args.txn (no_choice db) (λ heard. Rolls_back c.args.txn heard.items) (λ heard. heard.items) (hold c.args.machines.now) (hold c.rollback.new.self) (hold c.deliver_all.new.machines) c.in-Ok.out past c.deliver_all.result (λ heard. refl) made.0 c.deliver_all.ensures.own came))
 
 pub returns-in-Err : goal.returns-in-Err

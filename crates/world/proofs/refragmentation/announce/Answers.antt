@@ -8,6 +8,7 @@ use Rattle.world.specs.Counted.{counts}
 use Rattle.world.specs.Course.{Refragments}
 use Rattle.world.proofs.ListCalls.{lists_counted, moved_makes, unmoved_lists}
 use Rattle.world.proofs.ListDelivering.{moved_waits}
+use Rattle.world.proofs.ListVain.{all_goes}
 use Rattle.world.proofs.Leaves.{leaves_into, leaves_so}
 use Rattle.world.proofs.Stops.{call_since}
 use Rattle.world.proofs.refragmentation.announce.Goals as goal
@@ -29,7 +30,8 @@ returns-in-Ok-clause-lists g c =
     let hold = held g.D.DeskStore.kept g.S.SiteStore.kept in
     let made = c.in-Ok.ensures.lists db listed.base.of_catalogue stands served.fit in
     let waits = moved_waits db whole listed c.args.text.now (hold c.args.machines.now) (hold c.refragment.new.self) c.in-Ok.out.letters c.in-Ok.out.replies past served made.0 in
-    let came = c.deliver_all.ensures.lists db whole (past ++ made.0.leads.deeds) listed made.1 clean (c.refragment.ensures.leaves.sound (c.deliver_all.ensures.leaves.clean clean) sound) waits in
+    let came = all_goes db whole _ listed (λ heard. heard.items) (hold c.refragment.new.self) (hold c.deliver_all.new.machines) c.in-Ok.out (past ++ made.0.leads.deeds) c.deliver_all.result waits
+    (c.deliver_all.ensures.comes db listed made.1 clean (c.refragment.ensures.leaves.sound (c.deliver_all.ensures.leaves.clean clean) sound) waits.fit) (c.deliver_all.ensures.lists db whole (past ++ made.0.leads.deeds) listed made.1 clean (c.refragment.ensures.leaves.sound (c.deliver_all.ensures.leaves.clean clean) sound) waits) in
     moved_makes db whole c.args.text.now (λ heard. heard.items) (hold c.args.machines.now) (hold c.refragment.new.self) (hold c.deliver_all.new.machines) c.in-Ok.out past c.deliver_all.result made.0 c.deliver_all.ensures.own came)
 
 pub returns-in-Err-clause-lists : goal.returns-in-Err-clause-lists

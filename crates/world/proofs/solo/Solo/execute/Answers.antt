@@ -8,11 +8,11 @@ use Rattle.std.proofs.Common.{List, [], ℕ, refl, subst}
 use Rattle.world.proofs.Calls.{leaves_of}
 use Rattle.world.proofs.Deeds.{nothing_more}
 use Rattle.world.proofs.Leaves.{database_still}
-use Rattle.world.proofs.Outcomes.{executed}
+use Rattle.world.proofs.Outcomes.{executed, refused_commits_none}
 use Rattle.desk.specs.CatalogueDatabase.{database, fits}
 use Rattle.world.specs.Commands.{CommandsFollow}
 use Rattle.world.specs.Contents.{counted}
-use Rattle.world.proofs.ListCalls.{makes_on}
+use Rattle.world.proofs.ListCalls.{makes_as, makes_on}
 use Rattle.world.proofs.ListSolo.{served_still}
 use Rattle.world.proofs.solo.Solo.execute.Goals as goal
 
@@ -51,7 +51,12 @@ returns-in-Some-clause-served g c = λ whole past clean sound served.
     ([], nothing_more db whole (counted g.D.DeskStore.kept g.S.SiteStore.kept g.D.DeskStore.refused g.S.SiteStore.refused c.args.self.now.machines) past served)
 
 pub returns-clause-lists : goal.returns-clause-lists
-returns-clause-lists g c = λ going. c.command-done.ensures.comes.lists
+returns-clause-lists g c = λ going db whole past listed stands clean sound served.
+    let made = c.command-done.ensures.comes.lists db whole past listed stands clean sound served in (
+      makes_as db whole (counted g.D.DeskStore.kept g.S.SiteStore.kept g.D.DeskStore.refused g.S.SiteStore.refused c.command-done.new.self.machines) past c.command-done.result _ _
+          (λ moves command. (command, refused_commits_none (λ heard. heard.items) c.command-done.result db.schemas c.args.text.now c.args.self.now.current c.command-done.new.self.current moves command)) made.0,
+      made.1,
+    )
 
 pub returns-clause-served_lists : goal.returns-clause-served_lists
 returns-clause-served_lists g c = λ db whole past listed stands clean sound served.
