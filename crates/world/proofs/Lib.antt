@@ -75,6 +75,7 @@ pub mod Texts
 pub mod ListRunning
 pub mod ListDelivering
 pub mod ListVain
+pub mod NoNext
 pub mod ListCalls
 pub mod ListSolo
 pub mod ListIsBase

@@ -1,15 +1,19 @@
 -- What a call leaves of the machines of a database, and of what its clauses speak.
-use Rattle.std.specs.Prelude.{◌≡◌, ◌≢◌, ◌≤◌, ◌⊎◌, ◌++◌, ◌∷◌, ℕ, true, List, map, Result, Ok, Err, IfErr, IfOk, OnErr}
+use Rattle.std.specs.Prelude.{◌≡◌, ◌≢◌, ◌≤◌, ◌⊎◌, ◌++◌, ◌∷◌, ℕ, true, List, [], map, Result, Ok, Err, IfErr, IfOk, OnErr}
 use Rattle.std.specs.List.{AllByRecursion, AllZip}
 use Rattle.meaning.specs.Whole.{Relations}
 use Rattle.protocol.specs.Client.{ReachedLaw}
 use Rattle.protocol.specs.Desk.{Deed}
 use Rattle.catalog.specs.declared.relation.SplitRelation.{SplitRelation}
+use Rattle.catalog.specs.FragmentLeaf.{schemas_of}
+use Rattle.catalog.specs.Relation.{catalogue_of}
 use Rattle.desk.specs.Database.{Database, language}
-use Rattle.desk.specs.OfCatalogue.{InForce, IsOfCatalogue, follow}
+use Rattle.desk.specs.OfCatalogue.{InForce, IsOfCatalogue, first_in, follow}
 use Rattle.world.specs.declared.machines.Machines as code
 use Rattle.site.specs.declared.site.Site.{Site}
 use Rattle.desk.specs.declared.refusal.Refusal.{Refusal}
+use Rattle.desk.specs.declared.refusal.Refusal.TheVariants.{NoNext}
+use Rattle.desk.specs.Refragmented.{FindsNoNext}
 use Rattle.desk.specs.declared.reply.Notice.{Notice}
 use Rattle.store.specs.declared.letter.Letter as letters
 use Rattle.world.specs.Counted.{NoFewer, counts, counts_of}
@@ -137,3 +141,11 @@ pub record ComesTo {D S T : Type 0} (IsClean IsSound : code.Machines D S → Typ
 pub record RunsTo {D S T : Type 0} (IsClean IsSound : code.Machines D S → Type 0) (view : code.Machines D S → Machines) (old new : code.Machines D S) (result : Result T Refusal) (kind : Database → T → List Move → Type 0) : Type 0 where
   pub comes : ComesTo IsClean IsSound view old new result (λ db done moves. IfOk done (λ x. kind db x moves))
   pub own : IfErr result (λ told. is_stop told ≡ true)
+
+-- no catalogue comes later, or the first that does is no next one by the relation of a REFRAGMENT of this text
+abbrev pub NoneIsNext : {D S : Type 0} → code.Machines D S → List ℕ → Type 0
+NoneIsNext machines text = (machines.desk.later.items ≡ []) ⊎ FindsNoNext (catalogue_of machines.desk.catalog) (schemas_of (catalogue_of machines.desk.catalog)) (first_in machines.desk.later.items) text
+
+-- a REFRAGMENT of this text is refused by NoNext only where that is so
+abbrev pub FindsNone : {D S T : Type 0} → (code.Machines D S → Type 0) → (code.Machines D S → Type 0) → (code.Machines D S → Machines) → code.Machines D S → code.Machines D S → Result T Refusal → List ℕ → Type 0
+FindsNone clean sound view old new result text = OverLists clean sound view old new (λ db whole past. result ≡ Err NoNext → NoneIsNext old text)

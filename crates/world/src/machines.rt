@@ -79,7 +79,7 @@ impl<D: DeskStore, S: SiteStore> Machines<D, S> {
     ghost use Rattle.world.specs.Taking.{CameUnless, ListCameUnless, stop_of};
     ghost use Rattle.site.specs.Refusals.{AsksToKeep};
     ghost use Rattle.world.specs.EventApplied.{may_call_at};
-    ghost use Rattle.world.specs.Frame.{CallsNoStore, LeavesDatabase, LeavesMachines, StaysInForce, StaysOnErr, StaysOrFollows};
+    ghost use Rattle.world.specs.Frame.{CallsNoStore, LeavesDatabase, LeavesMachines, NoneIsNext, StaysInForce, StaysOnErr, StaysOrFollows};
     ghost use Rattle.world.specs.Listed.{FitsList, ListAsked, ListBegun, ListCame, ListLeads, ListMoved, ListStated, StandsIn};
     ghost use Rattle.world.specs.Contents.{OfStores, held};
     ghost use Rattle.world.specs.Machines.{AreFit, Asked, Came, Leads, Stated, happens_at, is_for_site, is_of_site, is_order, world_of};
@@ -187,6 +187,7 @@ impl<D: DeskStore, S: SiteStore> Machines<D, S> {
     pub(crate) fn refragment(&mut self, text: &str) -> Result<Out, Refusal>
         ensures leaves { LeavesMachines D.is_clean S.is_clean D.is_sound S.is_sound D.refused S.refused self.old self.new }
         ensures next { OnOk result (self.old.desk.later.items ≢ []) }
+        ensures finds_none { result ≡ Err refusals.NoNext → NoneIsNext self.old text.now }
         ensures told { (db : Database) → IsOfCatalogue db → InForce db self.old.desk.volatile.version self.old.desk.catalog → Fits db (D.kept self.old.desk.store) (volatile_of self.old.desk.volatile)
             → IfErr result (λ told. (told ≡ refusals.Memory) ⊎ IsRefused db self.old.desk.later.items (volatile_of self.old.desk.volatile) (calls.Refragment text.now) told) }
         ensures lists { (db : Database) → IsOfCatalogue db → StandsIn db self.old.desk → FitsList db (held D.kept S.kept self.old)

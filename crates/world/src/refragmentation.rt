@@ -8,7 +8,7 @@ ghost use Rattle.world.specs.Course.{Refragments};
 ghost use Rattle.desk.specs.declared.refusal.Refusal.TheVariants as refusals;
 ghost use Rattle.world.specs.Contents.{OfStores, counted};
 ghost use Rattle.world.specs.Counted.{counts};
-ghost use Rattle.world.specs.Frame.{Blames, LeavesDatabase, ListMakes, OverLists};
+ghost use Rattle.world.specs.Frame.{Blames, FindsNone, LeavesDatabase, ListMakes, NoneIsNext, OverLists};
 
 use crate::autocommit::decide;
 use crate::client::named;
@@ -28,6 +28,7 @@ fn announce<D: DeskStore, S: SiteStore>(
     ensures blames { Blames (OfStores D.is_clean S.is_clean) (OfStores D.is_sound S.is_sound) (counts D.refused S.refused) machines.old machines.new result }
     ensures lists { OverLists (OfStores D.is_clean S.is_clean) (OfStores D.is_sound S.is_sound) (counted D.kept S.kept D.refused S.refused) machines.old machines.new
         (λ db whole past. ListMakes db whole (counted D.kept S.kept D.refused S.refused machines.new) past result (λ done moves. (moves ≡ Refragments text.now (heard_in (λ heard. heard.items) done) ∷ []) × IfOk done (λ heard. heard.items ≢ []))) }
+    ensures finds_none { result ≡ Err refusals.NoNext → NoneIsNext machines.old text.now }
 {
     match machines.refragment(text) {
         Ok(out) => deliver_all(machines, out),
@@ -62,6 +63,7 @@ pub(crate) fn run_refragment<D: DeskStore, S: SiteStore>(
     ensures blames { Blames (OfStores D.is_clean S.is_clean) (OfStores D.is_sound S.is_sound) (counts D.refused S.refused) machines.old machines.new result }
     ensures lists { machines.old.desk.later.items ≢ [] → OverLists (OfStores D.is_clean S.is_clean) (OfStores D.is_sound S.is_sound) (counted D.kept S.kept D.refused S.refused) machines.old machines.new
         (λ db whole past. ListMakes db whole (counted D.kept S.kept D.refused S.refused machines.new) past result (λ done moves. IsRefragmented text.now moves (heard_in (λ heard. heard.items) done))) }
+    ensures finds_none { FindsNone (OfStores D.is_clean S.is_clean) (OfStores D.is_sound S.is_sound) (counted D.kept S.kept D.refused S.refused) machines.old machines.new result text.now }
 {
     if machines.desk.later().is_empty() {
         return Err(Refusal::NoNext);

@@ -2,6 +2,8 @@
 
 ghost use Rattle.std.specs.Prelude.{◌≡◌, ◌≢◌, ◌⊎◌, ◌∷◌, ℕ, true, List, [], None, Some, Err, IfErr, IfOk, OnErr, OnOk, ◌++◌, is_some, if◌then◌else◌, length, map};
 ghost use Rattle.std.specs.Option.{option_map};
+ghost use Rattle.meaning.specs.declared.statement.Statement.{Statement as StatementNow};
+ghost use Rattle.meaning.specs.Statement.{is_refragment};
 ghost use Rattle.meaning.specs.Whole.{FitsSchema, Relations};
 ghost use Rattle.catalog.specs.Catalogue.{Catalogue};
 ghost use Rattle.catalog.specs.FragmentLeaf.{schemas_of};
@@ -22,7 +24,7 @@ ghost use Rattle.desk.specs.CatalogueDatabase.{database, databases, fits};
 ghost use Rattle.world.specs.Counted.{counts};
 ghost use Rattle.world.specs.BatchRuns.{HasRun, WasStopped};
 ghost use Rattle.world.specs.Fault.{FailsFor, is_memory};
-ghost use Rattle.world.specs.Frame.{ComesTo, EndsIn, LeavesDatabase, LeavesMachines, ListMakes, OverLists, StaysAsItIs};
+ghost use Rattle.world.specs.Frame.{ComesTo, EndsIn, FindsNone, LeavesDatabase, LeavesMachines, ListMakes, OverLists, StaysAsItIs};
 ghost use Rattle.world.specs.Batch.{RunsAll};
 ghost use Rattle.world.specs.Course.{CommitsNone};
 ghost use Rattle.world.specs.Listed.{FitsList, IsListed, StandsIn};
@@ -79,8 +81,7 @@ use terms::part::Part;
 use terms::row::Row;
 use terms::text::Text;
 
-/// A coordinator and its sites, which serve one client: each letter comes once, the oldest first, before the
-/// next command.
+/// A coordinator and its sites, which serve one client: each letter comes once, the oldest first, before the next command.
 #[derive(Drop)]
 pub struct Solo<D: DeskStore, S: SiteStore> {
     machines: Machines<D, S>,
@@ -281,6 +282,7 @@ impl<D: DeskStore, S: SiteStore> Solo<D, S> {
     fn states(&mut self, statement: &Statement, text: &str) -> Result<Vec<Notice>, Refusal>
         ensures comes { ComesTo (OfStores D.is_clean S.is_clean) (OfStores D.is_sound S.is_sound) (counted D.kept S.kept D.refused S.refused) self.old.machines self.new.machines result
             (λ db done moves. IsTextOf db.schemas text.now (Run statement.now) → IsCommand db.schemas text.now self.old.current self.new.current moves (heard_in (λ heard. heard.items) done)) }
+        ensures finds_none { self.old.current ≡ None → is_refragment statement.now ≡ true → FindsNone (OfStores D.is_clean S.is_clean) (OfStores D.is_sound S.is_sound) (counted D.kept S.kept D.refused S.refused) self.old.machines self.new.machines result text.now }
         ensures still { OnErr result (self.new.current ≡ self.old.current) }
     {
         let Some(txn) = self.current else {
@@ -304,6 +306,7 @@ impl<D: DeskStore, S: SiteStore> Solo<D, S> {
             (λ db done moves. IsTextOf db.schemas text.now command.now → IsCommand db.schemas text.now self.old.current self.new.current moves (heard_in (λ heard. heard.items) done)) }
         ensures inside { (txn : TxnNow) → self.old.current ≡ Some txn → command.now ≡ Begin → result ≡ Err refusals.Busy }
         ensures outside { self.old.current ≡ None → (command.now ≡ Commit) ⊎ (command.now ≡ Rollback) → result ≡ Err refusals.NoTransaction }
+        ensures finds_none { (statement : StatementNow) → self.old.current ≡ None → command.now ≡ Run statement → is_refragment statement ≡ true → FindsNone (OfStores D.is_clean S.is_clean) (OfStores D.is_sound S.is_sound) (counted D.kept S.kept D.refused S.refused) self.old.machines self.new.machines result text.now }
         ensures still { OnErr result (self.new.current ≡ self.old.current) }
     {
         match command {
@@ -320,6 +323,7 @@ impl<D: DeskStore, S: SiteStore> Solo<D, S> {
             (λ db done moves. IsCommand db.schemas text.now self.old.current self.new.current moves (heard_in (λ heard. heard.items) done)) }
         ensures inside { (txn : TxnNow) → self.old.current ≡ Some txn → IsTextOf (schemas_of (catalogue_of self.old.machines.desk.catalog)) text.now Begin → (result ≡ Err refusals.Busy) ⊎ (result ≡ Err refusals.Memory) }
         ensures outside { self.old.current ≡ None → IsTextOf (schemas_of (catalogue_of self.old.machines.desk.catalog)) text.now Commit ⊎ IsTextOf (schemas_of (catalogue_of self.old.machines.desk.catalog)) text.now Rollback → (result ≡ Err refusals.NoTransaction) ⊎ (result ≡ Err refusals.Memory) }
+        ensures finds_none { (statement : StatementNow) → self.old.current ≡ None → IsTextOf (schemas_of (catalogue_of self.old.machines.desk.catalog)) text.now (Run statement) → is_refragment statement ≡ true → FindsNone (OfStores D.is_clean S.is_clean) (OfStores D.is_sound S.is_sound) (counted D.kept S.kept D.refused S.refused) self.old.machines self.new.machines result text.now }
         ensures reader_refusal { ((given : CommandNow) → IsTextOf (schemas_of (catalogue_of self.old.machines.desk.catalog)) text.now given → ⊥) → OnOk result ⊥ × IfErr result (IsUnreadable (schemas_of (catalogue_of self.old.machines.desk.catalog)) text.now) }
         ensures still { OnErr result (self.new.current ≡ self.old.current) }
     {
@@ -350,6 +354,7 @@ impl<D: DeskStore, S: SiteStore> Solo<D, S> {
         ensures blames { self.old.stopped ≡ None → OfStores D.is_clean S.is_clean self.new.machines → OfStores D.is_sound S.is_sound self.old.machines → IfErr result (StopsFor (counts D.refused S.refused self.old.machines) (counts D.refused S.refused self.new.machines)) }
         ensures inside { (txn : TxnNow) → self.old.stopped ≡ None → self.old.current ≡ Some txn → IsTextOf (schemas_of (catalogue_of self.old.machines.desk.catalog)) text.now Begin → (result ≡ Err refusals.Busy) ⊎ (result ≡ Err refusals.Memory) }
         ensures outside { self.old.stopped ≡ None → self.old.current ≡ None → IsTextOf (schemas_of (catalogue_of self.old.machines.desk.catalog)) text.now Commit ⊎ IsTextOf (schemas_of (catalogue_of self.old.machines.desk.catalog)) text.now Rollback → (result ≡ Err refusals.NoTransaction) ⊎ (result ≡ Err refusals.Memory) }
+        ensures finds_none { (statement : StatementNow) → self.old.stopped ≡ None → self.old.current ≡ None → IsTextOf (schemas_of (catalogue_of self.old.machines.desk.catalog)) text.now (Run statement) → is_refragment statement ≡ true → FindsNone (OfStores D.is_clean S.is_clean) (OfStores D.is_sound S.is_sound) (counted D.kept S.kept D.refused S.refused) self.old.machines self.new.machines result text.now }
         ensures reader_refusal { self.old.stopped ≡ None → ((given : CommandNow) → IsTextOf (schemas_of (catalogue_of self.old.machines.desk.catalog)) text.now given → ⊥)
             → OnOk result ⊥ × IfErr result (λ told. (told ≡ refusals.Memory) ⊎ IsNoCommand (schemas_of (catalogue_of self.old.machines.desk.catalog)) text.now told) }
         ensures still { OnErr result (self.new.current ≡ self.old.current) }
@@ -439,12 +444,7 @@ impl<D: DeskStore, S: SiteStore> Solo<D, S> {
         self.current.is_some()
     }
 
-    /// What its commands have done and cost since it was opened: how many transactions were committed, and aborted for
-    /// each cause, the letters that came to a machine, the rounds in which they came, and how often a store has kept
-    /// something durably. The stores' calls aren't counted themselves, but the letters that tell of them: a vote YES of
-    /// a prepared row, an Ack of what a committed transaction wrote at a site, orders to commit of the commit row, once
-    /// however many there are. A vote READ or NO, an abort, and what a store refuses count for nothing. That these are
-    /// the counts is tested only.
+    /// What its commands have done and cost since it was opened. That these are the counts is tested only.
     pub fn traffic(&self) -> Traffic
         ensures { result ≡ self.now.machines.traffic }
     {

@@ -8,7 +8,9 @@ use store::letter::{Body, Letter};
 use store::order::Order;
 use store::reply::{Reply, Vote, Voted};
 
-/// Counts of what the machines of one client did. Each stops at the greatest of 64 bits.
+/// Counts of what the machines of one client did. Each stops at the greatest of 64 bits. The stores' calls aren't counted themselves, but
+/// the letters that tell of them: a vote YES of a prepared row, an Ack of what a committed transaction wrote at a site, orders to commit of
+/// the commit row, once however many there are. A vote READ or NO, an abort, and what a store refuses count for nothing.
 #[derive(Clone, Copy, Debug, PartialEq, Eq)]
 pub struct Traffic {
     /// The letters that came to a machine, one that was let go or that stopped the database too.

@@ -11,6 +11,8 @@ use Rattle.world.proofs.ListDelivering.{moved_waits}
 use Rattle.world.proofs.ListVain.{all_goes}
 use Rattle.world.proofs.Leaves.{leaves_into, leaves_so}
 use Rattle.world.proofs.Stops.{call_since}
+use Rattle.world.proofs.NoNext.{err_as, never_next}
+use Rattle.desk.specs.declared.refusal.Refusal.TheVariants.{NoNext}
 use Rattle.world.proofs.refragmentation.announce.Goals as goal
 
 pub returns-in-Ok-clause-leaves : goal.returns-in-Ok-clause-leaves
@@ -36,3 +38,9 @@ returns-in-Ok-clause-lists g c =
 
 pub returns-in-Err-clause-lists : goal.returns-in-Err-clause-lists
 returns-in-Err-clause-lists g c = unmoved_lists g.D.DeskStore.is_clean g.S.SiteStore.is_clean g.D.DeskStore.is_sound g.S.SiteStore.is_sound g.D.DeskStore.kept g.S.SiteStore.kept g.D.DeskStore.refused g.S.SiteStore.refused c.args.text.now (λ (heard : Vec Notice). heard.items) c.in-Err.refusal c.args.machines.now c.refragment.new.self (λ db listed stands fit. c.in-Err.ensures.told db listed.base.of_catalogue stands.here fit.desk) c.in-Err.ensures.err c.refragment.ensures.leaves.catalog c.refragment.ensures.leaves.later
+
+pub returns-in-Ok-clause-finds_none : goal.returns-in-Ok-clause-finds_none
+returns-in-Ok-clause-finds_none g c = λ none. never_next c.deliver_all.result c.deliver_all.ensures.own none
+
+pub returns-in-Err-clause-finds_none : goal.returns-in-Err-clause-finds_none
+returns-in-Err-clause-finds_none g c = λ none. c.in-Err.ensures.finds_none (err_as c.in-Err.refusal NoNext none)

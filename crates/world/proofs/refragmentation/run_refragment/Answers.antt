@@ -1,5 +1,7 @@
 -- Why `run_refragment` meets its contract.
-use Rattle.std.proofs.Common.{◌≡◌, ◌≢◌, ◌∷◌, ◌++◌, [], refl, sym, subst, Some, slice_get, Ok, Err, IfOk}
+use Rattle.std.proofs.Common.{◌≡◌, ◌≢◌, ◌∷◌, ◌++◌, ◌∙◌, [], inl, length, refl, sym, subst, Some, slice_get, Ok, Err, IfOk}
+use Rattle.std.proofs.lemmas.Bool.{eqb-true}
+use Rattle.std.proofs.lemmas.List.{nil_from_length}
 use Rattle.std.specs.Option.{option_map}
 use Rattle.store.specs.declared.name.Txn.{Txn}
 use Rattle.std.specs.Global.{Vec}
@@ -11,6 +13,7 @@ use Rattle.world.specs.Course.{Refragments}
 use Rattle.world.proofs.ListCalls.{makes_as, makes_then}
 use Rattle.world.proofs.Leaves.{database_still, leaves_then}
 use Rattle.world.proofs.Stops.{call_since}
+use Rattle.world.proofs.NoNext.{never_decided}
 use Rattle.world.proofs.refragmentation.run_refragment.Goals as goal
 
 pub returns-in-Ok-clause-leaves : goal.returns-in-Ok-clause-leaves
@@ -44,3 +47,17 @@ returns-in-Err-clause-lists g c = λ some db whole past listed stands clean soun
           (λ moves is. subst (λ ms. IsRefragmented c.args.text.now ms (Err c.in-Err.refusal)) (sym is.0) (refl, refl)) said.0,
       said.1,
     )
+
+pub returns-then-is_empty-clause-finds_none : goal.returns-then-is_empty-clause-finds_none
+returns-then-is_empty-clause-finds_none g c = λ db whole past listed stands clean sound served. ((λ none. inl (sym c.later.ensures ∙ nil_from_length c.later.result.now (eqb-true (length c.later.result.now) 0 (sym c.is_empty.ensures ∙ c.if-is_empty.true)))), stands)
+
+pub returns-in-Err-clause-finds_none : goal.returns-in-Err-clause-finds_none
+returns-in-Err-clause-finds_none g c = λ db whole past listed stands clean sound served. (c.in-Err.ensures.finds_none, (c.in-Err.ensures.lists db whole past listed stands clean sound served).1)
+
+pub returns-in-Ok-clause-finds_none : goal.returns-in-Ok-clause-finds_none
+returns-in-Ok-clause-finds_none g c = λ db whole past listed stands clean sound served.
+    let view = counted g.D.DeskStore.kept g.S.SiteStore.kept g.D.DeskStore.refused g.S.SiteStore.refused in
+    let clean_mid = c.conclude.ensures.leaves.clean clean in
+    let said = c.in-Ok.ensures.lists db whole past listed stands clean_mid sound served in
+    let more = c.conclude.ensures.lists said.0.is.1 db whole (past ++ said.0.deeds) listed said.1 clean (c.announce.ensures.leaves.sound clean_mid sound) said.0.served in
+    (never_decided db whole (view c.conclude.new.machines) (past ++ said.0.deeds) c.in-Ok.heard.items (λ heard. heard.items) (λ txn. option_map (λ notice. notice.txn) (slice_get c.in-Ok.heard.items 0) ≡ Some txn) c.conclude.result more.0, more.1)

@@ -1,5 +1,5 @@
 -- Why `refragment` meets its contract.
-use Rattle.std.proofs.Common.{◌∷◌, ◌∙◌, rules, sym, ap}
+use Rattle.std.proofs.Common.{◌∷◌, ◌∙◌, inr, rules, sym, ap}
 use Rattle.catalog.specs.FragmentLeaf.{schemas_of}
 use Rattle.catalog.specs.Relation.{catalogue_of}
 use Rattle.desk.specs.State.{volatile_of}
@@ -41,3 +41,6 @@ returns-clause-lists g c = λ db of stands fit.
       list_moved db before (g.D.DeskStore.kept new.store) (volatile_of new.volatile) new.later.items (λ none. some (sym asked.plainly.later ∙ none)) c.args.text.now out.letters out.replies fit by,
       stands_by_store db g.D.DeskStore.kept old new asked.plainly.store asked.plainly.catalog asked.plainly.later fit.desk by.does.fits stands,
     )) asked.next (asked.ok db of stands.here (first_next db old.volatile.version old.later.items stands.next) fit.desk)
+
+pub returns-clause-finds_none : goal.returns-clause-finds_none
+returns-clause-finds_none g c = λ none. inr (c.refragment.ensures.refragments.none none)

@@ -1,6 +1,6 @@
 -- Why `command` meets its contract.
-use Rattle.std.proofs.Common.{◌∙◌, List, ap, subst, sym, ℕ, inl, inr, ⊎_elim, Err}
-use Rattle.reader.specs.declared.command.Command.TheVariants.{Begin, Commit, Rollback}
+use Rattle.std.proofs.Common.{◌≡◌, ◌∙◌, List, ap, subst, sym, ℕ, inl, inr, ⊎_elim, Err}
+use Rattle.reader.specs.declared.command.Command.TheVariants.{Begin, Commit, Rollback, Run}
 use Rattle.world.specs.Contents.{counted}
 use Rattle.world.specs.Commands.{IsUnreadable}
 use Rattle.world.specs.Contents.{OfStores}
@@ -12,6 +12,8 @@ use Rattle.catalog.specs.declared.relation.SplitRelation.{SplitRelation}
 use Rattle.catalog.specs.FragmentLeaf.{schemas_of}
 use Rattle.catalog.specs.Relation.{catalogue_of}
 use Rattle.world.proofs.Stops.{unreadable_stops}
+use Rattle.desk.specs.declared.refusal.Refusal.TheVariants.{Memory, NoNext}
+use Rattle.world.proofs.NoNext.{err_is}
 use Rattle.world.proofs.solo.Solo.command.Goals as goal
 
 pub returns-in-Ok-clause-comes : goal.returns-in-Ok-clause-comes
@@ -62,3 +64,15 @@ returns-in-Ok-clause-reader_refusal g c = λ none.
 
 pub returns-in-Err-clause-reader_refusal : goal.returns-in-Err-clause-reader_refusal
 returns-in-Err-clause-reader_refusal g c = λ none. (tt, subst (λ (schemas : List RelationSchema). IsUnreadable schemas c.args.text.now c.in-Err.refusal) (ap (λ (x : List (List ℕ) × List SplitRelation). schemas_of (catalogue_of x)) c.catalog.ensures) c.in-Err.ensures.reader_refusal)
+
+pub returns-in-Ok-clause-finds_none : goal.returns-in-Ok-clause-finds_none
+returns-in-Ok-clause-finds_none g c = λ statement none spelled moves.
+    let schemas = schemas_of (catalogue_of c.args.self.now.machines.desk.catalog) in
+    let here : IsTextOf schemas c.args.text.now c.in-Ok.command = subst (λ (schemas : List RelationSchema). IsTextOf schemas c.args.text.now c.in-Ok.command) (ap (λ (x : List (List ℕ) × List SplitRelation). schemas_of (catalogue_of x)) c.catalog.ensures) c.in-Ok.ensures.read in
+    c.obey.ensures.finds_none statement none (c.one_command.ensures schemas c.args.text.now c.in-Ok.command (Run statement) here spelled) moves
+
+pub returns-in-Err-clause-finds_none : goal.returns-in-Err-clause-finds_none
+returns-in-Err-clause-finds_none g c = λ statement none spelled moves db whole past listed stands clean sound served.
+    let schemas = schemas_of (catalogue_of c.args.self.now.machines.desk.catalog) in
+    let memory = only_memory schemas c.args.text.now c.in-Err.refusal (subst (λ (schemas : List RelationSchema). IsUnreadable schemas c.args.text.now c.in-Err.refusal) (ap (λ (x : List (List ℕ) × List SplitRelation). schemas_of (catalogue_of x)) c.catalog.ensures) c.in-Err.ensures.reader_refusal) (Run statement) spelled in
+    ((λ next. (let e : Memory ≡ NoNext = sym memory ∙ err_is c.in-Err.refusal NoNext next in absurd (cc))), stands)

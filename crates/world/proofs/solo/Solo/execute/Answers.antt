@@ -65,3 +65,6 @@ returns-clause-served_lists g c = λ db whole past listed stands clean sound ser
 
 pub returns-in-Some-clause-served_lists : goal.returns-in-Some-clause-served_lists
 returns-in-Some-clause-served_lists g c = λ db whole past listed stands clean sound served. (served_still db whole (counted g.D.DeskStore.kept g.S.SiteStore.kept g.D.DeskStore.refused g.S.SiteStore.refused c.args.self.now.machines) past served, stands)
+
+pub returns-clause-finds_none : goal.returns-clause-finds_none
+returns-clause-finds_none g c = λ statement going none spelled moves. c.command-done.ensures.finds_none statement none spelled moves

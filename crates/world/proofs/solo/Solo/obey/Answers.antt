@@ -1,8 +1,11 @@
 -- Why `obey` meets its contract.
 use Rattle.reader.specs.Command.{IsTextOf}
-use Rattle.std.proofs.Common.{subst}
+use Rattle.std.proofs.Common.{◌≡◌, ◌∙◌, sym, subst, true}
 use Rattle.world.proofs.Calls.{narrowed}
 use Rattle.world.specs.Contents.{OfStores, counted}
+use Rattle.meaning.specs.declared.statement.Statement.{Statement}
+use Rattle.meaning.specs.Statement.{is_refragment}
+use Rattle.reader.specs.declared.command.Command.TheVariants.{Begin, Commit, Rollback, Run}
 use Rattle.world.proofs.solo.Solo.obey.Goals as goal
 
 pub returns-in-Begin-clause-comes : goal.returns-in-Begin-clause-comes
@@ -36,3 +39,15 @@ returns-in-Run-clause-comes g c =
     let view = counted g.D.DeskStore.kept g.S.SiteStore.kept g.D.DeskStore.refused g.S.SiteStore.refused in
     let old = c.args.self.now.machines in
     narrowed clean sound view old c.states.new.self.machines c.states.result (λ db moves so spelled. so (subst (IsTextOf db.schemas c.args.text.now) c.in-Run.is spelled)) c.states.ensures.comes
+
+pub returns-in-Begin-clause-finds_none : goal.returns-in-Begin-clause-finds_none
+returns-in-Begin-clause-finds_none g c = λ statement none is. (let e : Begin ≡ Run statement = sym c.in-Begin.is ∙ is in absurd (cc))
+
+pub returns-in-Commit-clause-finds_none : goal.returns-in-Commit-clause-finds_none
+returns-in-Commit-clause-finds_none g c = λ statement none is. (let e : Commit ≡ Run statement = sym c.in-Commit.is ∙ is in absurd (cc))
+
+pub returns-in-Rollback-clause-finds_none : goal.returns-in-Rollback-clause-finds_none
+returns-in-Rollback-clause-finds_none g c = λ statement none is. (let e : Rollback ≡ Run statement = sym c.in-Rollback.is ∙ is in absurd (cc))
+
+pub returns-in-Run-clause-finds_none : goal.returns-in-Run-clause-finds_none
+returns-in-Run-clause-finds_none g c = λ statement none is moves. c.states.ensures.finds_none none (subst (λ (s : Statement). is_refragment s ≡ true) (let e : Run statement ≡ Run c.in-Run.statement = sym is ∙ c.in-Run.is in cc) moves)

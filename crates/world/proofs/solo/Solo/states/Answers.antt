@@ -1,5 +1,5 @@
 -- Why `states` meets its contract.
-use Rattle.std.proofs.Common.{refl, sym, subst, ◌∙◌, inr}
+use Rattle.std.proofs.Common.{◌≡◌, Some, None, refl, sym, subst, ◌∙◌, inr}
 use Rattle.world.proofs.Calls.{as_kind, is_refragmented, lone_command}
 use Rattle.world.specs.Client.{still_open}
 use Rattle.world.specs.Commands.{is_turned_down, only_states}
@@ -7,6 +7,7 @@ use Rattle.world.specs.Contents.{OfStores, counted}
 use Rattle.world.specs.Course.{IsOne, States}
 use Rattle.world.specs.Frame.{ComesTo}
 use Rattle.world.specs.declared.event.Call.TheVariants as call
+use Rattle.protocol.proofs.Basics.{clash}
 use Rattle.world.proofs.solo.Solo.states.Goals as goal
 
 pub returns-in-Ok-clause-comes : goal.returns-in-Ok-clause-comes
@@ -51,3 +52,15 @@ returns-in_default-clause-comes g c =
     let old = c.args.self.now.machines in
     let new = c.run_autocommit.new.machines in
     lone_command clean sound view old new c.run_autocommit.result c.args.text.now c.args.self.now.current c.args.statement.now (sym c.is_refragment.ensures ∙ c.if-is_refragment.false) c.in_default.is c.run_autocommit.ensures
+
+pub returns-then-is_refragment-clause-finds_none : goal.returns-then-is_refragment-clause-finds_none
+returns-then-is_refragment-clause-finds_none g c = λ none moves. c.run_refragment.ensures.finds_none
+
+pub returns-in_default-clause-finds_none : goal.returns-in_default-clause-finds_none
+returns-in_default-clause-finds_none g c = λ none moves. clash moves (sym c.is_refragment.ensures ∙ c.if-is_refragment.false)
+
+pub returns-in-Ok-clause-finds_none : goal.returns-in-Ok-clause-finds_none
+returns-in-Ok-clause-finds_none g c = λ none. (let e : Some c.in-Some.txn ≡ None = sym c.in-Some.is ∙ none in absurd (cc))
+
+pub returns-in-Err-clause-finds_none : goal.returns-in-Err-clause-finds_none
+returns-in-Err-clause-finds_none g c = λ none. (let e : Some c.in-Some.txn ≡ None = sym c.in-Some.is ∙ none in absurd (cc))
