@@ -23,6 +23,7 @@ pub mod Finding
 pub mod Creating
 pub mod Naming
 pub mod Scanning
+pub mod Ascending
 pub mod Ours
 pub mod Whole
 pub mod Rising

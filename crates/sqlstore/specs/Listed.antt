@@ -1,5 +1,5 @@
 -- Parts as the rows that a query shows, with a row's number first.
-use Rattle.std.specs.Prelude.{◌≡◌, ℕ, ℤ, List, [], ◌∷◌, Option, Some, None}
+use Rattle.std.specs.Prelude.{◌≡◌, ℕ, ℤ, List, [], ◌∷◌, Option, Some, None, if◌then◌else◌}
 use Rattle.std.specs.FinMap as map
 use Rattle.sqlite.specs.Order.{Row, column}
 use Rattle.sqlite.specs.Term.{Term, col}
@@ -8,8 +8,9 @@ use Rattle.store.specs.Content.{Changes}
 use Rattle.store.specs.Slot.{slot_of}
 use Rattle.terms.specs.declared.leaf.Leaf.{Leaf}
 use Rattle.terms.specs.declared.value.Value.{Value}
+use Rattle.terms.specs.Row.{key_of}
 use Rattle.sqlstore.specs.Cells.{text_at, int_at}
-use Rattle.sqlstore.specs.Content.{decoded, leaf_named}
+use Rattle.sqlstore.specs.Content.{decoded, leaf_named, is_called}
 use Rattle.sqlstore.specs.Rows.{Finds}
 use Rattle.sqlstore.specs.Tests.{passes, shown, of_leaf}
 
@@ -35,6 +36,16 @@ with_row leaves row changes = with_part (leaf_named leaves (text_at row 1)) (int
 abbrev pub with_rows : List Leaf → List Row → Changes → Changes
 with_rows leaves [] changes = changes
 with_rows leaves (row ∷ rows) changes = with_rows leaves rows (with_row leaves row changes)
+
+-- the parts of a leaf among rows, each with its row's key
+abbrev pub entries_in : List Leaf → Leaf → List Row → List (ℤ × List Value)
+entries_in leaves leaf [] = []
+entries_in leaves leaf (row ∷ rows) = if is_called leaves leaf (text_at row 1) then (int_at row 2, decoded (text_at row 3)) ∷ entries_in leaves leaf rows else entries_in leaves leaf rows
+
+-- parts, each with its key
+abbrev pub with_keys : List (List Value) → List (ℤ × List Value)
+with_keys [] = []
+with_keys (part ∷ parts) = (key_of part, part) ∷ with_keys parts
 
 -- the rows of a leaf
 abbrev pub AreRowsOf : List ℕ → List Row → List Row → Type 0

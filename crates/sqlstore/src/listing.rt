@@ -1,16 +1,18 @@
 //! Parts from rows.
 
-ghost use Rattle.std.specs.Prelude.{◌≡◌, ◌≢◌, IfOk, OnOk, Ok, Err, MatchOption, None, Some};
+ghost use Rattle.std.specs.Prelude.{◌≡◌, ◌≢◌, ◌++◌, ◌∷◌, [], if◌then◌else◌, IfOk, IfSome, OnOk, Ok, Err, IsTrue, MatchOption, None, Some, T};
 ghost use Rattle.std.specs.FinMap as map;
+ghost use Rattle.std.specs.FinMap.Entries.{is_sorted};
 ghost use Rattle.std.specs.List.{AllByRecursion};
+ghost use Rattle.std.specs.Ordering.{int_cmp, is_eq, is_lt};
 ghost use Rattle.store.specs.declared.fault.StoreFault.TheVariants.{Refused, Damaged};
 ghost use Rattle.store.specs.Content.{made_by, parts};
-ghost use Rattle.terms.specs.Leaf.{leaf_text};
+ghost use Rattle.terms.specs.Leaf.{leaf_cmp, leaf_text};
 ghost use Rattle.terms.specs.Row.{key_of};
 ghost use Rattle.terms.specs.Stored.{part_from};
 ghost use Rattle.sqlstore.specs.Cells.{text_at, int_at, is_text};
 ghost use Rattle.sqlstore.specs.Content.{leaf_named};
-ghost use Rattle.sqlstore.specs.Listed.{HasCells, with_row, with_rows};
+ghost use Rattle.sqlstore.specs.Listed.{HasCells, entries_in, with_keys, with_row, with_rows};
 ghost use Rattle.sqlstore.specs.Sound.{IsPart};
 ghost use Rattle.sqlstore.specs.Frame.{FailsUnless};
 
@@ -118,6 +120,93 @@ pub fn changes_of(alloc: Global, leaves: &[Leaf], rows: &[Row]) -> Result<Change
     Ok(changes)
 }
 
+/// Puts a part behind others, where its own leaf is this one.
+fn push_own(parts: &mut Vec<Part>, leaf: &Leaf, own: &Leaf, part: Part) -> Result<(), Memory>
+    ensures { OnOk result (parts.new.items ≡ parts.old.items ++ (if is_eq (leaf_cmp leaf.now own.now) then part ∷ [] else [])) }
+{
+    if leaf.cmp(own).is_eq() {
+        parts.push(part)?;
+    }
+    Ok(())
+}
+
+/// The parts of a leaf among rows, in the order of the rows.
+fn parts_among(
+    alloc: Global,
+    leaves: &[Leaf],
+    leaf: &Leaf,
+    rows: &[Row],
+) -> Result<Vec<Part>, StoreFault>
+    ensures parts { IfOk result (λ found. with_keys found.items ≡ entries_in leaves.now leaf.now rows.now) }
+    ensures fails { FailsUnless (AllByRecursion HasCells rows.now × AllByRecursion (IsPart leaves.now) rows.now) result }
+{
+    let mut parts = Vec::new(alloc);
+    for row in rows {
+        let (own, part) = match part_row(alloc, leaves, row) {
+            Ok(found) => found,
+            Err(fault) => return Err(fault),
+        };
+        push_own(&mut parts, leaf, own, part)?;
+    }
+    Ok(parts)
+}
+
+/// Whether a part's key is below the least one, if there is one.
+fn is_below(part: &Part, least: Option<i64>) -> bool
+    ensures { IsTrue result → IfSome least (λ above. T (is_lt (int_cmp (key_of part.now) above))) }
+{
+    let key = part.key();
+    match least {
+        Some(above) => key.cmp(&above).is_lt(),
+        None => true,
+    }
+}
+
+/// Whether each key is above the one before it.
+fn keys_rise(parts: &[Part]) -> bool
+    ensures { IsTrue result → T (is_sorted int_cmp (with_keys parts.now)) }
+{
+    let mut at = parts.len();
+    let mut least = None;
+    while at > 0 {
+        at -= 1;
+        let part = &parts[at];
+        if !is_below(part, least) {
+            return false;
+        }
+        least = Some(part.key());
+    }
+    true
+}
+
+/// The parts that rows make of nothing in a leaf, in the order of their keys. An index gives them in that order, so they are put in
+/// order only where it didn't.
+fn parts_in_order(
+    alloc: Global,
+    leaves: &[Leaf],
+    leaf: &Leaf,
+    rows: &[Row],
+) -> Result<Vec<Part>, StoreFault>
+    ensures parts { IfOk result (λ found. found.items ≡ map.values (made_by (with_rows leaves.now rows.now map.empty) leaf.now)) }
+    ensures fails { FailsUnless (AllByRecursion HasCells rows.now × AllByRecursion (IsPart leaves.now) rows.now) result }
+{
+    let parts = match parts_among(alloc, leaves, leaf, rows) {
+        Ok(parts) => parts,
+        Err(fault) => return Err(fault),
+    };
+    if keys_rise(&parts) {
+        return Ok(parts);
+    }
+    let changes = match changes_of(alloc, leaves, rows) {
+        Ok(changes) => changes,
+        Err(fault) => return Err(fault),
+    };
+    match changes.list(leaf) {
+        Ok(parts) => Ok(parts),
+        Err(_) => Err(StoreFault::Memory),
+    }
+}
+
 /// The parts that rows make of nothing in a leaf, of those that meet conditions, in the order of their keys.
 pub fn parts_meeting(
     alloc: Global,
@@ -129,12 +218,9 @@ pub fn parts_meeting(
     ensures parts { IfOk result (λ found. found.items ≡ parts conds.now (made_by (with_rows leaves.now rows.now map.empty) leaf.now)) }
     ensures fails { FailsUnless (AllByRecursion HasCells rows.now × AllByRecursion (IsPart leaves.now) rows.now) result }
 {
-    let changes = match changes_of(alloc, leaves, rows) {
-        Ok(changes) => changes,
+    let mut parts = match parts_in_order(alloc, leaves, leaf, rows) {
+        Ok(parts) => parts,
         Err(fault) => return Err(fault),
-    };
-    let Ok(mut parts) = changes.list(leaf) else {
-        return Err(StoreFault::Memory);
     };
     parts.retain(|part| part.meets(conds.as_slice()));
     Ok(parts)

@@ -1,11 +1,9 @@
 use Rattle.std.proofs.Common.{rules, ap, ◌∙◌, filter}
-use Rattle.std.specs.FinMap as map
 use Rattle.std.proofs.lemmas.Fn.{filter_same}
-use Rattle.store.specs.Content.{Changes, made_by}
 use Rattle.terms.specs.Cond.{conds_hold}
 use Rattle.sqlstore.proofs.listing.parts_meeting.Goals as goal
 
 pub returns-clause-parts : goal.returns-clause-parts
 returns-clause-parts c =
     filter_same _ (conds_hold c.args.conds.now) _ (λ x b f' k. search rules) _ _ c.retain.ensures.filtered
-    ∙ ap (filter (conds_hold c.args.conds.now)) (c.in-Ok-list.ensures ∙ ap (λ (changes : Changes). map.values (made_by changes c.args.leaf.now)) c.in-Ok.ensures.ok.0)
+    ∙ ap (filter (conds_hold c.args.conds.now)) c.in-Ok.ensures.parts
