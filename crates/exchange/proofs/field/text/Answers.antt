@@ -8,4 +8,4 @@ returns-in_default c = no_text c.args.field.now (omega arith) c.in_default.ensur
 
 pub returns : goal.returns
 returns c =
-    ap Ok (c.new.ensures ∙ c.in_ok-from_str.ensures.ok ∙ c.in-Ok.ensures.cases.0) ∙ sym (text_is c.args.field.now (omega arith) c.in-Ok.ensures.cases.1 (sym c.has_control.ensures ∙ c.if-has_control.false))
+    ap Ok (c.in_ok-copy_of.ensures ∙ c.in-Ok.ensures.cases.0) ∙ sym (text_is c.args.field.now (omega arith) c.in-Ok.ensures.cases.1 (sym c.has_control.ensures ∙ c.if-has_control.false))
