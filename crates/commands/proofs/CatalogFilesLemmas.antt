@@ -1,5 +1,5 @@
 -- Lemmas on the catalogues of files.
-use Rattle.std.proofs.Common.{◌≡◌, ◌∷◌, ◌++◌, ℕ, Bor, List, [], Option, None, Some, Result, Ok, Err, IfErr, IfOk, IfSome, inl, inr, map, refl, subst}
+use Rattle.std.proofs.Common.{◌≡◌, ◌<◌, ◌∷◌, ◌++◌, ℕ, Bor, List, [], Option, None, Some, Result, Ok, Err, IfErr, IfOk, IfSome, arith, inl, inr, length, map, refl, subst}
 use Rattle.catalog.specs.declared.relation.SplitRelation.{SplitRelation}
 use Rattle.catalog.specs.Catalogue.{Catalogue}
 use Rattle.catalog.specs.Relation.{catalogue_of}
@@ -10,7 +10,7 @@ use Rattle.lines.specs.declared.fault.ProgramFault.TheVariants.{Memory}
 use Rattle.lines.specs.CatalogFile as file
 use Rattle.lines.specs.Input.{IsOfInput}
 use Rattle.commands.specs.declared.catalog_files.ChainFault.{ChainFault}
-use Rattle.commands.specs.declared.catalog_files.ChainFault.TheVariants.{Program}
+use Rattle.commands.specs.declared.catalog_files.ChainFault.TheVariants.{Program, Unchained}
 use Rattle.commands.specs.declared.catalog_files.Source.{Source}
 use Rattle.commands.specs.CatalogFiles.{DoesOver, GivesCatalogues, GivesChain, IsFaultOf, IsSourceOf, fault_of_catalogue, IsUnopened}
 use Rattle.commands.proofs.SoloLemmas.{Keeps-same}
@@ -120,3 +120,8 @@ module _ {C : Type 0} (remaining : C → Option (List ℕ)) where
   pub told_unopened : {R E T : Type 0} (known : Option (List ℕ)) (input : Result R E) (file script : Bor (List ℕ)) (sources : List (Source C)) (chain : List (List (List ℕ) × List SplitRelation)) (old new : Option (List ℕ)) (fault : ProgramFault) (result : Result T ChainFault) → result ≡ Err (Program fault) → IfSome known (λ bytes. GivesCatalogues remaining file bytes sources (Ok chain)) →
       IfErr input (λ error. IsOfInput script fault) → IfErr input (λ error. IfSome known (λ bytes. DoesOver remaining file bytes sources old new (λ catalogues. IsUnopened script) result))
   told_unopened {T = T} known input file script sources chain old new fault result told gives of = rw told (unopened T known input file script sources chain old new fault gives of)
+
+  -- one catalogue is a chain, so others come next where there is none
+  pub some_next : (catalogue : Catalogue) (sources : List (Source C)) (result : Result (List (List (List ℕ) × List SplitRelation)) ChainFault) → GivesChain remaining (catalogue ∷ []) sources result → result ≡ Err Unchained → 0 < length sources
+  some_next catalogue [] result gives none = absurd (subst (GivesChain remaining (catalogue ∷ []) []) none gives tt)
+  some_next catalogue (source ∷ sources) result gives none = omega arith

@@ -27,12 +27,10 @@ use Rattle.lines.specs.declared.reply.Reply as replies
 use Rattle.lines.specs.PlayText.{refused_text}
 use Rattle.lines.specs.Reply.{Answered, Refused, Told, told_by}
 use Rattle.commands.specs.Client.{AnswersTask, GoesOn, IsAnswered, IsDone, Seen, CountsLeafAs, ShowsLeafAs, Standing, StandsStill, heard_text, standing_of}
-use Rattle.std.specs.Io.KnownBytes.{Appends}
-use Rattle.lines.specs.declared.fault.ProgramFault.{ProgramFault}
 use Rattle.commands.specs.Origin.{Begins, BeginsWith, IsBegun, Origin}
 use Rattle.lines.specs.Script.{CountsLeaf, DumpsRelation, Nothing, Reading, Runs, ShowsLeaf, ShowsRelation, Unreadable}
 use Rattle.commands.specs.Shown.{written_leaf}
-use Rattle.commands.specs.Solo.{AnswersTasks, IsRun, IsRunFrom, IsStretch, Stretches, said_by, said_by_tasks}
+use Rattle.commands.specs.Solo.{AnswersTasks, IsRun, IsRunFrom, IsStretch, said_by, said_by_tasks}
 
 -- machines without the count of refusals
 abbrev pub uncounted : Machines → Machines
@@ -218,11 +216,3 @@ run_from seen IsOrigin mode catalogue tasks written any_refused opened ended fre
   ended = ended;
   ran = run_over seen mode catalogue fresh.0 tasks written any_refused opened ended fresh.2 law was_clean works;
 }
-
--- tasks over a database that was opened have run
-pub ran_from : {B : Type 0} (seen : Seen B) (IsOrigin : Origin → Type 0) (mode : Mode) (old new : Option (List ℕ)) (catalogue : Catalogue) (tasks : List Reading) (opened ended : B) (result : Result Bool ProgramFault) → Begins seen IsOrigin catalogue opened → MovesFollow (database catalogue) →
-    (seen.is_clean ended → seen.is_clean opened) → IfOk result (Stretches seen mode tasks old new opened ended) →
-    IfOk result (λ any_refused. (written : List ℕ) × Appends old new written × IsRun seen IsOrigin mode catalogue tasks written any_refused)
-ran_from seen IsOrigin mode old new catalogue tasks opened ended (Ok any_refused) fresh law was_clean works =
-    (works.written, works.told, run_from seen IsOrigin mode catalogue tasks works.written any_refused opened ended fresh law was_clean (λ whole past clean h. works.ran catalogue whole past clean h))
-ran_from seen IsOrigin mode old new catalogue tasks opened ended (Err fault) fresh law was_clean works = tt

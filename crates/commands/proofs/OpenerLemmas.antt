@@ -1,13 +1,9 @@
 -- Lemmas on databases that are opened.
-use Rattle.std.proofs.Common.{◌≡◌, ◌∷◌, ℕ, List, [], ap, inl, inr, map, refl, sym, ◌∙◌}
+use Rattle.std.proofs.Common.{◌≡◌, ◌∷◌, ℕ, List, [], ap, inl, map, sym, ◌∙◌}
 use Rattle.catalog.specs.declared.relation.SplitRelation.{SplitRelation}
 use Rattle.catalog.specs.Catalogue.{Catalogue}
 use Rattle.catalog.specs.Relation.{catalogue_of}
-use Rattle.store.specs.declared.fault.StoreFault.TheVariants.{Damaged}
-use Rattle.commands.specs.declared.catalog_files.ChainFault.{ChainFault}
-use Rattle.commands.specs.declared.catalog_files.ChainFault.TheVariants.{Program, Refused, Unchained}
-use Rattle.commands.specs.CatalogFiles.{IsOfOpening, fault_alone}
-use Rattle.commands.specs.Client.{IsOfClient, Seen}
+use Rattle.commands.specs.Client.{Seen}
 use Rattle.commands.specs.Origin.{Begins, BeginsOver, IsLastOf, Kept, New, Origin}
 
 -- the first of a chain is this catalogue
@@ -16,12 +12,6 @@ first_one chain first rest catalogue later is one =
     let both : catalogue_of first ∷ map catalogue_of rest ≡ catalogue ∷ later = ap (map catalogue_of) (sym is) ∙ one in
     let same : catalogue_of first ≡ catalogue = cc in
     same
-
--- a fault of a database of one catalogue
-pub alone_of_client : (fault : ChainFault) → IsOfOpening fault → IsOfClient (fault_alone fault)
-alone_of_client (Program fault) why = why
-alone_of_client (Refused fault) why = absurd why
-alone_of_client Unchained why = inr (Damaged, refl)
 
 -- the only catalogue is the last one
 pub last_alone : (catalogues : List Catalogue) (origin : Origin) (catalogue : Catalogue) → catalogues ≡ catalogue ∷ [] → IsLastOf catalogues origin catalogue

@@ -1,9 +1,10 @@
 -- Lemmas on what the program does of a request.
-use Rattle.std.proofs.Common.{◌≡◌, ℕ, Bool, true, List, Option, Some, None, Result, Ok, Err, IfErr, IfOk, IfSome, is_err, subst, sym}
-use Rattle.lines.specs.declared.catalog_file.CatalogFault.{CatalogFault}
-use Rattle.lines.specs.declared.catalog_file.CatalogFault.TheVariants.{Program, Refused}
+use Rattle.std.proofs.Common.{◌≡◌, ◌<◌, ℕ, Bool, true, List, Option, Some, None, Result, Ok, Err, IfErr, IfOk, IfSome, ap, is_err, length, refl, subst, sym}
+use Rattle.commands.specs.declared.catalog_files.ChainFault.{ChainFault}
+use Rattle.commands.specs.declared.catalog_files.ChainFault.TheVariants.{Program, Refused, Unchained}
+use Rattle.commands.specs.declared.catalog_files.Source.{Source}
 use Rattle.lines.specs.declared.outcome.Outcome.{Outcome}
-use Rattle.commands.specs.Perform.{ComesTo, IsStopped, outcome_of_check, outcome_of_script}
+use Rattle.commands.specs.Perform.{ComesTo, IsStopped, outcome_of_end, outcome_of_fault, outcome_of_script}
 
 -- a command came to this end of a file
 pub came_to_once : {End : Type 0} (known : Option (List ℕ)) (outcome_of : End → Outcome) (Ends : List ℕ → End → Type 0) (end : End) (outcome : Outcome) → outcome ≡ outcome_of end → IfSome known (λ bytes. Ends bytes end) → IfSome known (λ bytes. ComesTo outcome_of (Ends bytes) outcome)
@@ -25,17 +26,20 @@ came_idle (Some bytes) (Ok reader) outcome_of Ends end outcome is ended = tt
 came_idle (Some bytes) (Err error) outcome_of Ends end outcome is ended = record { end = end; ended = ended; is = is }
 
 -- a script that did not end well is stopped
-pub stopped_script : (end : Result Bool CatalogFault) (outcome : Outcome) → outcome ≡ outcome_of_script end → is_err end ≡ true → IsStopped outcome
-stopped_script (Ok any_refused) outcome is failed = absurd (cc)
-stopped_script (Err (Refused fault)) outcome is failed = subst IsStopped (sym is) tt
-stopped_script (Err (Program fault)) outcome is failed = subst IsStopped (sym is) tt
+stopped_by : {C : Type 0} (next : List (Source C)) (fault : ChainFault) → (fault ≡ Unchained → 0 < length next) → IsStopped next (outcome_of_fault fault)
+stopped_by next (Program fault) several = tt
+stopped_by next (Refused fault) several = tt
+stopped_by next Unchained several = several refl
 
-pub stopped_play : (end : Result Unit CatalogFault) (outcome : Outcome) → outcome ≡ outcome_of_check end → is_err end ≡ true → IsStopped outcome
-stopped_play (Ok done) outcome is failed = absurd (cc)
-stopped_play (Err (Refused fault)) outcome is failed = subst IsStopped (sym is) tt
-stopped_play (Err (Program fault)) outcome is failed = subst IsStopped (sym is) tt
+pub stopped_script : {C : Type 0} (next : List (Source C)) (end : Result Bool ChainFault) (outcome : Outcome) → outcome ≡ outcome_of_script end → is_err end ≡ true → (end ≡ Err Unchained → 0 < length next) → IsStopped next outcome
+stopped_script next (Ok any_refused) outcome is failed several = absurd (cc)
+stopped_script next (Err fault) outcome is failed several = subst (IsStopped next) (sym is) (stopped_by next fault (λ same. several (ap Err same)))
+
+pub stopped_end : {C : Type 0} (next : List (Source C)) (end : Result Unit ChainFault) (outcome : Outcome) → outcome ≡ outcome_of_end end → is_err end ≡ true → (end ≡ Err Unchained → 0 < length next) → IsStopped next outcome
+stopped_end next (Ok done) outcome is failed several = absurd (cc)
+stopped_end next (Err fault) outcome is failed several = subst (IsStopped next) (sym is) (stopped_by next fault (λ same. several (ap Err same)))
 
 -- what follows where a file can't be opened
-pub on_err : {R E : Type 0} (A B K : Type 0) (input : Result R E) → (A → B) → IfErr input (λ error. A × K) → IfErr input (λ error. B × K)
-on_err A B K (Ok reader) follows so = tt
-on_err A B K (Err error) follows so = (follows so.0, so.1)
+pub on_err : {R E : Type 0} (A B C K : Type 0) (input : Result R E) → (A → B → C) → IfErr input (λ error. A × B × K) → IfErr input (λ error. C × K)
+on_err A B C K (Ok reader) follows so = tt
+on_err A B C K (Err error) follows so = (follows so.0 so.1, so.2)

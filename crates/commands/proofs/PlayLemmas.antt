@@ -24,12 +24,14 @@ use Rattle.lines.specs.declared.fault.ProgramFault.TheVariants.{CannotRead, Cann
 use Rattle.lines.specs.declared.play_items.Placed.{Placed}
 use Rattle.lines.specs.declared.play_script.Item.{Item}
 use Rattle.lines.specs.declared.play_script.Item.TheVariants as item
+use Rattle.commands.specs.declared.catalog_files.ChainFault.{ChainFault}
+use Rattle.commands.specs.declared.catalog_files.ChainFault.TheVariants.{Program}
 use Rattle.commands.specs.declared.schedule.Schedule.{Schedule}
 use Rattle.lines.specs.declared.script.ScriptFault.{ScriptFault}
 use Rattle.lines.specs.declared.script.ScriptFault.TheVariants as script
 use Rattle.commands.specs.Client.{IsOfClient}
 use Rattle.lines.specs.Fault.{fault_of_script}
-use Rattle.commands.specs.Play.{EndsOrStops, EndsOrStopsOf, IsSound, Plays, PlaysAll, PlaysItem, PlaysItems, StopsItems}
+use Rattle.commands.specs.Play.{EndsOrStops, EndsOrStopsOf, IsSound, Plays, PlaysAll, PlaysItem, PlaysItems, PlaysOver, PlaysScript, StopsItems}
 use Rattle.lines.specs.PlayItems.{items_of}
 use Rattle.lines.specs.PlayLoad.{IsMalformedAt}
 use Rattle.lines.specs.Input.{IsOfOutput}
@@ -221,3 +223,32 @@ played_of Fails (Some bytes) catalogue file read old new Played result all short
     of_read (Err Memory) h = h
     of_read (Err (Store why)) h = (short, h)
     of_read (Err CannotWrite) h = h
+
+-- what holds of a script that was opened, whichever catalogues a list has, holds of it for all
+over_input : {R E : Type 0} (input : Result R E) (script_of : R → Option (List ℕ)) (P : List ℕ → Catalogue → List Catalogue → Type 0) (catalogues : List Catalogue) →
+    ((first : Catalogue) (rest : List Catalogue) → catalogues ≡ first ∷ rest → IfOk input (λ reader. IfSome (script_of reader) (λ script. P script first rest))) →
+    IfOk input (λ reader. IfSome (script_of reader) (λ script. (first : Catalogue) (rest : List Catalogue) → catalogues ≡ first ∷ rest → P script first rest))
+over_input (Err error) script_of P catalogues holds = tt
+over_input (Ok reader) script_of P catalogues holds = of_known (script_of reader) holds
+  where
+    of_known : (known : Option (List ℕ)) → ((first : Catalogue) (rest : List Catalogue) → catalogues ≡ first ∷ rest → IfSome known (λ script. P script first rest)) → IfSome known (λ script. (first : Catalogue) (rest : List Catalogue) → catalogues ≡ first ∷ rest → P script first rest)
+    of_known None holds = tt
+    of_known (Some script) holds = holds
+
+module _ {D S : Type 0} (worlds : SeenWorld (World D S)) (Fails : StoreFault → Type 0) where
+  -- a script was played to its end over a chain
+  pub played_over : {R E : Type 0} (input : Result R E) (script_of : R → Option (List ℕ)) (file : Bor (List ℕ)) (old new : Option (List ℕ)) (catalogues : List Catalogue) (done : Unit) →
+      ((first : Catalogue) (rest : List Catalogue) → catalogues ≡ first ∷ rest → IfOk input (λ reader. IfSome (script_of reader) (λ script. PlaysScript worlds Fails first rest file script old new (Ok done)))) →
+      IfOk input (λ reader. IfSome (script_of reader) (λ script. PlaysOver worlds Fails file script old new catalogues (Ok done)))
+  played_over input script_of file old new catalogues done plays = over_input input script_of (λ script first rest. PlaysScript worlds Fails first rest file script old new (Ok done)) catalogues plays
+
+  -- or was stopped
+  stopped_play : {R E : Type 0} (input : Result R E) (script_of : R → Option (List ℕ)) (file : Bor (List ℕ)) (old new : Option (List ℕ)) (catalogues : List Catalogue) (fault : ProgramFault) →
+      ((first : Catalogue) (rest : List Catalogue) → catalogues ≡ first ∷ rest → IfOk input (λ reader. IfSome (script_of reader) (λ script. PlaysScript worlds Fails first rest file script old new (Err fault)))) →
+      IfOk input (λ reader. IfSome (script_of reader) (λ script. PlaysOver worlds Fails file script old new catalogues (Err (Program fault))))
+  stopped_play input script_of file old new catalogues fault plays = over_input input script_of (λ script first rest. PlaysScript worlds Fails first rest file script old new (Err fault)) catalogues plays
+
+  pub told_stopped_play : {R E : Type 0} (input : Result R E) (script_of : R → Option (List ℕ)) (file : Bor (List ℕ)) (old new : Option (List ℕ)) (catalogues : List Catalogue) (fault : ProgramFault) (result : Result Unit ChainFault) → result ≡ Err (Program fault) →
+      ((first : Catalogue) (rest : List Catalogue) → catalogues ≡ first ∷ rest → IfOk input (λ reader. IfSome (script_of reader) (λ script. PlaysScript worlds Fails first rest file script old new (Err fault)))) →
+      IfOk input (λ reader. IfSome (script_of reader) (λ script. PlaysOver worlds Fails file script old new catalogues result))
+  told_stopped_play input script_of file old new catalogues fault result told plays = rw told (stopped_play input script_of file old new catalogues fault plays)

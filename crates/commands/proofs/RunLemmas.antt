@@ -1,17 +1,40 @@
 -- Lemmas on sessions at once.
-use Rattle.std.proofs.Common.{◌≡◌, ◌∷◌, ◌<◌, ℕ, suc, Bool, List, [], IfOk, Option, Result, Ok, Err, inr, length, map, slice_index_or, subst, sym, arith}
+use Rattle.std.proofs.Common.{◌≡◌, ◌∷◌, ◌<◌, [], ℕ, zero, suc, Bool, List, IfErr, IfOk, IfSome, Option, Some, None, Result, Ok, Err, inl, inr, ap, length, map, refl, slice_index_or, subst, sym, arith, ◌∙◌}
+use Rattle.std.specs.Bool.{⊤}
 use Rattle.std.specs.Borrow.{Bor}
 use Rattle.std.specs.List.{AllZip}
-use Rattle.catalog.specs.Catalogue.{Catalogue, IsValidCatalogue}
+use Rattle.catalog.specs.declared.relation.SplitRelation.{SplitRelation}
+use Rattle.catalog.specs.Catalogue.{Catalogue}
+use Rattle.catalog.specs.Relation.{catalogue_of}
+use Rattle.store.specs.declared.commit.DeskKept.{DeskKept}
 use Rattle.store.specs.DeskContent.{DeskContent}
 use Rattle.store.specs.SiteContent.{SiteContent}
+use Rattle.desk.specs.CatalogueDatabase.{databases, numbered}
+use Rattle.desk.specs.Database.{Database}
+use Rattle.desk.specs.OfCatalogue.{from_number}
+use Rattle.wire.specs.Opening.{HaveLeaves}
+use Rattle.world.specs.Contents.{OfStores}
+use Rattle.world.specs.Listed.{IsListed}
+use Rattle.world.specs.declared.event.Event.{Event}
+use Rattle.world.specs.declared.machines.Machines as code
+use Rattle.history.specs.declared.entry.Entry.{Entry}
+use Rattle.history.specs.declared.records.Past.{Past}
+use Rattle.history.specs.declared.told.Told.{Told}
+use Rattle.history.specs.declared.weave.WeaveFault as faults
+use Rattle.history.specs.Catalogues.{HasFrom, IsOfCatalogues}
+use Rattle.history.specs.DeskHistory.{desk_from}
+use Rattle.history.specs.Records.{pasts_in}
+use Rattle.history.specs.Woven.{WeavesListRun}
+use Rattle.commands.specs.declared.catalog_files.ChainFault.{ChainFault}
+use Rattle.commands.specs.declared.catalog_files.Source.{Source}
 use Rattle.commands.specs.declared.conversation.Conversation.{Conversation}
 use Rattle.commands.specs.Conversations.{AreHeld, AreOfParts}
 use Rattle.commands.specs.declared.run_fault.RunFault.{RunFault}
-use Rattle.commands.specs.declared.run_fault.RunFault.TheVariants.{Closed, Program, Refused, Unchained}
-use Rattle.lines.specs.CatalogFile.{IsCatalogueFile}
-use Rattle.commands.specs.Run.{RunsFiles, RunsScript}
+use Rattle.commands.specs.CatalogFiles.{GivesCatalogues}
+use Rattle.commands.specs.Run.{IsVerdict, RunsFiles, fault_of_chain}
 use Rattle.lines.specs.RunScript.{SessionPart}
+use Rattle.commands.proofs.PlayLemmas.{first_is}
+use Rattle.commands.proofs.SoloLemmas.{Keeps-same}
 
 -- what holds of two lists at each place holds of them one by one; of: what is looked at of an element of the first one
 pub zip_each : {A B C : Type 0} (P : B → C → Type 0) (of : A → B) (xs : List A) (ys : List C) → length ys ≡ length xs → ((i : ℕ) (d : C) → i < length xs → (x : A) × ((e : A) → slice_index_or xs i e ≡ x) × P (of x) (slice_index_or ys i d)) → AllZip P (map of xs) ys
@@ -41,13 +64,93 @@ all_held [] (one ∷ all) held = held
 all_held (part ∷ parts) [] held = held
 all_held (part ∷ parts) (one ∷ all) held = (held.0, all_held parts all held.1)
 
--- the script of a file that ran over a catalogue, or was stopped, did so over the catalogue of its bytes
-pub ran_over : {D S : Type 0} (desk_is_clean desk_is_sound : D → Type 0) (desk_content : D → DeskContent) (site_is_clean site_is_sound : S → Type 0) (site_content : S → SiteContent) (catalog : Bor (List ℕ)) (bytes : List ℕ) (catalogue : Catalogue) (file : Bor (List ℕ)) (script : List ℕ) (old new : Option (List ℕ)) (result : Result Bool RunFault)
-    → IsCatalogueFile bytes catalogue → IsValidCatalogue catalogue
-    → RunsScript desk_is_clean desk_is_sound desk_content site_is_clean site_is_sound site_content catalogue file script old new result
-    → RunsFiles desk_is_clean desk_is_sound desk_content site_is_clean site_is_sound site_content catalog bytes file script old new result
-ran_over desk_is_clean desk_is_sound desk_content site_is_clean site_is_sound site_content catalog bytes catalogue file script old new (Ok is_woven) text valid ran = record { catalogue = catalogue; text = text; valid = valid; ran = ran }
-ran_over desk_is_clean desk_is_sound desk_content site_is_clean site_is_sound site_content catalog bytes catalogue file script old new (Err (Program fault)) text valid ran = inr (record { catalogue = catalogue; text = text; valid = valid; ran = ran })
-ran_over desk_is_clean desk_is_sound desk_content site_is_clean site_is_sound site_content catalog bytes catalogue file script old new (Err Closed) text valid ran = record { catalogue = catalogue; text = text; valid = valid; ran = ran }
-ran_over desk_is_clean desk_is_sound desk_content site_is_clean site_is_sound site_content catalog bytes catalogue file script old new (Err (Refused fault)) text valid ran = absurd ran
-ran_over desk_is_clean desk_is_sound desk_content site_is_clean site_is_sound site_content catalog bytes catalogue file script old new (Err Unchained) text valid ran = ran
+module _ {C : Type 0} (remaining : C → Option (List ℕ)) where
+  -- what is done over catalogues that are a chain
+  done_over : (Does : List Catalogue → Result Bool RunFault → Type 0) (file : Bor (List ℕ)) (bytes : List ℕ) (next : List (Source C)) (old new : Option (List ℕ)) (catalogs : List (List (List ℕ) × List SplitRelation)) (result : Result Bool RunFault)
+      → GivesCatalogues remaining file bytes next (Ok catalogs) → Does (map catalogue_of catalogs) result → RunsFiles remaining Does file bytes next old new result
+  done_over Does file bytes next old new catalogs (Ok is_woven) given done = record { catalogs = catalogs; given = given; done = done }
+  done_over Does file bytes next old new catalogs (Err fault) given done = inr (record { catalogs = catalogs; given = given; done = done })
+
+  -- so where the bytes of its first catalogue are known, and those of a script
+  pub done_known : (known : Option (List ℕ)) (Does : List Catalogue → Result Bool RunFault → Type 0) (file : Bor (List ℕ)) (next : List (Source C)) (old new : Option (List ℕ)) (catalogs : List (List (List ℕ) × List SplitRelation)) (result : Result Bool RunFault)
+      → IfSome known (λ bytes. GivesCatalogues remaining file bytes next (Ok catalogs)) → Does (map catalogue_of catalogs) result → IfSome known (λ bytes. RunsFiles remaining Does file bytes next old new result)
+  done_known None Does file next old new catalogs result given done = tt
+  done_known (Some bytes) Does file next old new catalogs result given done = done_over Does file bytes next old new catalogs result given done
+
+  pub done_script : (known script : Option (List ℕ)) (Does : List ℕ → List Catalogue → Result Bool RunFault → Type 0) (file : Bor (List ℕ)) (next : List (Source C)) (old new : Option (List ℕ)) (catalogs : List (List (List ℕ) × List SplitRelation)) (result : Result Bool RunFault)
+      → IfSome known (λ bytes. GivesCatalogues remaining file bytes next (Ok catalogs)) → IfSome script (λ script. Does script (map catalogue_of catalogs) result)
+      → IfSome known (λ bytes. IfSome script (λ script. RunsFiles remaining (Does script) file bytes next old new result))
+  done_script None script Does file next old new catalogs result given done = tt
+  done_script (Some bytes) None Does file next old new catalogs result given done = tt
+  done_script (Some bytes) (Some script) Does file next old new catalogs result given done = done_over (Does script) file bytes next old new catalogs result given done
+
+  -- where the catalogues are no chain nothing is written
+  undone : (Does : List Catalogue → Result Bool RunFault → Type 0) (file : Bor (List ℕ)) (bytes : List ℕ) (next : List (Source C)) (old : Option (List ℕ)) (told : ChainFault) → GivesCatalogues remaining file bytes next (Err told) → RunsFiles remaining Does file bytes next old old (Err (fault_of_chain told))
+  undone Does file bytes next old told given = inl (record { told = told; given = given; is = refl; kept = Keeps-same old })
+
+  undone_opened : {R E : Type 0} (known : Option (List ℕ)) (input : Result R E) (script_of : R → Option (List ℕ)) (Does : List ℕ → List Catalogue → Result Bool RunFault → Type 0) (file : Bor (List ℕ)) (next : List (Source C)) (old : Option (List ℕ)) (told : ChainFault)
+      → IfSome known (λ bytes. GivesCatalogues remaining file bytes next (Err told)) → IfSome known (λ bytes. IfOk input (λ reader. IfSome (script_of reader) (λ script. RunsFiles remaining (Does script) file bytes next old old (Err (fault_of_chain told)))))
+  undone_opened None input script_of Does file next old told given = tt
+  undone_opened (Some bytes) (Err error) script_of Does file next old told given = tt
+  undone_opened (Some bytes) (Ok reader) script_of Does file next old told given = over (script_of reader)
+    where
+      over : (script : Option (List ℕ)) → IfSome script (λ script. RunsFiles remaining (Does script) file bytes next old old (Err (fault_of_chain told)))
+      over None = tt
+      over (Some script) = undone (Does script) file bytes next old told given
+
+  pub told_undone : {R E : Type 0} (known : Option (List ℕ)) (input : Result R E) (script_of : R → Option (List ℕ)) (Does : List ℕ → List Catalogue → Result Bool RunFault → Type 0) (file : Bor (List ℕ)) (next : List (Source C)) (old : Option (List ℕ)) (told : ChainFault) (result : Result Bool RunFault)
+      → result ≡ Err (fault_of_chain told) → IfSome known (λ bytes. GivesCatalogues remaining file bytes next (Err told)) → IfSome known (λ bytes. IfOk input (λ reader. IfSome (script_of reader) (λ script. RunsFiles remaining (Does script) file bytes next old old result)))
+  told_undone known input script_of Does file next old told result is given = rw is (undone_opened known input script_of Does file next old told given)
+
+  -- so where the script can't be opened
+  undone_idle : {R E : Type 0} (known : Option (List ℕ)) (input : Result R E) (Does : List Catalogue → Result Bool RunFault → Type 0) (file : Bor (List ℕ)) (next : List (Source C)) (old : Option (List ℕ)) (told : ChainFault)
+      → IfSome known (λ bytes. GivesCatalogues remaining file bytes next (Err told)) → IfErr input (λ error. IfSome known (λ bytes. RunsFiles remaining Does file bytes next old old (Err (fault_of_chain told))))
+  undone_idle known (Ok reader) Does file next old told given = tt
+  undone_idle None (Err error) Does file next old told given = tt
+  undone_idle (Some bytes) (Err error) Does file next old told given = undone Does file bytes next old told given
+
+  pub told_idle : {R E : Type 0} (known : Option (List ℕ)) (input : Result R E) (Does : List Catalogue → Result Bool RunFault → Type 0) (file : Bor (List ℕ)) (next : List (Source C)) (old : Option (List ℕ)) (told : ChainFault) (result : Result Bool RunFault)
+      → result ≡ Err (fault_of_chain told) → IfSome known (λ bytes. GivesCatalogues remaining file bytes next (Err told)) → IfErr input (λ error. IfSome known (λ bytes. RunsFiles remaining Does file bytes next old old result))
+  told_idle known input Does file next old told result is given = rw is (undone_idle known input Does file next old told given)
+
+-- stores that have the leaves of the first catalogue have those of the first one of its chain
+pub leaves_over : {S : Type 0} (is_clean : S → Type 0) (kept : S → SiteContent) (stores : List S) (chain : List (List (List ℕ) × List SplitRelation)) (first : List (List ℕ) × List SplitRelation) (others : List (List (List ℕ) × List SplitRelation)) → chain ≡ first ∷ others → HaveLeaves is_clean kept (catalogue_of first) stores
+    → (catalogue : Catalogue) (rest : List Catalogue) → map catalogue_of chain ≡ catalogue ∷ rest → HaveLeaves is_clean kept catalogue stores
+leaves_over is_clean kept stores chain first others are have catalogue rest is = subst (λ (catalogue : Catalogue). HaveLeaves is_clean kept catalogue stores) (first_is chain first others catalogue rest are is) have
+
+-- the catalogues of a list have their numbers in it
+abbrev Has : (ℕ → Catalogue) → ℕ → List Catalogue → Type 0
+Has number n [] = ⊤
+Has number n (catalogue ∷ catalogues) = (number n ≡ catalogue) × Has number (suc n) catalogues
+
+shifted : (first next : Catalogue) (more : List Catalogue) (n : ℕ) (catalogues : List Catalogue) → Has (numbered next more) (suc n) catalogues → Has (numbered first (next ∷ more)) (suc (suc n)) catalogues
+shifted first next more n [] has = tt
+shifted first next more n (catalogue ∷ catalogues) has = (has.0, shifted first next more (suc n) catalogues has.1)
+
+all_numbered : (first : Catalogue) (rest : List Catalogue) → Has (numbered first rest) (suc zero) (first ∷ rest)
+all_numbered first [] = (refl, tt)
+all_numbered first (next ∷ more) = (refl, shifted first next more zero (next ∷ more) (all_numbered next more))
+
+numbered_from : (first : Catalogue) (rest : List Catalogue) (n : ℕ) → Has (numbered first rest) n (from_number n (first ∷ rest))
+numbered_from first rest zero = tt
+numbered_from first rest (suc zero) = all_numbered first rest
+numbered_from first [] (suc (suc n)) = tt
+numbered_from first (next ∷ more) (suc (suc n)) = shifted first next more n (from_number (suc n) (next ∷ more)) (numbered_from next more (suc n))
+
+has_from : (db : Database) (n : ℕ) (catalogues : List Catalogue) → Has db.catalogue n catalogues → HasFrom db n catalogues
+has_from db n [] has = tt
+has_from db n (catalogue ∷ catalogues) has = (has.0, has_from db (suc n) catalogues has.1)
+
+pub of_catalogues : (first : Catalogue) (rest : List Catalogue) (n : ℕ) (catalogues given : List Catalogue) → IsListed (databases first rest) → given ≡ from_number n catalogues → catalogues ≡ first ∷ rest → IsOfCatalogues (databases first rest) n given
+of_catalogues first rest n catalogues given listed from is =
+    let here : given ≡ from_number n (first ∷ rest) = from ∙ ap (from_number n) is in
+    record { base = listed.base; has = subst (HasFrom (databases first rest) n) (sym here) (has_from (databases first rest) n (from_number n (first ∷ rest)) (numbered_from first rest n)) }
+
+module _ {D S : Type 0} (desk_is_clean desk_is_sound : D → Type 0) (desk_content : D → DeskContent) (site_is_clean site_is_sound : S → Type 0) (site_content : S → SiteContent) where
+  -- histories without a fault are one run over the list of a chain's catalogues
+  pub woven_over : (machines : code.Machines D S) (catalogs : List (List (List ℕ) × List SplitRelation)) (opening : DeskKept) (entries : List Entry) (pasts : List Past) (lists : List (List Told)) (verdict : Option faults.WeaveFault) (catalogues : List Catalogue) (first : Catalogue) (rest : List Catalogue)
+      → IsListed (databases first rest) → map catalogue_of catalogs ≡ from_number opening.version catalogues → catalogues ≡ first ∷ rest → IsVerdict desk_is_clean desk_is_sound desk_content site_is_clean site_is_sound site_content machines catalogs opening entries pasts lists verdict → verdict ≡ None → OfStores desk_is_clean site_is_clean machines
+      → (events : List Event) × WeavesListRun (databases first rest) opening entries (desk_from desk_content machines.desk) (pasts_in site_content machines.sites.items pasts) machines.desk.later.items lists events
+  woven_over machines catalogs opening entries pasts lists verdict catalogues first rest listed given is judged none clean =
+      let woven = subst (IsVerdict desk_is_clean desk_is_sound desk_content site_is_clean site_is_sound site_content machines catalogs opening entries pasts lists) none judged in
+      (woven.events, woven.run_over (databases first rest) listed (of_catalogues first rest opening.version catalogues (map catalogue_of catalogs) listed given is) clean)

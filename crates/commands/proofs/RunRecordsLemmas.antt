@@ -103,7 +103,7 @@ module _ {D S : Type 0} (desk_is_clean desk_is_sound : D → Type 0) (desk_conte
   pub one_run : (machines ended : code.Machines D S) (catalogs : List (List (List ℕ) × List SplitRelation)) (opening : DeskKept) (entries : List Entry) (pasts : List Past) (lists : List (List Told)) (names : List (List ℕ)) (shown : List Found) (verdict : Option faults.WeaveFault)
       → AreRecords desk_is_clean desk_is_sound desk_content site_is_clean site_is_sound site_content machines catalogs opening entries pasts → HadOne catalogs machines.desk.catalog
       → ShowsFound desk_is_clean desk_is_sound desk_content site_is_clean site_is_sound site_content names machines ended shown
-      → IsVerdict desk_is_clean desk_is_sound desk_content site_is_clean site_is_sound site_content machines opening entries pasts lists verdict
+      → IsVerdict desk_is_clean desk_is_sound desk_content site_is_clean site_is_sound site_content machines catalogs opening entries pasts lists verdict
       → OfStores desk_is_clean site_is_clean ended → verdict ≡ None
       → IsOneRun desk_is_clean desk_is_sound desk_content site_is_clean site_is_sound site_content machines opening entries pasts lists shown
   one_run machines ended catalogs opening entries pasts lists names shown verdict are one found judged clean none =
@@ -112,14 +112,15 @@ module _ {D S : Type 0} (desk_is_clean desk_is_sound : D → Type 0) (desk_conte
       let sites = pasts_in site_content machines.sites.items pasts in
       let clean_before = found.clean clean in
       let sound : OfStores desk_is_sound site_is_sound machines = (are.desk.sound clean_before.0, are.sites_sound clean_before.1) in
-      let woven = subst (IsVerdict desk_is_clean desk_is_sound desk_content site_is_clean site_is_sound site_content machines opening entries pasts lists) none judged clean_before in
+      let woven = subst (IsVerdict desk_is_clean desk_is_sound desk_content site_is_clean site_is_sound site_content machines catalogs opening entries pasts lists) none judged in
+      let weaves = woven.run one clean_before in
       let later = none_later desk_is_clean desk_is_sound desk_content opening entries machines.desk catalogs are.desk one in
       let are_held : machines_in last sites ≡ held desk_content site_content machines =
       λ i. record { desk = desk_content machines.desk.store; table = volatile_of machines.desk.volatile; seats = are.lasts i; later = sym later i; refused = [] } in
       record {
-        events = woven.0;
-        weaves = woven.1;
+        events = woven.events;
+        weaves = weaves;
         shows = λ whole rebuilt.
-            let ran = woven.1.run whole rebuilt in
-            found.serial whole woven.1.woven.happened ran.past clean sound (subst (λ (now : Machines). IsRun db whole now woven.1.woven.happened ran.past) are_held ran.run);
+            let ran = weaves.run whole rebuilt in
+            found.serial whole weaves.woven.happened ran.past clean sound (subst (λ (now : Machines). IsRun db whole now weaves.woven.happened ran.past) are_held ran.run);
       }

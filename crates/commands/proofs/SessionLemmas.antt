@@ -1,5 +1,5 @@
 -- Lemmas on a session.
-use Rattle.std.proofs.Common.{◌≡◌, ◌++◌, ◌∷◌, [], OnOk, ap, ap₂, append-nil, append_assoc, refl, sym, subst, ◌∙◌, ℕ, List, Option, None, Some, Result, Ok, Err}
+use Rattle.std.proofs.Common.{◌≡◌, ◌++◌, ◌∷◌, [], Bor, OnOk, ap, ap₂, append-nil, append_assoc, inl, refl, sym, subst, ◌∙◌, ℕ, List, Option, None, Some, Result, Ok, Err}
 use Rattle.std.specs.Io.KnownBytes.{Appends}
 use Rattle.std.proofs.lemmas.Grind.{flat_map-append}
 use Rattle.meaning.specs.Whole.{Relations}
@@ -10,13 +10,17 @@ use Rattle.world.specs.declared.event.Entry.{Entry}
 use Rattle.world.specs.Commands.{MovesFollow}
 use Rattle.desk.specs.CatalogueDatabase.{database}
 use Rattle.world.specs.Replies.{Tells}
+use Rattle.lines.specs.declared.fault.ProgramFault.{ProgramFault}
+use Rattle.commands.specs.declared.catalog_files.ChainFault.{ChainFault}
+use Rattle.commands.specs.declared.catalog_files.ChainFault.TheVariants.{Program, Refused, Unchained}
+use Rattle.commands.specs.CatalogFiles.{IsOfOpening}
 use Rattle.commands.specs.Client.{GoesOn, IsAnswered, Seen, Standing, standing_of}
-use Rattle.commands.specs.Origin.{BeginsWith, IsBegun, Origin}
+use Rattle.commands.specs.Origin.{BeginsOver, BeginsWith, IsBegun, Origin}
 use Rattle.lines.specs.Reply.{text_of}
-use Rattle.commands.specs.Session.{Answer, AnswersEach, Beside, Exchange, IsAsideOf, IsSessionFrom, IsTalk, Talks, aside_text, exchange_in, exchanges_in, piece_text, said_by_each}
+use Rattle.commands.specs.Session.{Answer, AnswersEach, Beside, Exchange, HasTalked, IsAsideOf, IsOfSession, IsSessionFrom, IsTalk, RunsSession, Talks, aside_text, exchange_in, exchanges_in, piece_text, said_by_each}
 use Rattle.commands.specs.Solo.{said_by}
 use Rattle.commands.proofs.ClientLemmas.{still_told, task_told}
-use Rattle.commands.proofs.SoloLemmas.{Appends-more}
+use Rattle.commands.proofs.SoloLemmas.{Appends-more, Keeps-same}
 
 -- what a call that succeeded did, and what follows of it
 pub on_ok : {T E P Q : Type 0} (result : Result T E) → (P → Q) → OnOk result P → OnOk result Q
@@ -125,3 +129,32 @@ session_over seen catalogue origin old new opened ended fresh law talks whole be
       stands = stretch.goes_on.stands;
       serial = law.serial whole (seen.machines ended) _ stretch.later (each_told catalogue law (exchanges_in catalogue stretch.pieces) (standing_of seen catalogue opened []) (standing_of seen catalogue ended stretch.later) [] (record { phased = refl; stated = tt; heard = refl }) stretch.answered) stretch.goes_on.served;
     }
+
+module _ {B : Type 0} (seen : Seen B) (IsOrigin : Origin → Type 0) where
+  -- there was a session over a database of several catalogues that was opened
+  pub talked_over : (old new : Option (List ℕ)) (catalogues : List Catalogue) (opened ended : B) → BeginsOver seen IsOrigin catalogues opened → MovesFollow (database (seen.catalogue opened)) → Talks seen old new opened ended → HasTalked seen IsOrigin catalogues old new
+  talked_over old new catalogues opened ended fresh law talks = record {
+    origin = fresh.origin;
+    is_origin = fresh.is_origin;
+    opened = opened;
+    begun = fresh.last;
+    ended = ended;
+    talks = talks;
+    held = λ catalogue whole last begins clean.
+        let begun = fresh.last catalogue last in
+        let is = (begun.goes_on whole begins (talks.clean clean)).catalog in
+        session_over seen catalogue fresh.origin old new opened ended begun (subst (λ (own : Catalogue). MovesFollow (database own)) is law) talks whole begins clean;
+  }
+
+  -- no database was opened
+  pub unopened : (file : Bor (List ℕ)) (known : Option (List ℕ)) (catalogues : List Catalogue) (fault : ChainFault) → IsOfOpening catalogues fault → RunsSession seen IsOrigin file known known catalogues (Err fault)
+  unopened file known catalogues (Program fault) why = inl (inl why)
+  unopened file known catalogues (Refused fault) why = absurd why
+  unopened file known catalogues Unchained why = (why, Keeps-same known)
+
+  pub told_unopened : (file : Bor (List ℕ)) (known : Option (List ℕ)) (catalogues : List Catalogue) (fault : ChainFault) (result : Result Unit ChainFault) → result ≡ Err fault → IsOfOpening catalogues fault → RunsSession seen IsOrigin file known known catalogues result
+  told_unopened file known catalogues fault result told why = rw told (unopened file known catalogues fault why)
+
+  -- the program stops
+  pub told_stopped : (file : Bor (List ℕ)) (old new : Option (List ℕ)) (catalogues : List Catalogue) (fault : ProgramFault) (result : Result Unit ChainFault) → result ≡ Err (Program fault) → IsOfSession file fault → RunsSession seen IsOrigin file old new catalogues result
+  told_stopped file old new catalogues fault result told why = rw told why

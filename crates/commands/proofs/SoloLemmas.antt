@@ -1,6 +1,5 @@
 -- Lemmas on running a script.
-use Rattle.std.proofs.Common.{cond, ◌∷◌, ◌||◌, ◌+◌, Bool, false, append-nil, ap₂, get_or, sym, append_assoc, ap, refl, ◌∙◌, map, ◌≡◌, ℕ, ◌<◌, ◌++◌, true, List, [], length, take, Option, Some, None, Result, Ok, Err, OnOk, IfSome, ◌≤◌, inl, inr, is_ok, is_some, unwrap_or, nat_eq, subst}
-use Rattle.std.specs.Borrow.{Bor}
+use Rattle.std.proofs.Common.{cond, ◌∷◌, ◌||◌, ◌+◌, Bool, false, append-nil, ap₂, get_or, sym, append_assoc, ap, refl, ◌∙◌, map, ◌≡◌, ℕ, ◌<◌, ◌++◌, true, List, [], length, take, Option, Some, None, Result, Ok, Err, OnOk, is_ok, is_some, unwrap_or, nat_eq, subst}
 use Rattle.std.specs.Cmp.{eq_by_cmp_equiv}
 use Rattle.std.specs.Cmp.Lexicographic.{nat_list_cmp_total, pointwise}
 use Rattle.std.specs.FinMap as finite
@@ -13,18 +12,12 @@ use Rattle.meaning.specs.Relation.{IsRelation}
 use Rattle.meaning.specs.Schema.{kinds_of, relation_named}
 use Rattle.meaning.specs.Whole.{FitsSchema, Relations}
 use Rattle.meaning.proofs.Kept.{put_keeps}
-use Rattle.catalog.specs.Catalogue.{Catalogue}
 use Rattle.desk.proofs.Participants.{text_is}
-use Rattle.shell.specs.declared.mode.Mode.{Mode}
-use Rattle.commands.specs.Client.{Seen}
-use Rattle.commands.specs.Origin.{Origin}
 use Rattle.lines.specs.PlayLoad.{emptied}
 use Rattle.lines.specs.Script.{Reading, task_of}
 use Rattle.lines.specs.declared.script.Item.{Item}
-use Rattle.lines.specs.declared.fault.ProgramFault.{ProgramFault}
-use Rattle.lines.specs.declared.fault.ProgramFault.TheVariants.{CannotRead, CannotWrite, Malformed, Memory, ScriptTooLong, Store}
 use Rattle.lines.specs.Reply.{Told, is_refusal, text_of}
-use Rattle.commands.specs.Solo.{AnswersInTurn, IsAccepted, IsOfRead, IsOfRun, IsWorkBy, RunsOrStops, RunsScript, StopsRun, longest}
+use Rattle.commands.specs.Solo.{AnswersInTurn, IsWorkBy}
 use Rattle.std.proofs.lemmas.Grind.{flat_map-append}
 
 -- what was written, and then more
@@ -102,53 +95,3 @@ Appends-kept (Some a) (Some b) (Some c) xs h k = k ∙ h
 pub Keeps-same : (known : Option (List ℕ)) → Keeps known known
 Keeps-same None = tt
 Keeps-same (Some bytes) = refl
-
--- a script of which all bytes were read ran or was stopped
-pub ran : {B : Type 0} (seen : Seen B) (IsOrigin : Origin → Type 0) (mode : Mode) (catalogue : Catalogue) (known : Option (List ℕ)) (file : Bor (List ℕ)) (read : List ℕ) (old new : Option (List ℕ)) (result : Result Bool ProgramFault) → IfSome known (λ bytes. read ≡ bytes) → length read ≤ longest → RunsOrStops seen IsOrigin mode catalogue read old new result → IfSome known (λ script. RunsScript seen IsOrigin mode catalogue file script old new result)
-ran seen IsOrigin mode catalogue None file read old new result all short ran_so = tt
-ran seen IsOrigin mode catalogue (Some bytes) file read old new result all short ran_so = subst (λ (script : List ℕ). RunsScript seen IsOrigin mode catalogue file script old new result) all (of_read result ran_so)
-  where
-    of_read : (result : Result Bool ProgramFault) → RunsOrStops seen IsOrigin mode catalogue read old new result → RunsScript seen IsOrigin mode catalogue file read old new result
-    of_read (Ok any_refused) h = h
-    of_read (Err (CannotRead name)) h = absurd h
-    of_read (Err ScriptTooLong) h = absurd h
-    of_read (Err (Malformed line)) h = (short, h.0, h.1)
-    of_read (Err Memory) h = h
-    of_read (Err (Store why)) h = h
-    of_read (Err CannotWrite) h = h
-
--- a script that was not read to its end, or is too long: nothing is written
-pub unread : {B : Type 0} (seen : Seen B) (IsOrigin : Origin → Type 0) (mode : Mode) (catalogue : Catalogue) (known : Option (List ℕ)) (file : Bor (List ℕ)) (fault : ProgramFault) (output : Option (List ℕ)) → IsOfRead file fault → (fault ≡ ScriptTooLong → IfSome known (λ bytes. longest < length bytes)) → IfSome known (λ script. RunsScript seen IsOrigin mode catalogue file script output output (Err fault))
-unread seen IsOrigin mode catalogue None file fault output why long = tt
-unread seen IsOrigin mode catalogue (Some bytes) file (CannotRead name) output why long = (named why, Keeps-same output)
-  where
-    named : IsOfRead file (CannotRead name) → name ≡ file
-    named (inl memory) = absurd (cc)
-    named (inr (inl too_long)) = absurd (cc)
-    named (inr (inr same)) = cc
-unread seen IsOrigin mode catalogue (Some bytes) file ScriptTooLong output why long = (long refl, Keeps-same output)
-unread seen IsOrigin mode catalogue (Some bytes) file (Malformed line) output (inl memory) long = absurd (cc)
-unread seen IsOrigin mode catalogue (Some bytes) file (Malformed line) output (inr (inl too_long)) long = absurd (cc)
-unread seen IsOrigin mode catalogue (Some bytes) file (Malformed line) output (inr (inr same)) long = absurd (cc)
-unread seen IsOrigin mode catalogue (Some bytes) file Memory output why long = λ refused. Keeps-same output
-unread seen IsOrigin mode catalogue (Some bytes) file (Store why) output (inl memory) long = absurd (cc)
-unread seen IsOrigin mode catalogue (Some bytes) file (Store why) output (inr (inl too_long)) long = absurd (cc)
-unread seen IsOrigin mode catalogue (Some bytes) file (Store why) output (inr (inr same)) long = absurd (cc)
-unread seen IsOrigin mode catalogue (Some bytes) file CannotWrite output (inl memory) long = absurd (cc)
-unread seen IsOrigin mode catalogue (Some bytes) file CannotWrite output (inr (inl too_long)) long = absurd (cc)
-unread seen IsOrigin mode catalogue (Some bytes) file CannotWrite output (inr (inr same)) long = absurd (cc)
-
--- a script that may run ran, or was stopped
-pub run_or_stopped : (catalogue : Catalogue) (script : List ℕ) (old new : Option (List ℕ)) (fault : ProgramFault) → IsAccepted script → IsOfRun fault → StopsRun script old new fault
-run_or_stopped catalogue script old new Memory good why = λ refused. absurd (refused good)
-run_or_stopped catalogue script old new (Store which) good why = good
-run_or_stopped catalogue script old new CannotWrite good why = good
-run_or_stopped catalogue script old new (CannotRead name) good (inl (inl memory)) = absurd (cc)
-run_or_stopped catalogue script old new (CannotRead name) good (inl (inr store)) = let e = store.1 in absurd (cc)
-run_or_stopped catalogue script old new (CannotRead name) good (inr closed) = absurd (cc)
-run_or_stopped catalogue script old new ScriptTooLong good (inl (inl memory)) = absurd (cc)
-run_or_stopped catalogue script old new ScriptTooLong good (inl (inr store)) = let e = store.1 in absurd (cc)
-run_or_stopped catalogue script old new ScriptTooLong good (inr closed) = absurd (cc)
-run_or_stopped catalogue script old new (Malformed line) good (inl (inl memory)) = absurd (cc)
-run_or_stopped catalogue script old new (Malformed line) good (inl (inr store)) = let e = store.1 in absurd (cc)
-run_or_stopped catalogue script old new (Malformed line) good (inr closed) = absurd (cc)

@@ -1,16 +1,15 @@
 -- What the files of several catalogues give, one after another.
-use Rattle.std.specs.Prelude.{◌≡◌, ◌⊎◌, ℕ, List, [], ◌∷◌, ◌++◌, map, IfErr, IfOk, IfSome, Option, Result, Ok, Err}
+use Rattle.std.specs.Prelude.{◌≡◌, ◌⊎◌, ◌<◌, ℕ, List, [], ◌∷◌, ◌++◌, length, map, IfErr, IfOk, IfSome, Option, Result, Ok, Err}
 use Rattle.std.specs.Borrow.{Bor}
 use Rattle.std.specs.Io.KnownBytes.{Keeps}
 use Rattle.catalog.specs.declared.relation.SplitRelation.{SplitRelation}
 use Rattle.catalog.specs.Catalogue.{Catalogue, IsValidCatalogue}
 use Rattle.catalog.specs.Chain.{IsChain}
 use Rattle.catalog.specs.Relation.{catalogue_of}
-use Rattle.store.specs.declared.fault.StoreFault.TheVariants.{Damaged}
 use Rattle.lines.specs.declared.catalog_file.CatalogFault.{CatalogFault}
 use Rattle.lines.specs.declared.catalog_file.CatalogFault.TheVariants as catalog
 use Rattle.lines.specs.declared.fault.ProgramFault.{ProgramFault}
-use Rattle.lines.specs.declared.fault.ProgramFault.TheVariants.{Memory, Store}
+use Rattle.lines.specs.declared.fault.ProgramFault.TheVariants.{Memory}
 use Rattle.lines.specs.CatalogFile.{IsCatalogueFile, RefusesFile}
 use Rattle.lines.specs.Input.{IsOfInput}
 use Rattle.commands.specs.Client.{IsOfClient}
@@ -23,17 +22,15 @@ abbrev pub fault_of_catalogue : CatalogFault → ChainFault
 fault_of_catalogue (catalog.Program fault) = Program fault
 fault_of_catalogue (catalog.Refused fault) = Refused fault
 
--- why a database of a chain isn't opened: a fault may stop the program, or a store keeps the number of no catalogue
-abbrev pub IsOfOpening : ChainFault → Type 0
-IsOfOpening (Program fault) = IsOfClient fault
-IsOfOpening (Refused fault) = ⊥
-IsOfOpening Unchained = Unit {0}
+-- there is more than one
+abbrev pub AreSeveral : {A : Type 0} → List A → Type 0
+AreSeveral list = 1 < length list
 
--- what stops the program where it is of one catalogue: another number than its own is damage
-abbrev pub fault_alone : ChainFault → ProgramFault
-fault_alone (Program fault) = fault
-fault_alone (Refused fault) = Store Damaged
-fault_alone Unchained = Store Damaged
+-- why a database of a chain isn't opened: a fault may stop the program, or of several catalogues a store keeps the number of none
+abbrev pub IsOfOpening : List Catalogue → ChainFault → Type 0
+IsOfOpening catalogues (Program fault) = IsOfClient fault
+IsOfOpening catalogues (Refused fault) = ⊥
+IsOfOpening catalogues Unchained = AreSeveral catalogues
 
 -- remaining: the bytes that a reader of a catalogue still gives, where they are known
 module _ {C : Type 0} (remaining : C → Option (List ℕ)) where

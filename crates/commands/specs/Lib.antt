@@ -10,7 +10,6 @@ pub mod CatalogFiles
 pub mod Origin
 pub mod SqlStores
 pub mod Solo
-pub mod SoloChain
 pub mod Play
 pub mod Import
 pub mod ImportFile
@@ -19,7 +18,6 @@ pub mod Leaves
 pub mod Stats
 pub mod Session
 pub mod CatalogWord
-pub mod SessionChain
 pub mod Dump
 pub mod SuggestFile
 pub mod ScriptFile
@@ -27,8 +25,6 @@ pub mod RunText
 pub mod Conversation
 pub mod Conversations
 pub mod Run
-pub mod RunChain
 pub mod Perform
-pub mod PerformChain
 
 -- Helpers.

@@ -1,5 +1,5 @@
 -- What the program does of what the command line asks for.
-use Rattle.std.specs.Prelude.{◌≡◌, ℕ, Bool, true, false, List, Option, Result, Ok, Err}
+use Rattle.std.specs.Prelude.{◌≡◌, ◌<◌, ℕ, Bool, true, false, List, length, Option, Result, Ok, Err}
 use Rattle.std.specs.Borrow.{Bor}
 use Rattle.std.specs.Io.KnownBytes.{Keeps}
 use Rattle.store.specs.declared.fault.StoreFault.{StoreFault}
@@ -15,21 +15,34 @@ use Rattle.lines.specs.declared.catalog_file.CatalogFault.{CatalogFault}
 use Rattle.lines.specs.declared.catalog_file.CatalogFault.TheVariants as catalog
 use Rattle.lines.specs.declared.plan_text.PlanFault.{PlanFault}
 use Rattle.lines.specs.declared.plan_text.PlanFault.TheVariants as plan
+use Rattle.commands.specs.declared.catalog_files.ChainFault.{ChainFault}
+use Rattle.commands.specs.declared.catalog_files.ChainFault.TheVariants as chain
+use Rattle.commands.specs.declared.catalog_files.Source.{Source}
+use Rattle.commands.specs.CatalogFiles.{DoesOver, IsUnopened}
 use Rattle.commands.specs.Client.{Seen}
 use Rattle.lines.specs.Input.{IsOfInput}
 use Rattle.commands.specs.Origin.{Origin}
 use Rattle.lines.specs.Plan.{PlansFile}
-use Rattle.commands.specs.Play.{IsUnplayed, PlaysFiles}
+use Rattle.commands.specs.Play.{PlaysOver}
 use Rattle.commands.specs.Schedule.{SeenWorld}
 use Rattle.commands.specs.Session.{RunsSession}
-use Rattle.commands.specs.Solo.{IsUnrun, RunsFiles}
+use Rattle.commands.specs.Solo.{RunsScript}
 
--- what the end of a script comes to, and that of a check
-abbrev pub outcome_of_script : Result Bool CatalogFault → Outcome
+-- what a fault of catalogues comes to
+abbrev pub outcome_of_fault : ChainFault → Outcome
+outcome_of_fault (chain.Program fault) = Stopped fault
+outcome_of_fault (chain.Refused fault) = Refused fault
+outcome_of_fault chain.Unchained = Unchained
+
+-- what the end of a script comes to, that of a session or a schedule, and that of a check
+abbrev pub outcome_of_script : Result Bool ChainFault → Outcome
 outcome_of_script (Ok false) = Done
 outcome_of_script (Ok true) = SomeRefused
-outcome_of_script (Err (catalog.Refused fault)) = Refused fault
-outcome_of_script (Err (catalog.Program fault)) = Stopped fault
+outcome_of_script (Err fault) = outcome_of_fault fault
+
+abbrev pub outcome_of_end : Result Unit ChainFault → Outcome
+outcome_of_end (Ok done) = Done
+outcome_of_end (Err fault) = outcome_of_fault fault
 
 abbrev pub outcome_of_check : Result Unit CatalogFault → Outcome
 outcome_of_check (Ok done) = Done
@@ -51,14 +64,6 @@ pub record ComesTo {End : Type 0} (outcome_of : End → Outcome) (Ends : End →
   pub ended : Ends end
   pub is : outcome ≡ outcome_of end
 
--- the outcome of a script over the catalogue of a file
-abbrev pub PerformsSolo : {B : Type 0} → Seen B → (Origin → Type 0) → Mode → Bor (List ℕ) → List ℕ → Bor (List ℕ) → List ℕ → Option (List ℕ) → Option (List ℕ) → Outcome → Type 0
-PerformsSolo seen IsOrigin mode name bytes file script old new outcome = ComesTo outcome_of_script (RunsFiles seen IsOrigin mode name bytes file script old new) outcome
-
--- the outcome of a session over the catalogue of a file
-abbrev pub PerformsSession : {B : Type 0} → Seen B → (Origin → Type 0) → Bor (List ℕ) → List ℕ → Bor (List ℕ) → Option (List ℕ) → Option (List ℕ) → Outcome → Type 0
-PerformsSession seen IsOrigin name bytes file old new outcome = ComesTo outcome_of_check (RunsSession seen IsOrigin name bytes file old new) outcome
-
 -- a catalogue's outcome
 abbrev pub PerformsCheck : Bool → Bor (List ℕ) → List ℕ → Option (List ℕ) → Option (List ℕ) → Outcome → Type 0
 PerformsCheck as_tree file bytes old new outcome = ComesTo outcome_of_check (ChecksFile as_tree file bytes old new) outcome
@@ -66,16 +71,6 @@ PerformsCheck as_tree file bytes old new outcome = ComesTo outcome_of_check (Che
 -- a plan's outcome
 abbrev pub PerformsPlan : Bool → Bor (List ℕ) → List ℕ → List ℕ → Option (List ℕ) → Option (List ℕ) → Outcome → Type 0
 PerformsPlan as_tree file statement bytes old new outcome = ComesTo outcome_of_plan (PlansFile as_tree file statement bytes old new) outcome
-
--- the outcome of a play over the catalogue of a file
-abbrev pub PerformsPlayOf : {D S : Type 0} → SeenWorld (World D S) → (StoreFault → Type 0) → Bor (List ℕ) → List ℕ → Bor (List ℕ) → List ℕ → Option (List ℕ) → Option (List ℕ) → Outcome → Type 0
-PerformsPlayOf worlds Fails name bytes file script old new outcome = ComesTo outcome_of_check (PlaysFiles worlds Fails name bytes file script old new) outcome
-
--- the outcome of a request of a script, which is run or played over a catalogue
-abbrev pub PerformsOver : {B D S : Type 0} → Seen B → (Origin → Type 0) → SeenWorld (World D S) → (StoreFault → Type 0) → Request → Bor (List ℕ) → List ℕ → List ℕ → Option (List ℕ) → Option (List ℕ) → Outcome → Type 0
-PerformsOver seen IsOrigin worlds Fails (Solo given file explain interactive mode sqlite dir) name bytes script old new outcome = PerformsSolo seen IsOrigin mode name bytes file script old new outcome
-PerformsOver seen IsOrigin worlds Fails (Play given file sqlite) name bytes script old new outcome = PerformsPlayOf worlds Fails name bytes file script old new outcome
-PerformsOver seen IsOrigin worlds Fails other name bytes script old new outcome = Unit
 
 -- what is written from old to new, and the outcome, where the file has these bytes; of a script it is told apart
 abbrev pub Performs : Request → List ℕ → Option (List ℕ) → Option (List ℕ) → Outcome → Type 0
@@ -90,31 +85,55 @@ pub record IsUnread (file : Bor (List ℕ)) (outcome : Outcome) : Type 0 where
   pub of_file : IsOfInput file fault
   pub is : outcome ≡ Stopped fault
 
--- an outcome of a script that was stopped, or whose catalogue was refused
-abbrev pub IsStopped : Outcome → Type 0
-IsStopped Done = ⊥
-IsStopped SomeRefused = ⊥
-IsStopped (Refused fault) = Unit
-IsStopped Unchained = ⊥
-IsStopped (RefusedStatement fault) = ⊥
-IsStopped Lost = ⊥
-IsStopped (Stopped fault) = Unit
-
--- the outcome of a script whose catalogue can't be opened: that is told, and nothing is written
+-- the outcome of a script whose first catalogue can't be opened: that is told, and nothing is written
 abbrev pub StopsUncatalogued : Request → Bor (List ℕ) → Option (List ℕ) → Option (List ℕ) → Outcome → Type 0
 StopsUncatalogued (Solo given file explain interactive mode sqlite dir) name old new outcome = IsUnread name outcome × Keeps old new
 StopsUncatalogued (Play given file sqlite) name old new outcome = IsUnread name outcome × Keeps old new
 StopsUncatalogued other name old new outcome = Unit
 
--- the outcome where a script can't be opened: its catalogue, of these bytes, is none, or that is told
-abbrev pub StopsIdle : Request → Bor (List ℕ) → List ℕ → Outcome → Type 0
-StopsIdle (Solo given file explain interactive mode sqlite dir) name bytes outcome = ComesTo outcome_of_script (IsUnrun name bytes file) outcome
-StopsIdle (Play given file sqlite) name bytes outcome = ComesTo outcome_of_check (IsUnplayed name bytes file) outcome
-StopsIdle other name bytes outcome = Unit
+-- an outcome of a script that was stopped, or whose catalogues, the first one and those that come next, were refused
+abbrev pub IsStopped : {C : Type 0} → List (Source C) → Outcome → Type 0
+IsStopped next Done = ⊥
+IsStopped next SomeRefused = ⊥
+IsStopped next (Refused fault) = Unit
+IsStopped next Unchained = 0 < length next
+IsStopped next (RefusedStatement fault) = ⊥
+IsStopped next Lost = ⊥
+IsStopped next (Stopped fault) = Unit
 
--- the outcome where the file that is asked for can't be opened; a script may be stopped by its catalogue before
-abbrev pub StopsUnread : Request → Outcome → Type 0
-StopsUnread (Solo name file explain interactive mode sqlite dir) outcome = IsStopped outcome
-StopsUnread (Check file explain as_tree) outcome = IsUnread file outcome
-StopsUnread (Plan file statement as_tree) outcome = IsUnread file outcome
-StopsUnread (Play name file sqlite) outcome = IsStopped outcome
+-- the outcome where the file that is asked for can't be opened; a script may be stopped by its catalogues before
+abbrev pub StopsUnread : {C : Type 0} → Request → List (Source C) → Outcome → Type 0
+StopsUnread (Solo name file explain interactive mode sqlite dir) next outcome = IsStopped next outcome
+StopsUnread (Check file explain as_tree) next outcome = IsUnread file outcome
+StopsUnread (Plan file statement as_tree) next outcome = IsUnread file outcome
+StopsUnread (Play name file sqlite) next outcome = IsStopped next outcome
+
+-- remaining: the bytes that a reader of a catalogue still gives, where they are known
+module _ {C : Type 0} (remaining : C → Option (List ℕ)) where
+  -- the outcome of a script over the catalogues of files: the first one, of these bytes, and those that come next
+  abbrev pub PerformsSolo : {B : Type 0} → Seen B → (Origin → Type 0) → Mode → Bor (List ℕ) → List ℕ → List (Source C) → Bor (List ℕ) → List ℕ → Option (List ℕ) → Option (List ℕ) → Outcome → Type 0
+  PerformsSolo seen IsOrigin mode name bytes next file script old new outcome = ComesTo outcome_of_script (DoesOver remaining name bytes next old new (RunsScript seen IsOrigin mode file script old new)) outcome
+
+  -- so of a schedule
+  abbrev pub PerformsPlay : {D S : Type 0} → SeenWorld (World D S) → (StoreFault → Type 0) → Bor (List ℕ) → List ℕ → List (Source C) → Bor (List ℕ) → List ℕ → Option (List ℕ) → Option (List ℕ) → Outcome → Type 0
+  PerformsPlay worlds Fails name bytes next file script old new outcome = ComesTo outcome_of_end (DoesOver remaining name bytes next old new (PlaysOver worlds Fails file script old new)) outcome
+
+  -- so of a session
+  abbrev pub PerformsSession : {B : Type 0} → Seen B → (Origin → Type 0) → Bor (List ℕ) → List ℕ → List (Source C) → Bor (List ℕ) → Option (List ℕ) → Option (List ℕ) → Outcome → Type 0
+  PerformsSession seen IsOrigin name bytes next file old new outcome = ComesTo outcome_of_end (DoesOver remaining name bytes next old new (RunsSession seen IsOrigin file old new)) outcome
+
+  -- the outcome where a script can't be opened: the catalogues are no chain, or that is told
+  abbrev pub IsIdle : {T : Type 0} → (Result T ChainFault → Outcome) → Bor (List ℕ) → List ℕ → List (Source C) → Bor (List ℕ) → Option (List ℕ) → Option (List ℕ) → Outcome → Type 0
+  IsIdle outcome_of name bytes next file old new outcome = ComesTo outcome_of (DoesOver remaining name bytes next old new (λ catalogues. IsUnopened file)) outcome
+
+  -- the outcome of a request of a script, which is run or played over the catalogues of files
+  abbrev pub PerformsOver : {B D S : Type 0} → Seen B → (Origin → Type 0) → SeenWorld (World D S) → (StoreFault → Type 0) → Request → Bor (List ℕ) → List ℕ → List (Source C) → List ℕ → Option (List ℕ) → Option (List ℕ) → Outcome → Type 0
+  PerformsOver seen IsOrigin worlds Fails (Solo given file explain interactive mode sqlite dir) name bytes next script old new outcome = PerformsSolo seen IsOrigin mode name bytes next file script old new outcome
+  PerformsOver seen IsOrigin worlds Fails (Play given file sqlite) name bytes next script old new outcome = PerformsPlay worlds Fails name bytes next file script old new outcome
+  PerformsOver seen IsOrigin worlds Fails other name bytes next script old new outcome = Unit
+
+  -- so where its script can't be opened
+  abbrev pub StopsIdle : Request → Bor (List ℕ) → List ℕ → List (Source C) → Option (List ℕ) → Option (List ℕ) → Outcome → Type 0
+  StopsIdle (Solo given file explain interactive mode sqlite dir) name bytes next old new outcome = IsIdle outcome_of_script name bytes next file old new outcome
+  StopsIdle (Play given file sqlite) name bytes next old new outcome = IsIdle outcome_of_end name bytes next file old new outcome
+  StopsIdle other name bytes next old new outcome = Unit

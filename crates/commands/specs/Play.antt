@@ -3,7 +3,7 @@ use Rattle.std.specs.Prelude.{◌≡◌, ◌⊎◌, ◌≤◌, ◌<◌, ⊤, ℕ
 use Rattle.std.specs.Borrow.{Bor}
 use Rattle.std.specs.Io.KnownBytes.{Appends, Keeps}
 use Rattle.meaning.specs.Whole.{Relations}
-use Rattle.catalog.specs.Catalogue.{Catalogue, IsValidCatalogue}
+use Rattle.catalog.specs.Catalogue.{Catalogue}
 use Rattle.catalog.specs.FragmentLeaf.{schemas_of}
 use Rattle.store.specs.declared.fault.StoreFault.{StoreFault}
 use Rattle.desk.specs.CatalogueDatabase.{database, databases}
@@ -13,18 +13,16 @@ use Rattle.world.specs.declared.world.World.{World}
 use Rattle.world.specs.Frame.{EndsIn}
 use Rattle.world.specs.Runs.{IsSerialRun}
 use Rattle.world.specs.Replies.{committed_in}
-use Rattle.lines.specs.declared.catalog_file.CatalogFault.{CatalogFault}
-use Rattle.lines.specs.declared.catalog_file.CatalogFault.TheVariants.{Program, Refused}
 use Rattle.lines.specs.declared.fault.ProgramFault.{ProgramFault}
 use Rattle.lines.specs.declared.fault.ProgramFault.TheVariants.{CannotRead, CannotWrite, Malformed, Memory, ScriptTooLong, Store}
 use Rattle.lines.specs.declared.play_items.Placed.{Placed}
 use Rattle.lines.specs.declared.play_script.Item.{Item}
 use Rattle.lines.specs.declared.play_script.Item.TheVariants as item
+use Rattle.commands.specs.declared.catalog_files.ChainFault.{ChainFault}
+use Rattle.commands.specs.declared.catalog_files.ChainFault.TheVariants.{Program, Refused, Unchained}
 use Rattle.commands.specs.declared.schedule.Schedule.{Schedule}
 use Rattle.lines.specs.Cast.{name_of}
-use Rattle.lines.specs.CatalogFile.{IsCatalogueFile, RefusesFile}
 use Rattle.commands.specs.Delivering.{Delivers, DeliversAll}
-use Rattle.lines.specs.Input.{IsOfInput}
 use Rattle.lines.specs.PlayItems.{items_of}
 use Rattle.lines.specs.PlayLoad.{IsLoaded, IsMalformedAt}
 use Rattle.commands.specs.Schedule.{Asks, HappensAt, HasRun, IsListReached, IsReached, RestartsDesk, SeenWorld, Stage, stage_of}
@@ -80,12 +78,6 @@ abbrev pub EndsOrStopsOf : (StoreFault → Type 0) → Catalogue → Bor (List �
 EndsOrStopsOf Fails catalogue file script old new Played (Ok done) = (length script ≤ longest) × Played
 EndsOrStopsOf Fails catalogue file script old new Played (Err fault) = StopsPlayOf Fails catalogue file script old new fault
 
--- why nothing is played where the script can't be opened: the catalogue is none, or that is told
-abbrev pub IsUnplayed : Bor (List ℕ) → List ℕ → Bor (List ℕ) → Result Unit CatalogFault → Type 0
-IsUnplayed catalog bytes file (Ok done) = ⊥
-IsUnplayed catalog bytes file (Err (Refused fault)) = RefusesFile bytes fault.relation fault.rule
-IsUnplayed catalog bytes file (Err (Program fault)) = IsOfInput catalog fault ⊎ IsOfInput file fault
-
 -- seen: how the worlds are seen that are opened for a play
 module _ {D S : Type 0} (seen : SeenWorld (World D S)) where
   -- an item of a script that loads these whole relations, over a list of catalogues, and what is told of it; what is loaded stands in the fragments from the beginning, and what is shown changes
@@ -119,23 +111,19 @@ module _ {D S : Type 0} (seen : SeenWorld (World D S)) where
     pub said : Appends old new told
     pub plays : (db : Database) (whole : Relations) → PlaysAll (seen.is_clean after.world × HasRun seen db whole before.world) db whole items before after told
 
-  -- Items were played to their end over a world of one catalogue in which nothing had happened, and all that is told of them was written. Where the stores of the world at the end are clean, what
-  -- happened are the entries of a run over these whole relations, and its committed transactions ran as if one after another.
-  pub record IsPlayedOver (catalogue : Catalogue) (whole : Relations) (items : List Placed) (old new : Option (List ℕ)) : Type 0 where
-    pub opening : Schedule D S
-    pub opens : IsOpening (stage_of opening)
+  -- So it was over this catalogue, after which none comes: it was in force all the time. Where the stores of the world at the end are clean, what happened are the entries of a run over these whole
+  -- relations and the catalogue alone, under whatever number, and its committed transactions ran as if one after another.
+  pub record IsPlayedAlone (catalogue : Catalogue) (whole : Relations) (items : List Placed) (opening ended : Schedule D S) (told : List ℕ) : Type 0 where
     pub catalog : (stage_of opening).catalogue ≡ catalogue
     pub last : (stage_of opening).later ≡ []
-    pub ended : Schedule D S
-    pub told : List ℕ
     pub plays : PlaysAll (seen.is_clean ended.world) (database catalogue) whole items opening ended told
     pub run : seen.is_clean ended.world → IsReached catalogue whole (seen.machines ended.world) (seen.entries ended.world)
     pub serial : seen.is_clean ended.world → IsSerialRun (database catalogue) whole (seen.machines ended.world) (seen.entries ended.world)
-    pub said : Appends old new told
 
-  -- So over a chain of catalogues: those from one of them on were in force and came later. Where the stores of the world at the end are clean, what happened are the entries of a run over the list of
-  -- them, whichever came into force, under the one of whose number the world ends, and all behind it come later.
-  pub record IsChainPlayedOver (first : Catalogue) (rest : List Catalogue) (whole : Relations) (items : List Placed) (old new : Option (List ℕ)) : Type 0 where
+  -- Items were played to their end over a world of a chain of catalogues in which nothing had happened, and all that is told of them was written. Those from one of the catalogues on were in force and came
+  -- later. Where the stores of the world at the end are clean, what happened are the entries of a run over these whole relations and the list of the catalogues, whichever came into force, under the one of
+  -- whose number the world ends, its committed transactions ran as if one after another, and all catalogues behind that one come later.
+  pub record IsPlayedOver (first : Catalogue) (rest : List Catalogue) (whole : Relations) (items : List Placed) (old new : Option (List ℕ)) : Type 0 where
     pub opening : Schedule D S
     pub opens : IsOpening (stage_of opening)
     pub number : ℕ
@@ -147,44 +135,27 @@ module _ {D S : Type 0} (seen : SeenWorld (World D S)) where
     pub stands : seen.is_clean ended.world → seen.stands (databases first rest) ended.world
     pub run : seen.is_clean ended.world → IsListReached (databases first rest) whole (seen.machines ended.world) (seen.entries ended.world)
     pub serial : seen.is_clean ended.world → IsSerialRun (databases first rest) whole (seen.machines ended.world) (seen.entries ended.world)
+    pub alone : rest ≡ [] → IsPlayedAlone first whole items opening ended told
     pub said : Appends old new told
 
-  -- a script was played to its end over what it loads, and all that is told of its items was written
-  pub record IsPlayed (catalogue : Catalogue) (script : List ℕ) (old new : Option (List ℕ)) : Type 0 where
-    pub sound : IsSound catalogue script
-    pub played : IsPlayedOver catalogue sound.0 (items_of (lines_of script)).0 old new
-
-  -- so over a chain of catalogues, which have the same relations
-  pub record IsChainPlayed (first : Catalogue) (rest : List Catalogue) (script : List ℕ) (old new : Option (List ℕ)) : Type 0 where
+  -- a script was played to its end over what it loads, and all that is told of its items was written; the catalogues of the chain have the same relations
+  pub record IsPlayed (first : Catalogue) (rest : List Catalogue) (script : List ℕ) (old new : Option (List ℕ)) : Type 0 where
     pub sound : IsSound first script
-    pub played : IsChainPlayedOver first rest sound.0 (items_of (lines_of script)).0 old new
+    pub played : IsPlayedOver first rest sound.0 (items_of (lines_of script)).0 old new
 
 -- Fails: why a store may fail as such a world is opened
 module _ {D S : Type 0} (seen : SeenWorld (World D S)) (Fails : StoreFault → Type 0) where
-  -- a script that is short enough was played to its end, or was stopped
-  abbrev pub PlaysOrStops : Catalogue → List ℕ → Option (List ℕ) → Option (List ℕ) → Result Unit ProgramFault → Type 0
-  PlaysOrStops catalogue script old new result = EndsOrStops Fails catalogue script old new (IsPlayed seen catalogue script old new) result
+  -- a script that is short enough was played to its end over a chain of catalogues, or was stopped
+  abbrev pub PlaysOrStops : Catalogue → List Catalogue → List ℕ → Option (List ℕ) → Option (List ℕ) → Result Unit ProgramFault → Type 0
+  PlaysOrStops first rest script old new result = EndsOrStops Fails first script old new (IsPlayed seen first rest script old new) result
 
   -- the script of a file was played to its end, or was stopped
-  abbrev pub PlaysScript : Catalogue → Bor (List ℕ) → List ℕ → Option (List ℕ) → Option (List ℕ) → Result Unit ProgramFault → Type 0
-  PlaysScript catalogue file script old new result = EndsOrStopsOf Fails catalogue file script old new (IsPlayed seen catalogue script old new) result
+  abbrev pub PlaysScript : Catalogue → List Catalogue → Bor (List ℕ) → List ℕ → Option (List ℕ) → Option (List ℕ) → Result Unit ProgramFault → Type 0
+  PlaysScript first rest file script old new result = EndsOrStopsOf Fails first file script old new (IsPlayed seen first rest script old new) result
 
-  -- so over a chain of catalogues
-  abbrev pub PlaysChainOrStops : Catalogue → List Catalogue → List ℕ → Option (List ℕ) → Option (List ℕ) → Result Unit ProgramFault → Type 0
-  PlaysChainOrStops first rest script old new result = EndsOrStops Fails first script old new (IsChainPlayed seen first rest script old new) result
-
-  abbrev pub PlaysChain : Catalogue → List Catalogue → Bor (List ℕ) → List ℕ → Option (List ℕ) → Option (List ℕ) → Result Unit ProgramFault → Type 0
-  PlaysChain first rest file script old new result = EndsOrStopsOf Fails first file script old new (IsChainPlayed seen first rest script old new) result
-
-  -- these bytes are of a valid catalogue, over which the script of this file was played to its end, or stopped
-  pub record IsPlayOf (bytes : List ℕ) (file : Bor (List ℕ)) (script : List ℕ) (old new : Option (List ℕ)) (result : Result Unit ProgramFault) : Type 0 where
-    pub catalogue : Catalogue
-    pub text : IsCatalogueFile bytes catalogue
-    pub valid : IsValidCatalogue catalogue
-    pub played : PlaysScript catalogue file script old new result
-
-  -- The play of a script over a catalogue, each the bytes of a file. The catalogue is looked at first, and where it is none nothing is written.
-  abbrev pub PlaysFiles : Bor (List ℕ) → List ℕ → Bor (List ℕ) → List ℕ → Option (List ℕ) → Option (List ℕ) → Result Unit CatalogFault → Type 0
-  PlaysFiles catalog bytes file script old new (Ok done) = IsPlayOf bytes file script old new (Ok done)
-  PlaysFiles catalog bytes file script old new (Err (Refused fault)) = RefusesFile bytes fault.relation fault.rule × Keeps old new
-  PlaysFiles catalog bytes file script old new (Err (Program fault)) = (IsOfInput catalog fault × Keeps old new) ⊎ IsPlayOf bytes file script old new (Err fault)
+  -- so over these catalogues, which are a chain
+  abbrev pub PlaysOver : Bor (List ℕ) → List ℕ → Option (List ℕ) → Option (List ℕ) → List Catalogue → Result Unit ChainFault → Type 0
+  PlaysOver file script old new catalogues (Ok done) = (first : Catalogue) (rest : List Catalogue) → catalogues ≡ first ∷ rest → PlaysScript first rest file script old new (Ok done)
+  PlaysOver file script old new catalogues (Err (Program fault)) = (first : Catalogue) (rest : List Catalogue) → catalogues ≡ first ∷ rest → PlaysScript first rest file script old new (Err fault)
+  PlaysOver file script old new catalogues (Err (Refused fault)) = ⊥
+  PlaysOver file script old new catalogues (Err Unchained) = ⊥

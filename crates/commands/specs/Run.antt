@@ -1,5 +1,5 @@
--- What sessions at once come to: what each hears, whether it was one run of the protocol, and what the relations are then.
-use Rattle.std.specs.Prelude.{◌≡◌, ⊤, ◌≤◌, ◌<◌, ◌⊎◌, ℕ, Bool, true, false, List, ◌∷◌, ◌++◌, Option, Some, None, Result, Ok, Err, flat_map, is_none, length, map, string_bytes}
+-- What sessions at once come to: what each hears, whether it was one run of the protocol, and what the relations are then. Of several catalogues another one may come into force.
+use Rattle.std.specs.Prelude.{◌≡◌, ⊤, ◌≤◌, ◌<◌, ◌⊎◌, ℕ, Bool, true, false, List, [], ◌∷◌, ◌++◌, Option, Some, None, Result, Ok, Err, flat_map, is_none, length, map, string_bytes}
 use Rattle.std.specs.Borrow.{Bor}
 use Rattle.std.specs.Io.KnownBytes.{Appends, Keeps}
 use Rattle.std.specs.List.{AllByRecursion}
@@ -7,20 +7,23 @@ use Rattle.terms.specs.declared.value.Value.{Value}
 use Rattle.meaning.specs.declared.schema.RelationSchema.{RelationSchema}
 use Rattle.meaning.specs.Whole.{Relations}
 use Rattle.catalog.specs.declared.relation.SplitRelation.{SplitRelation}
-use Rattle.catalog.specs.Catalogue.{Catalogue, IsValidCatalogue}
+use Rattle.catalog.specs.Catalogue.{Catalogue}
 use Rattle.catalog.specs.FragmentLeaf.{schemas_of}
 use Rattle.catalog.specs.Relation.{catalogue_of}
 use Rattle.store.specs.declared.commit.DeskKept.{DeskKept}
 use Rattle.store.specs.DeskContent.{DeskContent}
 use Rattle.store.specs.SiteContent.{SiteContent}
 use Rattle.protocol.specs.Desk.{Deed}
-use Rattle.desk.specs.CatalogueDatabase.{database}
+use Rattle.protocol.specs.Parts.{In}
+use Rattle.desk.specs.CatalogueDatabase.{database, databases}
 use Rattle.desk.specs.Database.{Database, language}
+use Rattle.desk.specs.OfCatalogue.{from_number}
 use Rattle.world.specs.declared.event.Entry as world
 use Rattle.world.specs.declared.event.Event.{Event}
 use Rattle.world.specs.declared.machines.Machines as code
 use Rattle.world.specs.Contents.{OfStores, held}
 use Rattle.world.specs.Frame.{StaysAsItIs}
+use Rattle.world.specs.Listed.{IsListed}
 use Rattle.world.specs.Runs.{IsRun}
 use Rattle.world.specs.Settled.{ShowsSerial}
 use Rattle.history.specs.declared.entry.Entry.{Entry}
@@ -28,14 +31,18 @@ use Rattle.history.specs.declared.records.Past.{Past}
 use Rattle.history.specs.declared.told.Told.{Told}
 use Rattle.history.specs.declared.weave.WeaveFault as faults
 use Rattle.history.specs.declared.weave.WeaveFault.TheVariants as why
+use Rattle.history.specs.Catalogues.{HadOne, IsOfCatalogues}
 use Rattle.history.specs.DeskHistory.{desk_from}
 use Rattle.history.specs.Records.{AreRecords, pasts_in}
 use Rattle.history.specs.Told.{IsNotTold}
 use Rattle.history.specs.Weaving.{Rebuilds}
-use Rattle.history.specs.Woven.{IsNotARun, IsSettled, WeavesRun}
+use Rattle.history.specs.Woven.{IsNotARun, IsSettled, IsWoven, WeavesListRun, WeavesRun}
 use Rattle.shell.specs.declared.mode.Mode.TheVariants.{Tabs}
 use Rattle.wire.specs.declared.fault.CallFault.{CallFault}
 use Rattle.wire.specs.declared.fault.CallFault.TheVariants as call
+use Rattle.commands.specs.declared.catalog_files.ChainFault.{ChainFault}
+use Rattle.commands.specs.declared.catalog_files.ChainFault.TheVariants as chain
+use Rattle.commands.specs.declared.catalog_files.Source.{Source}
 use Rattle.commands.specs.declared.conversation.Conversation.{Conversation}
 use Rattle.lines.specs.declared.fault.ProgramFault.TheVariants.{CannotRead, CannotWrite, Malformed, Memory, ScriptTooLong, Store}
 use Rattle.lines.specs.declared.outcome.Outcome.{Outcome}
@@ -43,7 +50,7 @@ use Rattle.lines.specs.declared.outcome.Outcome.TheVariants as outcome
 use Rattle.lines.specs.declared.outcome.Outcome.TheVariants.{Done, Lost, SomeRefused, Stopped}
 use Rattle.commands.specs.declared.run_fault.RunFault.{RunFault}
 use Rattle.commands.specs.declared.run_fault.RunFault.TheVariants.{Closed, Program, Refused, Unchained}
-use Rattle.lines.specs.CatalogFile.{IsCatalogueFile, RefusesFile}
+use Rattle.commands.specs.CatalogFiles.{AreSeveral, GivesCatalogues}
 use Rattle.commands.specs.Client.{IsOfClient}
 use Rattle.commands.specs.Conversations.{AreOfParts}
 use Rattle.lines.specs.Input.{IsOfInput}
@@ -102,15 +109,25 @@ module _ {D S : Type 0} (desk_is_clean desk_is_sound : D → Type 0) (desk_conte
   IsUnwoven machines opening entries pasts lists why.Memory = ⊥
   IsUnwoven machines opening entries pasts lists (why.NotTold k) = IsNotTold (schemas_of (catalogue_of machines.desk.catalog)) entries lists k
 
-  -- a verdict on records that replay: where their stores are clean, histories without a fault are one run, and a fault has its reason
-  abbrev pub IsVerdict : code.Machines D S → DeskKept → List Entry → List Past → List (List Told) → Option faults.WeaveFault → Type 0
-  IsVerdict machines opening entries pasts lists None =
-      OfStores desk_is_clean site_is_clean machines → (events : List Event) × WeavesRun (database (catalogue_of machines.desk.catalog)) opening entries (desk_from desk_content machines.desk) (pasts_in site_content machines.sites.items pasts) lists events
-  IsVerdict machines opening entries pasts lists (Some fault) = IsUnwoven machines opening entries pasts lists fault
+  -- Histories without a fault were woven by their numbers, and in them stands all that the sessions were told. Where the stores are clean they are one run of the protocol: over the one catalogue of the
+  -- opening, and over each lawful list that has its catalogues from its number on.
+  pub record AreWoven (machines : code.Machines D S) (catalogs : List (List (List ℕ) × List SplitRelation)) (opening : DeskKept) (entries : List Entry) (pasts : List Past) (lists : List (List Told)) : Type 0 where
+    pub events : List Event
+    pub woven : IsWoven (database (catalogue_of machines.desk.catalog)) entries (map (λ (past : Past). past.entries.items) pasts) lists events
+    pub run : HadOne catalogs machines.desk.catalog → OfStores desk_is_clean site_is_clean machines
+        → WeavesRun (database (catalogue_of machines.desk.catalog)) opening entries (desk_from desk_content machines.desk) (pasts_in site_content machines.sites.items pasts) lists events
+    pub run_over : (db : Database) → IsListed db → IsOfCatalogues db opening.version (map catalogue_of catalogs) → OfStores desk_is_clean site_is_clean machines
+        → WeavesListRun db opening entries (desk_from desk_content machines.desk) (pasts_in site_content machines.sites.items pasts) machines.desk.later.items lists events
 
-  -- Sessions at once have come to their ends: each held its conversation, and the machines' histories, which replay, were judged by what all sessions were told. All conversations are printed, the
-  -- verdict, and each relation with its rows.
-  pub record HasRun (catalogue : Catalogue) (parts : List SessionPart) (printed : List ℕ) (is_woven : Bool) : Type 0 where
+  -- a verdict on records that replay: histories without a fault are woven, and a fault has its reason
+  abbrev pub IsVerdict : code.Machines D S → List (List (List ℕ) × List SplitRelation) → DeskKept → List Entry → List Past → List (List Told) → Option faults.WeaveFault → Type 0
+  IsVerdict machines catalogs opening entries pasts lists None = AreWoven machines catalogs opening entries pasts lists
+  IsVerdict machines catalogs opening entries pasts lists (Some fault) = IsUnwoven machines opening entries pasts lists fault
+
+  -- Sessions at once have come to their ends over these catalogues, one of which is in force at the end: each held its conversation, and the machines' histories, which replay, were judged by what all
+  -- sessions were told. All conversations are printed, the verdict, and each relation with its rows. A verdict without a fault says that it was one run of the protocol over the list of catalogues, where
+  -- the stores are clean; what is shown of relations is known where the opening had one catalogue.
+  pub record HasRun (catalogues : List Catalogue) (parts : List SessionPart) (printed : List ℕ) (is_woven : Bool) : Type 0 where
     pub conversations : List Conversation
     pub of_parts : AreOfParts parts conversations
     pub machines : code.Machines D S
@@ -119,15 +136,20 @@ module _ {D S : Type 0} (desk_is_clean desk_is_sound : D → Type 0) (desk_conte
     pub entries : List Entry
     pub pasts : List Past
     pub records : AreRecords desk_is_clean desk_is_sound desk_content site_is_clean site_is_sound site_content machines catalogs opening entries pasts
-    pub catalog : catalogue_of machines.desk.catalog ≡ catalogue
+    pub catalog : In (catalogue_of machines.desk.catalog) catalogues
+    pub given : map catalogue_of catalogs ≡ from_number opening.version catalogues
+    pub alone : (catalogue : Catalogue) → catalogues ≡ catalogue ∷ [] → HadOne catalogs machines.desk.catalog
     pub verdict : Option faults.WeaveFault
-    pub judged : IsVerdict machines opening entries pasts (lists_told conversations) verdict
+    pub judged : IsVerdict machines catalogs opening entries pasts (lists_told conversations) verdict
     pub told : is_woven ≡ is_none verdict
+    pub one_run : (first : Catalogue) (rest : List Catalogue) → catalogues ≡ first ∷ rest → verdict ≡ None → OfStores desk_is_clean site_is_clean machines
+        → (events : List Event) × WeavesListRun (databases first rest) opening entries (desk_from desk_content machines.desk) (pasts_in site_content machines.sites.items pasts) machines.desk.later.items (lists_told conversations) events
     pub ended : code.Machines D S
     pub shown : List Found
-    pub found : ShowsFound (map (λ (relation : RelationSchema). relation.name) (schemas_of catalogue)) machines ended shown
-    pub serial : OfStores desk_is_clean site_is_clean ended → verdict ≡ None → IsOneRun machines opening entries pasts (lists_told conversations) shown
-    pub printed_is : printed ≡ flat_map (λ (one : Conversation). string_bytes one.printed) conversations ++ verdict_text verdict ++ flat_map (relation_lines catalogue) shown
+    pub found : ShowsFound (map (λ (relation : RelationSchema). relation.name) (schemas_of (catalogue_of machines.desk.catalog))) machines ended shown
+    pub serial : HadOne catalogs machines.desk.catalog → OfStores desk_is_clean site_is_clean ended → verdict ≡ None
+        → IsOneRun machines opening entries pasts (lists_told conversations) shown
+    pub printed_is : printed ≡ flat_map (λ (one : Conversation). string_bytes one.printed) conversations ++ verdict_text verdict ++ flat_map (relation_lines (catalogue_of machines.desk.catalog)) shown
 
 -- a script that is short enough, each line of which can be read
 pub record IsAccepted (script : List ℕ) : Type 0 where
@@ -140,34 +162,40 @@ fault_of_call call.Memory = Program Memory
 fault_of_call (call.Store why) = Program (Store why)
 fault_of_call other = Closed
 
--- what stops sessions before anything is printed; over one catalogue they aren't stopped as unchained
-abbrev pub StopsRun : RunFault → Type 0
-StopsRun (Program fault) = IsOfClient fault
-StopsRun Closed = ⊤
-StopsRun Unchained = ⊤
-StopsRun (Refused fault) = ⊥
+-- a fault of catalogues, or of their opening, as sessions' own
+abbrev pub fault_of_chain : ChainFault → RunFault
+fault_of_chain (chain.Program fault) = Program fault
+fault_of_chain (chain.Refused fault) = Refused fault
+fault_of_chain chain.Unchained = Unchained
+
+-- what stops sessions over these catalogues before anything is printed: of several the coordinator's store may keep the number of none
+abbrev pub StopsRun : List Catalogue → RunFault → Type 0
+StopsRun catalogues (Program fault) = IsOfClient fault
+StopsRun catalogues Closed = ⊤
+StopsRun catalogues Unchained = AreSeveral catalogues
+StopsRun catalogues (Refused fault) = ⊥
 
 -- what stops sessions that may run: memory ran out, a store failed, nobody reads what is printed, all of which is written at the end, or a machine can't be had back
-abbrev pub StopsSessions : Option (List ℕ) → Option (List ℕ) → RunFault → Type 0
-StopsSessions old new (Program Memory) = ⊤
-StopsSessions old new (Program (Store why)) = Keeps old new
-StopsSessions old new (Program CannotWrite) = ⊤
-StopsSessions old new (Program other) = ⊥
-StopsSessions old new Closed = Keeps old new
-StopsSessions old new Unchained = Keeps old new
-StopsSessions old new (Refused fault) = ⊥
+abbrev pub StopsSessions : List Catalogue → Option (List ℕ) → Option (List ℕ) → RunFault → Type 0
+StopsSessions catalogues old new (Program Memory) = ⊤
+StopsSessions catalogues old new (Program (Store why)) = Keeps old new
+StopsSessions catalogues old new (Program CannotWrite) = ⊤
+StopsSessions catalogues old new (Program other) = ⊥
+StopsSessions catalogues old new Closed = Keeps old new
+StopsSessions catalogues old new Unchained = AreSeveral catalogues × Keeps old new
+StopsSessions catalogues old new (Refused fault) = ⊥
 
 -- what stopped the script of this file
-abbrev pub StopsScript : Bor (List ℕ) → List ℕ → Option (List ℕ) → Option (List ℕ) → RunFault → Type 0
-StopsScript file script old new (Program (CannotRead name)) = (name ≡ file) × Keeps old new
-StopsScript file script old new (Program ScriptTooLong) = (longest < length script) × Keeps old new
-StopsScript file script old new (Program (Malformed line)) = (length script ≤ longest) × (first_malformed (lines_of script) ≡ Some line) × Keeps old new
-StopsScript file script old new (Program Memory) = IsAccepted script ⊎ Keeps old new
-StopsScript file script old new (Program (Store why)) = IsAccepted script × Keeps old new
-StopsScript file script old new (Program CannotWrite) = IsAccepted script
-StopsScript file script old new Closed = IsAccepted script × Keeps old new
-StopsScript file script old new Unchained = IsAccepted script × Keeps old new
-StopsScript file script old new (Refused fault) = ⊥
+abbrev pub StopsScript : List Catalogue → Bor (List ℕ) → List ℕ → Option (List ℕ) → Option (List ℕ) → RunFault → Type 0
+StopsScript catalogues file script old new (Program (CannotRead name)) = (name ≡ file) × Keeps old new
+StopsScript catalogues file script old new (Program ScriptTooLong) = (longest < length script) × Keeps old new
+StopsScript catalogues file script old new (Program (Malformed line)) = (length script ≤ longest) × (first_malformed (lines_of script) ≡ Some line) × Keeps old new
+StopsScript catalogues file script old new (Program Memory) = IsAccepted script ⊎ Keeps old new
+StopsScript catalogues file script old new (Program (Store why)) = IsAccepted script × Keeps old new
+StopsScript catalogues file script old new (Program CannotWrite) = IsAccepted script
+StopsScript catalogues file script old new Closed = IsAccepted script × Keeps old new
+StopsScript catalogues file script old new Unchained = AreSeveral catalogues × IsAccepted script × Keeps old new
+StopsScript catalogues file script old new (Refused fault) = ⊥
 
 -- a fault of the file of this name, as it was read
 abbrev pub IsOfFile : Bor (List ℕ) → RunFault → Type 0
@@ -175,12 +203,6 @@ IsOfFile file (Program fault) = IsOfInput file fault
 IsOfFile file Closed = ⊥
 IsOfFile file Unchained = ⊥
 IsOfFile file (Refused fault) = ⊥
-
--- why nothing runs where the script can't be opened: the catalogue is none, or that is told
-abbrev pub IsUnrun : Bor (List ℕ) → List ℕ → Bor (List ℕ) → Result Bool RunFault → Type 0
-IsUnrun catalog bytes file (Ok is_woven) = ⊥
-IsUnrun catalog bytes file (Err (Refused fault)) = RefusesFile bytes fault.relation fault.rule
-IsUnrun catalog bytes file (Err fault) = IsOfFile catalog fault ⊎ IsOfFile file fault
 
 -- what sessions came to, as an outcome; a verdict that says no counts as a refusal
 abbrev pub outcome_of : Result Bool RunFault → Outcome
@@ -193,28 +215,37 @@ outcome_of (Err Closed) = Lost
 
 module _ {D S : Type 0} (desk_is_clean desk_is_sound : D → Type 0) (desk_content : D → DeskContent) (site_is_clean site_is_sound : S → Type 0) (site_content : S → SiteContent) where
   -- what was printed was written
-  pub record HasWritten (catalogue : Catalogue) (parts : List SessionPart) (old new : Option (List ℕ)) (is_woven : Bool) : Type 0 where
+  pub record HasWritten (catalogues : List Catalogue) (parts : List SessionPart) (old new : Option (List ℕ)) (is_woven : Bool) : Type 0 where
     pub printed : List ℕ
-    pub run : HasRun desk_is_clean desk_is_sound desk_content site_is_clean site_is_sound site_content catalogue parts printed is_woven
+    pub run : HasRun desk_is_clean desk_is_sound desk_content site_is_clean site_is_sound site_content catalogues parts printed is_woven
     pub written : Appends old new printed
 
   -- the script of a file ran to its end, or was stopped
-  abbrev pub RunsScript : Catalogue → Bor (List ℕ) → List ℕ → Option (List ℕ) → Option (List ℕ) → Result Bool RunFault → Type 0
-  RunsScript catalogue file script old new (Ok is_woven) = IsAccepted script × HasWritten catalogue (sessions_of (lines_of script)) old new is_woven
-  RunsScript catalogue file script old new (Err Unchained) = ⊥
-  RunsScript catalogue file script old new (Err fault) = StopsScript file script old new fault
+  abbrev pub RunsScript : List Catalogue → Bor (List ℕ) → List ℕ → Option (List ℕ) → Option (List ℕ) → Result Bool RunFault → Type 0
+  RunsScript catalogues file script old new (Ok is_woven) = IsAccepted script × HasWritten catalogues (sessions_of (lines_of script)) old new is_woven
+  RunsScript catalogues file script old new (Err fault) = StopsScript catalogues file script old new fault
 
-  -- these bytes are of a valid catalogue, over which the script of this file ran to its end, or was stopped
-  pub record IsRunOf (bytes : List ℕ) (file : Bor (List ℕ)) (script : List ℕ) (old new : Option (List ℕ)) (result : Result Bool RunFault) : Type 0 where
-    pub catalogue : Catalogue
-    pub text : IsCatalogueFile bytes catalogue
-    pub valid : IsValidCatalogue catalogue
-    pub ran : RunsScript catalogue file script old new result
+-- remaining: the bytes that a reader of a catalogue still gives, where they are known. Does: what is done over the chain of catalogues
+module _ {C : Type 0} (remaining : C → Option (List ℕ)) (Does : List Catalogue → Result Bool RunFault → Type 0) where
+  -- a first catalogue, of these bytes, and those that come next are a chain, and this was done over it
+  pub record IsDoneOver (file : Bor (List ℕ)) (bytes : List ℕ) (next : List (Source C)) (result : Result Bool RunFault) : Type 0 where
+    pub catalogs : List (List (List ℕ) × List SplitRelation)
+    pub given : GivesCatalogues remaining file bytes next (Ok catalogs)
+    pub done : Does (map catalogue_of catalogs) result
 
-  -- The run of a script over a catalogue, each the bytes of a file. The catalogue is looked at first, and where it is none nothing is written.
-  abbrev pub RunsFiles : Bor (List ℕ) → List ℕ → Bor (List ℕ) → List ℕ → Option (List ℕ) → Option (List ℕ) → Result Bool RunFault → Type 0
-  RunsFiles catalog bytes file script old new (Ok is_woven) = IsRunOf bytes file script old new (Ok is_woven)
-  RunsFiles catalog bytes file script old new (Err (Refused fault)) = RefusesFile bytes fault.relation fault.rule × Keeps old new
-  RunsFiles catalog bytes file script old new (Err (Program fault)) = (IsOfInput catalog fault × Keeps old new) ⊎ IsRunOf bytes file script old new (Err (Program fault))
-  RunsFiles catalog bytes file script old new (Err Closed) = IsRunOf bytes file script old new (Err Closed)
-  RunsFiles catalog bytes file script old new (Err Unchained) = ⊥
+  -- they are none, and nothing was done
+  pub record IsUndone (file : Bor (List ℕ)) (bytes : List ℕ) (next : List (Source C)) (old new : Option (List ℕ)) (fault : RunFault) : Type 0 where
+    pub told : ChainFault
+    pub given : GivesCatalogues remaining file bytes next (Err told)
+    pub is : fault ≡ fault_of_chain told
+    pub kept : Keeps old new
+
+  -- The catalogues are looked at first, and where they are no chain nothing is written.
+  abbrev pub RunsFiles : Bor (List ℕ) → List ℕ → List (Source C) → Option (List ℕ) → Option (List ℕ) → Result Bool RunFault → Type 0
+  RunsFiles file bytes next old new (Ok is_woven) = IsDoneOver file bytes next (Ok is_woven)
+  RunsFiles file bytes next old new (Err fault) = IsUndone file bytes next old new fault ⊎ IsDoneOver file bytes next (Err fault)
+
+-- the file of a script can't be opened
+abbrev pub IsUnopened : Bor (List ℕ) → Result Bool RunFault → Type 0
+IsUnopened file (Ok is_woven) = ⊥
+IsUnopened file (Err fault) = IsOfFile file fault

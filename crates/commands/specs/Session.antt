@@ -3,7 +3,7 @@ use Rattle.std.specs.Prelude.{ℕ, ◌≡◌, ◌⊎◌, Bool, if◌then◌else�
 use Rattle.std.specs.Borrow.{Bor}
 use Rattle.std.specs.Io.KnownBytes.{Appends, Keeps}
 use Rattle.meaning.specs.Whole.{Relations}
-use Rattle.catalog.specs.Catalogue.{Catalogue, IsValidCatalogue}
+use Rattle.catalog.specs.Catalogue.{Catalogue}
 use Rattle.protocol.specs.Desk.{Deed}
 use Rattle.desk.specs.Database.{language}
 use Rattle.world.specs.declared.event.Entry.{Entry}
@@ -13,10 +13,10 @@ use Rattle.world.specs.Runs.{IsSerialRun}
 use Rattle.world.specs.Client.{IsServed}
 use Rattle.shell.specs.declared.mode.Mode.{Mode}
 use Rattle.shell.specs.declared.mode.Mode.TheVariants.{Tabs}
-use Rattle.lines.specs.declared.catalog_file.CatalogFault.{CatalogFault}
-use Rattle.lines.specs.declared.catalog_file.CatalogFault.TheVariants.{Program, Refused}
 use Rattle.lines.specs.declared.fault.ProgramFault.{ProgramFault}
-use Rattle.lines.specs.CatalogFile.{IsCatalogueFile, RefusesFile}
+use Rattle.commands.specs.declared.catalog_files.ChainFault.{ChainFault}
+use Rattle.commands.specs.declared.catalog_files.ChainFault.TheVariants.{Program, Refused, Unchained}
+use Rattle.commands.specs.CatalogFiles.{AreSeveral}
 use Rattle.commands.specs.Client.{AnswersTask, GoesOn, Seen, Standing, standing_of}
 use Rattle.lines.specs.Input.{IsOfInput}
 use Rattle.lines.specs.Listing.{catalog_text, schema_text, tables_text}
@@ -24,7 +24,7 @@ use Rattle.commands.specs.declared.stats.Stats.{Stats}
 use Rattle.commands.specs.Import.{ImportMade, imported_text}
 use Rattle.commands.specs.Stats.{stats_text}
 use Rattle.world.specs.declared.traffic.Traffic.{Traffic}
-use Rattle.commands.specs.Origin.{BeginsWith, Origin}
+use Rattle.commands.specs.Origin.{BeginsWith, IsBegun, IsLastOf, Origin}
 use Rattle.lines.specs.Plan.{IsPlanOf}
 use Rattle.lines.specs.Reply.{Told, text_of}
 use Rattle.lines.specs.Script.{Reading}
@@ -161,26 +161,20 @@ pub record Talks {B : Type 0} (seen : Seen B) (before after : Option (List ℕ))
 
 -- seen: how databases are seen that are opened for a session; IsOrigin: what they may begin with
 module _ {B : Type 0} (seen : Seen B) (IsOrigin : Origin → Type 0) where
-  -- a session over a database that was opened for it, whatever relations it began with. It is one where the stores are clean at its end
-  pub record IsSession (catalogue : Catalogue) (written : List ℕ) : Type 0 where
+  -- A session over a database of these catalogues that was opened for it. Where the catalogue in force as it began is the last one, and the stores are clean at its end, it is a session over this one, whatever
+  -- relations it began with
+  pub record HasTalked (catalogues : List Catalogue) (old new : Option (List ℕ)) : Type 0 where
     pub origin : Origin
     pub is_origin : IsOrigin origin
+    pub opened : B
+    pub begun : (catalogue : Catalogue) → IsLastOf catalogues origin catalogue → IsBegun seen catalogue origin opened
     pub ended : B
-    pub held : (whole : Relations) → BeginsWith catalogue origin whole → seen.is_clean ended → IsSessionFrom catalogue whole written
+    pub talks : Talks seen old new opened ended
+    pub held : (catalogue : Catalogue) (whole : Relations) → IsLastOf catalogues origin catalogue → BeginsWith catalogue origin whole → seen.is_clean ended → IsSessionFrom catalogue whole talks.written
 
-  -- a session was had, and all of it was written
-  abbrev pub HasTalked : Catalogue → Option (List ℕ) → Option (List ℕ) → Type 0
-  HasTalked catalogue old new = (written : List ℕ) × Appends old new written × IsSession catalogue written
-
-  -- these bytes are of a valid catalogue, over which there was a session to its end
-  pub record IsHeld (bytes : List ℕ) (old new : Option (List ℕ)) : Type 0 where
-    pub catalogue : Catalogue
-    pub text : IsCatalogueFile bytes catalogue
-    pub valid : IsValidCatalogue catalogue
-    pub talked : HasTalked catalogue old new
-
-  -- A session over a catalogue of these bytes. The catalogue is looked at first, and where it is none nothing is written.
-  abbrev pub RunsSession : Bor (List ℕ) → List ℕ → Bor (List ℕ) → Option (List ℕ) → Option (List ℕ) → Result Unit CatalogFault → Type 0
-  RunsSession catalog bytes file old new (Ok done) = IsHeld bytes old new
-  RunsSession catalog bytes file old new (Err (Refused fault)) = RefusesFile bytes fault.relation fault.rule × Keeps old new
-  RunsSession catalog bytes file old new (Err (Program fault)) = (IsOfInput catalog fault × Keeps old new) ⊎ IsOfSession file fault
+  -- a session whose lines this file gives had an end, or was stopped; of several catalogues a coordinator's store may keep the number of none
+  abbrev pub RunsSession : Bor (List ℕ) → Option (List ℕ) → Option (List ℕ) → List Catalogue → Result Unit ChainFault → Type 0
+  RunsSession file old new catalogues (Ok done) = HasTalked catalogues old new
+  RunsSession file old new catalogues (Err (Program fault)) = IsOfSession file fault
+  RunsSession file old new catalogues (Err (Refused fault)) = ⊥
+  RunsSession file old new catalogues (Err Unchained) = AreSeveral catalogues × Keeps old new

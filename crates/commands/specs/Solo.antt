@@ -4,26 +4,25 @@ use Rattle.std.specs.Borrow.{Bor}
 use Rattle.std.specs.Io.KnownBytes.{Appends, Keeps}
 use Rattle.std.specs.List.{list_any}
 use Rattle.meaning.specs.Whole.{Relations}
-use Rattle.catalog.specs.Catalogue.{Catalogue, IsValidCatalogue}
+use Rattle.catalog.specs.Catalogue.{Catalogue}
 use Rattle.protocol.specs.Desk.{Deed}
 use Rattle.desk.specs.Database.{Database, language}
 use Rattle.world.specs.Course.{said_in}
-use Rattle.desk.specs.CatalogueDatabase.{database, fits}
+use Rattle.desk.specs.CatalogueDatabase.{database, databases, fits}
 use Rattle.world.specs.declared.event.Entry.{Entry}
 use Rattle.world.specs.Executed.{Stands}
 use Rattle.world.specs.Listed.{IsListed}
 use Rattle.world.specs.Runs.{IsSerialRun}
 use Rattle.world.specs.Client.{IsServed}
 use Rattle.shell.specs.declared.mode.Mode.{Mode}
-use Rattle.lines.specs.declared.catalog_file.CatalogFault.{CatalogFault}
-use Rattle.lines.specs.declared.catalog_file.CatalogFault.TheVariants.{Program, Refused}
 use Rattle.lines.specs.declared.fault.ProgramFault.{ProgramFault}
 use Rattle.lines.specs.declared.fault.ProgramFault.TheVariants.{CannotRead, CannotWrite, Malformed, Memory, ScriptTooLong, Store}
-use Rattle.lines.specs.CatalogFile.{IsCatalogueFile, RefusesFile}
+use Rattle.commands.specs.declared.catalog_files.ChainFault.{ChainFault}
+use Rattle.commands.specs.declared.catalog_files.ChainFault.TheVariants.{Program, Refused, Unchained}
+use Rattle.commands.specs.CatalogFiles.{AreSeveral}
 use Rattle.commands.specs.Client.{AnswersTask, GoesOn, IsOfClient, Seen, Standing, standing_of}
 use Rattle.commands.specs.ListClient.{AnswersTaskOver, GoesOnOver, Happened, IsTold, ListStanding, list_standing_of, unhappened}
-use Rattle.commands.specs.Origin.{BeginsWith, Origin}
-use Rattle.lines.specs.Input.{IsOfInput}
+use Rattle.commands.specs.Origin.{BeginsWith, BeginsWithOver, IsBegun, IsLastOf, Origin}
 use Rattle.lines.specs.Reply.{Answered, Refused, Told, is_refusal, text_of}
 use Rattle.lines.specs.Script.{Reading, Runs, first_unreadable, lines_of, tasks_of_lines}
 
@@ -39,6 +38,12 @@ pub record IsAccepted (script : List ℕ) : Type 0 where
 -- a fault that may come once the script runs
 abbrev pub IsOfRun : ProgramFault → Type 0
 IsOfRun fault = IsOfClient fault ⊎ (fault ≡ CannotWrite)
+
+-- so over a chain of these catalogues
+abbrev pub IsOfRunOver : List Catalogue → ChainFault → Type 0
+IsOfRunOver catalogues (Program fault) = IsOfRun fault
+IsOfRunOver catalogues (Refused fault) = ⊥
+IsOfRunOver catalogues Unchained = AreSeveral catalogues
 
 -- a fault that may come while the script is read from this file
 abbrev pub IsOfRead : Bor (List ℕ) → ProgramFault → Type 0
@@ -133,12 +138,6 @@ StopsScript file script old new Memory = ¬ (IsAccepted script) → Keeps old ne
 StopsScript file script old new (Store why) = IsAccepted script
 StopsScript file script old new CannotWrite = IsAccepted script
 
--- why nothing runs where the script can't be opened: the catalogue is none, or that is told
-abbrev pub IsUnrun : Bor (List ℕ) → List ℕ → Bor (List ℕ) → Result Bool CatalogFault → Type 0
-IsUnrun catalog bytes file (Ok any_refused) = ⊥
-IsUnrun catalog bytes file (Err (Refused fault)) = RefusesFile bytes fault.relation fault.rule
-IsUnrun catalog bytes file (Err (Program fault)) = IsOfInput catalog fault ⊎ IsOfInput file fault
-
 -- a run of tasks over a database that goes on
 pub record IsStretch {B : Type 0} (seen : Seen B) (mode : Mode) (catalogue : Catalogue) (whole : Relations) (tasks : List Reading) (past : List (Deed (language (database catalogue)))) (old new : B) (written : List ℕ) (any_refused : Bool) : Type 0 where
   pub later : List (Deed (language (database catalogue)))
@@ -167,30 +166,32 @@ module _ {B : Type 0} (seen : Seen B) (IsOrigin : Origin → Type 0) where
     pub ended : B
     pub ran : (whole : Relations) → BeginsWith catalogue origin whole → seen.is_clean ended → IsRunFrom mode catalogue whole tasks written any_refused
 
+  -- A run of tasks over a database of these catalogues that was opened for it. Where the catalogue in force as it began is the last one, and the stores are clean at its end, it is a run over this one, whatever
+  -- relations it began with; and so it is a run over the list of them, whichever is in force and comes into force
+  pub record IsRunOver (mode : Mode) (catalogues : List Catalogue) (tasks : List Reading) (old new : Option (List ℕ)) (any_refused : Bool) : Type 0 where
+    pub origin : Origin
+    pub is_origin : IsOrigin origin
+    pub opened : B
+    pub begun : (catalogue : Catalogue) → IsLastOf catalogues origin catalogue → IsBegun seen catalogue origin opened
+    pub ended : B
+    pub stretch : Stretches seen mode tasks old new opened ended any_refused
+    pub ran : (catalogue : Catalogue) (whole : Relations) → IsLastOf catalogues origin catalogue → BeginsWith catalogue origin whole → seen.is_clean ended → IsRunFrom mode catalogue whole tasks stretch.written any_refused
+    pub ran_over : (first : Catalogue) (rest : List Catalogue) (whole : Relations) → catalogues ≡ first ∷ rest → BeginsWithOver first rest origin whole → seen.is_clean ended → IsRunFromOver mode (databases first rest) whole tasks stretch.written any_refused
+
   -- a script that may run has run to its end, and all that its lines are answered by was written
-  abbrev pub HasRun : Mode → Catalogue → List ℕ → Option (List ℕ) → Option (List ℕ) → Bool → Type 0
-  HasRun mode catalogue script old new any_refused =
-      IsAccepted script × ((written : List ℕ) × Appends old new written × IsRun mode catalogue (tasks_of_lines (lines_of script)) written any_refused)
+  abbrev pub HasRun : Mode → List Catalogue → List ℕ → Option (List ℕ) → Option (List ℕ) → Bool → Type 0
+  HasRun mode catalogues script old new any_refused = IsAccepted script × IsRunOver mode catalogues (tasks_of_lines (lines_of script)) old new any_refused
 
   -- a script that is short enough ran to its end, or was stopped
-  abbrev pub RunsOrStops : Mode → Catalogue → List ℕ → Option (List ℕ) → Option (List ℕ) → Result Bool ProgramFault → Type 0
-  RunsOrStops mode catalogue script old new (Ok any_refused) = HasRun mode catalogue script old new any_refused
-  RunsOrStops mode catalogue script old new (Err fault) = StopsRun script old new fault
+  abbrev pub RunsOrStops : Mode → List Catalogue → List ℕ → Option (List ℕ) → Option (List ℕ) → Result Bool ChainFault → Type 0
+  RunsOrStops mode catalogues script old new (Ok any_refused) = HasRun mode catalogues script old new any_refused
+  RunsOrStops mode catalogues script old new (Err (Program fault)) = StopsRun script old new fault
+  RunsOrStops mode catalogues script old new (Err (Refused fault)) = ⊥
+  RunsOrStops mode catalogues script old new (Err Unchained) = AreSeveral catalogues × IsAccepted script × Keeps old new
 
-  -- the script of a file ran to its end, or was stopped
-  abbrev pub RunsScript : Mode → Catalogue → Bor (List ℕ) → List ℕ → Option (List ℕ) → Option (List ℕ) → Result Bool ProgramFault → Type 0
-  RunsScript mode catalogue file script old new (Ok any_refused) = HasRun mode catalogue script old new any_refused
-  RunsScript mode catalogue file script old new (Err fault) = StopsScript file script old new fault
-
-  -- these bytes are of a valid catalogue, over which the script of this file ran to its end, or was stopped
-  pub record IsRunOf (mode : Mode) (bytes : List ℕ) (file : Bor (List ℕ)) (script : List ℕ) (old new : Option (List ℕ)) (result : Result Bool ProgramFault) : Type 0 where
-    pub catalogue : Catalogue
-    pub text : IsCatalogueFile bytes catalogue
-    pub valid : IsValidCatalogue catalogue
-    pub ran : RunsScript mode catalogue file script old new result
-
-  -- The run of a script over a catalogue, each the bytes of a file. The catalogue is looked at first, and where it is none nothing is written.
-  abbrev pub RunsFiles : Mode → Bor (List ℕ) → List ℕ → Bor (List ℕ) → List ℕ → Option (List ℕ) → Option (List ℕ) → Result Bool CatalogFault → Type 0
-  RunsFiles mode catalog bytes file script old new (Ok any_refused) = IsRunOf mode bytes file script old new (Ok any_refused)
-  RunsFiles mode catalog bytes file script old new (Err (Refused fault)) = RefusesFile bytes fault.relation fault.rule × Keeps old new
-  RunsFiles mode catalog bytes file script old new (Err (Program fault)) = (IsOfInput catalog fault × Keeps old new) ⊎ IsRunOf mode bytes file script old new (Err fault)
+  -- the script of a file ran to its end, or was stopped: of several catalogues also since the coordinator's store keeps the number of none
+  abbrev pub RunsScript : Mode → Bor (List ℕ) → List ℕ → Option (List ℕ) → Option (List ℕ) → List Catalogue → Result Bool ChainFault → Type 0
+  RunsScript mode file script old new catalogues (Ok any_refused) = HasRun mode catalogues script old new any_refused
+  RunsScript mode file script old new catalogues (Err (Program fault)) = StopsScript file script old new fault
+  RunsScript mode file script old new catalogues (Err (Refused fault)) = ⊥
+  RunsScript mode file script old new catalogues (Err Unchained) = AreSeveral catalogues × IsAccepted script × Keeps old new

@@ -1,6 +1,6 @@
 //! The catalogues that the program is given one after another, each the text of a file.
 
-ghost use Rattle.std.specs.Prelude.{◌≡◌, [], ◌∷◌, IfErr, IfOk, IfSome};
+ghost use Rattle.std.specs.Prelude.{◌≡◌, ◌<◌, [], ◌∷◌, IfErr, IfOk, IfSome, length};
 ghost use Rattle.catalog.specs.Relation.{catalogue_of};
 ghost use Rattle.commands.specs.CatalogFiles as spec;
 ghost use Rattle.commands.specs.CatalogFiles.{GivesCatalogues, GivesChain, IsFaultOf, IsSourceOf};
@@ -11,9 +11,10 @@ use catalog::fault::CatFault;
 use lines::catalog_file::{CatalogFault, read_catalog};
 use lines::fault::ProgramFault;
 use lines::script::ScriptFault;
-use std::alloc::{AllocFailed, Global};
-use std::io;
+use std::alloc::{AllocError, AllocFailed, Global};
+use std::fs::File;
 use std::io::Read;
+use std::{fs, io};
 use terms::memory::Memory;
 
 /// A file that is to give a catalogue.
@@ -98,7 +99,8 @@ pub fn read_catalogs<'a, C: Read + Drop, N: Read + Drop>(
     catalog: C,
     next: Vec<Source<'a, N>>,
 ) -> Result<Chain, ChainFault<'a>>
-    ensures { IfSome (C.remaining catalog) (λ bytes. GivesCatalogues N.remaining file.entry bytes next.entry.items result) }
+    ensures gives { IfSome (C.remaining catalog) (λ bytes. GivesCatalogues N.remaining file.entry bytes next.entry.items result) }
+    ensures unchained { result ≡ Err ChainFault.Unchained → 0 < length next.entry.items }
 {
     let first = read_catalog(alloc, file, catalog)?;
     read_chain(alloc, first, next)
@@ -137,4 +139,20 @@ fn read_source<'a, C: Read + Drop>(
         Ok(catalog) => Ok(read_catalog(alloc, file, catalog)?),
         Err(error) => Err(ChainFault::Program(ProgramFault::reading(file, &error))),
     }
+}
+
+/// The files of the catalogues that come next, as far as they can be opened.
+pub fn open_next<'a>(
+    rt: &HostRuntime,
+    next: &[&'a str],
+) -> Result<Vec<Source<'a, File>>, AllocError> {
+    let mut sources = Vec::new(rt.alloc());
+    for file in next {
+        let catalog = fs::open(rt, *file);
+        sources.push(Source {
+            file: *file,
+            catalog,
+        })?;
+    }
+    Ok(sources)
 }

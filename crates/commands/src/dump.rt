@@ -1,18 +1,17 @@
 //! Relations as statements that make their rows anew.
 
 ghost use Rattle.std.specs.Prelude.{◌≡◌, IfErr, IfOk, IfSome, OnOk, map, option_map};
-ghost use Rattle.catalog.specs.FragmentLeaf.{schemas_of};
 ghost use Rattle.catalog.specs.Relation.{catalogue_of};
-ghost use Rattle.commands.specs.Dump.{DumpsFile, HasDumped, dumps_asked, dumps_of};
+ghost use Rattle.commands.specs.Dump.{DumpsFile, HasDumped, dumps_of};
 ghost use Rattle.commands.specs.Dump as spec;
 ghost use Rattle.lines.specs.Script.{DumpsRelation, task_of};
 ghost use Rattle.commands.specs.Session.{Talks};
 ghost use Rattle.commands.specs.Solo.{IsOfRun, Stretches};
 
 use crate::database::Database;
-use crate::opener::Opens;
+use crate::opener::{Opens, open_alone};
 use crate::session_word::Turn;
-use crate::solo::{run, run_items};
+use crate::solo::run_items;
 use catalog::catalogue::Catalog;
 use lines::catalog_file::{CatalogFault, read_catalog};
 use lines::fault::ProgramFault;
@@ -23,6 +22,7 @@ use std::alloc::Global;
 use std::io::{Read, Write};
 use terms::memory::Memory;
 use terms::text::Text;
+use world::laws::moves_follow;
 
 /// Writes the relation of this name as statements, or each where none is named, of the database of the catalogue that `catalog`
 /// gives, which `catalog_file` names in a fault. In another mode than tabs the rows of the relation that is named are shown.
@@ -62,7 +62,9 @@ fn dump_over<'a, B: Database + Drop, O: Opens<B>, W: Write>(
     let is_missing = is_missing(relation, catalog.schema());
     let names = names_of(alloc, catalog.schema())?;
     let items = items_asked(alloc, mode, relation, names.as_slice())?;
-    let outcome = run(alloc, opener, mode, catalog, items.as_slice(), output);
+    moves_follow(&catalog);
+    let mut database = open_alone(alloc, opener, &catalog)?;
+    let outcome = run_items(alloc, mode, &mut database, items.as_slice(), output);
     // What was written before a fault goes out too.
     let flushed = output.flush();
     outcome?;

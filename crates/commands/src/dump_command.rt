@@ -1,6 +1,7 @@
 //! The command `dump`, over the files that the command line names. What files hold no contract can say; over readers and writers
 //! `dump_files` says what is done.
 
+use crate::catalog_files::ChainFault;
 use crate::database::Database;
 use crate::dump::dump_files;
 use crate::folder::{CATALOGUE, path_in};
@@ -13,7 +14,7 @@ use lines::outcome::{Outcome, Status, exit};
 use lines::transfer::Dump;
 use sqlite::Alter;
 use std::fs;
-use std::io::Write;
+use std::io::{Read, Write};
 
 /// Writes what is asked for, over the stores of the folder that is named, and tells what it came to. A folder that has no
 /// database is left as it is, and can't be read. What files hold no contract can say; over readers and writers `dump_files` says
@@ -62,25 +63,33 @@ fn dump_from<'a, B: Database + Drop, O: Opens<B>, W: Write>(
     dump: Dump<'a>,
     output: &mut W,
 ) -> Outcome<'a> {
-    let (alloc, relation, mode) = (rt.alloc(), dump.relation, dump.mode);
     match dump.catalog {
         Some(file) => match fs::open(rt, file) {
-            Ok(catalog) => of_script(dump_files(
-                alloc, opener, file, catalog, relation, mode, output,
-            )),
+            Ok(catalog) => dump_over(rt, opener, dump, file, catalog, output),
             Err(error) => unread(file, &error),
         },
-        None => {
-            let catalog = BUILT_IN.as_bytes();
-            of_script(dump_files(
-                alloc,
-                opener,
-                BUILT_IN_NAME,
-                catalog,
-                relation,
-                mode,
-                output,
-            ))
-        }
+        None => dump_over(rt, opener, dump, BUILT_IN_NAME, BUILT_IN.as_bytes(), output),
     }
+}
+
+/// The same over this catalogue.
+fn dump_over<'a, B: Database + Drop, O: Opens<B>, C: Read + Drop, W: Write>(
+    rt: &HostRuntime,
+    opener: &O,
+    dump: Dump<'a>,
+    catalog_file: &'a str,
+    catalog: C,
+    output: &mut W,
+) -> Outcome<'a> {
+    let (relation, mode) = (dump.relation, dump.mode);
+    let ended = dump_files(
+        rt.alloc(),
+        opener,
+        catalog_file,
+        catalog,
+        relation,
+        mode,
+        output,
+    );
+    of_script(ended.map_err(ChainFault::from))
 }

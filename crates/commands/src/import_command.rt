@@ -1,6 +1,7 @@
 //! The command `import`, over the files that the command line names. What files hold no contract can say; over readers and writers
 //! `import_files` says what is done.
 
+use crate::catalog_files::ChainFault;
 use crate::database::Database;
 use crate::import_file::import_files;
 use crate::opener::{Folder, Lists, Opens};
@@ -124,7 +125,7 @@ fn import_on<
 ) -> Outcome<'a> {
     let (relation, file, every) = (import.relation, import.file, import.every);
     let mut progress = RowProgress::at_terminal(rt);
-    of_script(import_files(
+    let ended = import_files(
         rt.alloc(),
         opener,
         catalog_file,
@@ -136,5 +137,6 @@ fn import_on<
         &mut progress,
         output,
         errors,
-    ))
+    );
+    of_script(ended.map_err(ChainFault::from))
 }

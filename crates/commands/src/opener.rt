@@ -2,10 +2,12 @@
 
 ghost use Rattle.std.specs.Prelude.{◌≡◌, ◌↔◌, IfErr, IfOk, length, map};
 ghost use Rattle.catalog.specs.Relation.{catalogue_of};
+ghost use Rattle.store.specs.declared.fault.StoreFault.TheVariants as kept;
 ghost use Rattle.desk.specs.declared.refusal.Refusal.TheVariants as refusals;
 ghost use Rattle.world.specs.declared.fault.Fault.TheVariants as faults;
-ghost use Rattle.commands.specs.CatalogFiles as spec;
-ghost use Rattle.commands.specs.CatalogFiles.{IsOfOpening};
+ghost use Rattle.lines.specs.declared.fault.ProgramFault.TheVariants as program;
+ghost use Rattle.commands.specs.declared.catalog_files.ChainFault.TheVariants as chains;
+ghost use Rattle.commands.specs.CatalogFiles.{AreSeveral, IsOfOpening};
 ghost use Rattle.commands.specs.Client.{IsOfClient};
 ghost use Rattle.commands.specs.Origin.{Begins, BeginsOver, Origin as OriginNow};
 ghost use Rattle.commands.specs.SqlStores.{AreOfLeaves};
@@ -43,7 +45,7 @@ pub trait Opens<B: Database> {
     /// Opens the database of this chain. In force is the catalogue whose number its stores keep, or the first one.
     fn open<'a>(&self, alloc: Global, chain: &Chain) -> Result<B, ChainFault<'a>>
         ensures ok { IfOk result (BeginsOver B.seen origin (map catalogue_of chain.now)) }
-        ensures err { IfErr result IsOfOpening };
+        ensures err { IfErr result (IsOfOpening (map catalogue_of chain.now)) };
 
     /// What a session is to tell of what such a database is going to begin with, in lines; nothing where it begins without rows.
     /// Nothing is claimed of the words.
@@ -52,7 +54,7 @@ pub trait Opens<B: Database> {
     }
 }
 
-/// Opens the database of one catalogue. A coordinator's store that keeps another number than the first is damaged.
+/// Opens the database of one catalogue.
 pub fn open_alone<'a, B: Database, O: Opens<B>>(
     alloc: Global,
     opener: &O,
@@ -64,19 +66,8 @@ pub fn open_alone<'a, B: Database, O: Opens<B>>(
     let chain = alone(alloc, catalog)?;
     match opener.open(alloc, &chain) {
         Ok(database) => Ok(database),
-        Err(fault) => Err(fault_alone(fault)),
-    }
-}
-
-/// What stops the program where a database of one catalogue isn't opened.
-pub fn fault_alone(fault: ChainFault<'_>) -> ProgramFault<'_>
-    ensures { result ≡ spec.fault_alone fault.entry }
-{
-    match fault {
-        ChainFault::Program(fault) => fault,
-        ChainFault::Refused(_) | ChainFault::Unchained => ProgramFault::Store {
-            fault: StoreFault::Damaged,
-        },
+        Err(ChainFault::Program(fault)) => Err(fault),
+        Err(_) => unreachable!(),
     }
 }
 
@@ -125,7 +116,7 @@ impl Opens<Solo<SqlDesk<MemStore>, SqlSite<MemStore>>> for InMemory {
         let desk = memory_desk(alloc)?;
         match open_on(alloc, chain, &whole, sites, desk) {
             Ok(database) => Ok(database),
-            Err(fault) => Err(unchained(fault)),
+            Err(fault) => Err(unchained(chain, fault)),
         }
     }
 }
@@ -192,7 +183,7 @@ impl<M: Alter + Drop, F: OpensFiles<M>> Opens<Solo<SqlDesk<M>, SqlSite<M>>> for 
         keep_catalogue(self.rt, self.dir, self.source, first, standing)?;
         match Solo::open_stores(alloc, chain, sites, desk) {
             Ok(database) => Ok(database),
-            Err(fault) => Err(unchained(fault)),
+            Err(fault) => Err(unchained(chain, fault)),
         }
     }
 
@@ -201,21 +192,24 @@ impl<M: Alter + Drop, F: OpensFiles<M>> Opens<Solo<SqlDesk<M>, SqlSite<M>>> for 
     }
 }
 
-/// Why a database of a chain isn't opened: also since the coordinator's store keeps the number of none of its catalogues.
-pub fn unchained<'a>(fault: Fault) -> ChainFault<'a>
-    ensures own { IsOfOpening result }
-    ensures chain { (result ≡ ChainFault.Unchained) ↔ (fault ≡ faults.Desk refusals.Chain) }
+/// Why a database of a chain isn't opened: also since, of several catalogues, the coordinator's store keeps the number of none. One
+/// that keeps another number than that of the only catalogue is damaged.
+pub fn unchained<'a>(chain: &Chain, fault: Fault) -> ChainFault<'a>
+    ensures own { IsOfOpening (map catalogue_of chain.now) result }
+    ensures chain { (result ≡ ChainFault.Unchained) ↔ ((fault ≡ faults.Desk refusals.Chain) × AreSeveral chain.now) }
+    ensures damaged { fault ≡ faults.Desk refusals.Chain → ¬ (AreSeveral chain.now) → result ≡ chains.Program (program.Store kept.Damaged) }
 {
     match fault {
-        Fault::Desk(Refusal::Chain) => ChainFault::Unchained,
+        Fault::Desk(Refusal::Chain) if chain.len() > 1 => ChainFault::Unchained,
         fault => ChainFault::Program(unopened(fault)),
     }
 }
 
-/// What stops the program where a database of one catalogue can't be opened. An incarnation after the last one can't be kept, and a
-/// coordinator's store with the number of a catalogue that isn't given is damaged.
+/// What stops the program where a database can't be opened. An incarnation after the last one can't be kept, and a coordinator's
+/// store with the number of a catalogue that isn't given is damaged.
 pub fn unopened<'a>(fault: Fault) -> ProgramFault<'a>
-    ensures { IsOfClient result }
+    ensures own { IsOfClient result }
+    ensures damaged { fault ≡ faults.Desk refusals.Chain → result ≡ program.Store kept.Damaged }
 {
     match fault {
         Fault::Desk(Refusal::Full) | Fault::Site(SiteFault::Full) => {

@@ -2,13 +2,12 @@
 
 ghost use Rattle.std.specs.Prelude.{◌≡◌, IfErr, IfOk, IfSome};
 ghost use Rattle.std.specs.Io.KnownBytes.{Keeps};
-ghost use Rattle.commands.specs.Perform.{ComesTo, IsStopped, IsUnread, Performs, PerformsCheck, PerformsPlan, PerformsOver, PerformsPlayOf, PerformsSession, PerformsSolo, StopsIdle, StopsUncatalogued, StopsUnread};
+ghost use Rattle.commands.specs.Perform.{IsIdle, IsStopped, IsUnread, Performs, PerformsCheck, PerformsOver, PerformsPlan, PerformsPlay, PerformsSession, PerformsSolo, StopsIdle, StopsUncatalogued, StopsUnread};
 ghost use Rattle.commands.specs.Perform as spec;
-ghost use Rattle.lines.specs.Request.{file_of, mode_of, session_mode};
-ghost use Rattle.commands.specs.Play.{IsUnplayed};
+ghost use Rattle.lines.specs.Request.{file_of};
 ghost use Rattle.commands.specs.Schedule.{world_over};
-ghost use Rattle.commands.specs.Solo.{IsUnrun};
 
+use crate::catalog_files::{ChainFault, Source};
 use crate::database::Database;
 use crate::opener::Opens;
 use crate::play::play_files;
@@ -30,9 +29,9 @@ use std::time::Clock;
 use store::desk_store::DeskStore;
 use store::site_store::SiteStore;
 
-/// Does what is asked for over `input`, which is the file that the request names, opened, and over `catalog`, the
-/// catalogue that it names besides, or the built-in one; `catalog_file` names it in a fault. Answers what it came
-/// to. Nothing is written to `output` where a file can't be opened.
+/// Does what is asked for over `input`, which is the file that the request names, opened, and over the catalogues: `catalog`, which
+/// it names besides, or the built-in one, and those that come next; `catalog_file` names the first one in a fault. A request that is
+/// of no script takes none of them. Answers what it came to. Nothing is written to `output` where a file can't be opened.
 pub fn perform<
     'a,
     B: Database + Drop,
@@ -41,6 +40,7 @@ pub fn perform<
     S: SiteStore + Drop,
     P: OpensWorld<D, S>,
     C: Read + Drop,
+    N: Read + Drop,
     R: Read + Drop,
     W: Write,
 >(
@@ -50,14 +50,15 @@ pub fn perform<
     request: Request<'a>,
     catalog_file: &'a str,
     catalog: io::Result<C>,
+    next: Vec<Source<'a, N>>,
     input: io::Result<R>,
     output: &mut W,
 ) -> Outcome<'a>
     ensures opened { IfOk input (λ reader. IfSome (R.remaining reader) (λ bytes. Performs request.entry bytes (W.contents output.old) (W.contents output.new) result)) }
-    ensures over { IfOk catalog (λ opened. IfSome (C.remaining opened) (λ bytes. IfOk input (λ reader. IfSome (R.remaining reader) (λ script. PerformsOver B.seen O.origin (world_over D.is_clean S.is_clean D.is_sound S.is_sound D.kept S.kept D.refused S.refused) P.fails_for request.entry catalog_file.entry bytes script (W.contents output.old) (W.contents output.new) result)))) }
+    ensures over { IfOk catalog (λ opened. IfSome (C.remaining opened) (λ bytes. IfOk input (λ reader. IfSome (R.remaining reader) (λ script. PerformsOver N.remaining B.seen O.origin (world_over D.is_clean S.is_clean D.is_sound S.is_sound D.kept S.kept D.refused S.refused) P.fails_for request.entry catalog_file.entry bytes next.entry.items script (W.contents output.old) (W.contents output.new) result)))) }
     ensures uncatalogued { IfErr catalog (λ error. StopsUncatalogued request.entry catalog_file.entry (W.contents output.old) (W.contents output.new) result) }
-    ensures idle { IfOk catalog (λ opened. IfSome (C.remaining opened) (λ bytes. IfErr input (λ error. StopsIdle request.entry catalog_file.entry bytes result))) }
-    ensures unread { IfErr input (λ error. StopsUnread request.entry result × Keeps (W.contents output.old) (W.contents output.new)) }
+    ensures idle { IfOk catalog (λ opened. IfSome (C.remaining opened) (λ bytes. IfErr input (λ error. StopsIdle N.remaining request.entry catalog_file.entry bytes next.entry.items (W.contents output.old) (W.contents output.new) result))) }
+    ensures unread { IfErr input (λ error. StopsUnread request.entry next.entry.items result × Keeps (W.contents output.old) (W.contents output.new)) }
 {
     match request {
         Request::Solo { script, mode, .. } => {
@@ -67,6 +68,7 @@ pub fn perform<
                 mode,
                 catalog_file,
                 catalog,
+                next,
                 script,
                 input,
                 output,
@@ -82,37 +84,53 @@ pub fn perform<
             statement,
             tree,
         } => perform_plan(alloc, file, statement, tree, input, output),
-        Request::Play { script, .. } => {
-            perform_play(alloc, worlds, catalog_file, catalog, script, input, output)
-        }
+        Request::Play { script, .. } => perform_play(
+            alloc,
+            worlds,
+            catalog_file,
+            catalog,
+            next,
+            script,
+            input,
+            output,
+        ),
     }
 }
 
-/// Runs a script over a catalogue that was opened under this name.
-fn perform_solo<'a, B: Database + Drop, O: Opens<B>, C: Read + Drop, R: Read + Drop, W: Write>(
+/// Runs a script over a catalogue that was opened under this name, and those that come next.
+fn perform_solo<
+    'a,
+    B: Database + Drop,
+    O: Opens<B>,
+    C: Read + Drop,
+    N: Read + Drop,
+    R: Read + Drop,
+    W: Write,
+>(
     alloc: Global,
     opener: &O,
     mode: Mode,
     file: &'a str,
     catalog: io::Result<C>,
+    next: Vec<Source<'a, N>>,
     script: &'a str,
     input: io::Result<R>,
     output: &mut W,
 ) -> Outcome<'a>
-    ensures ran { IfOk catalog (λ opened. IfSome (C.remaining opened) (λ bytes. IfOk input (λ reader. IfSome (R.remaining reader) (λ text. PerformsSolo B.seen O.origin mode file.entry bytes script.entry text (W.contents output.old) (W.contents output.new) result)))) }
+    ensures ran { IfOk catalog (λ opened. IfSome (C.remaining opened) (λ bytes. IfOk input (λ reader. IfSome (R.remaining reader) (λ text. PerformsSolo N.remaining B.seen O.origin mode file.entry bytes next.entry.items script.entry text (W.contents output.old) (W.contents output.new) result)))) }
     ensures uncatalogued { IfErr catalog (λ error. IsUnread file.entry result × Keeps (W.contents output.old) (W.contents output.new)) }
-    ensures idle { IfOk catalog (λ opened. IfSome (C.remaining opened) (λ bytes. IfErr input (λ error. ComesTo spec.outcome_of_script (IsUnrun file.entry bytes script.entry) result))) }
-    ensures unread { IfErr input (λ error. IsStopped result × Keeps (W.contents output.old) (W.contents output.new)) }
+    ensures idle { IfOk catalog (λ opened. IfSome (C.remaining opened) (λ bytes. IfErr input (λ error. IsIdle N.remaining spec.outcome_of_script file.entry bytes next.entry.items script.entry (W.contents output.old) (W.contents output.new) result))) }
+    ensures unread { IfErr input (λ error. IsStopped next.entry.items result × Keeps (W.contents output.old) (W.contents output.new)) }
 {
     match catalog {
         Ok(catalog) => of_script(solo_files(
-            alloc, opener, mode, file, catalog, script, input, output,
+            alloc, opener, mode, file, catalog, next, script, input, output,
         )),
         Err(error) => unread(file, &error),
     }
 }
 
-/// Has a session over a catalogue that was opened under this name, with the lines that `input` gives.
+/// Has a session over a catalogue that was opened under this name and those that come next, with the lines that `input` gives.
 pub fn perform_session<
     'a,
     B: Database + Drop,
@@ -120,6 +138,7 @@ pub fn perform_session<
     K: Clock + OpensText<T>,
     T: Read + Drop,
     C: Read + Drop,
+    N: Read + Drop,
     R: Read + Drop,
     W: Write,
     E: Write,
@@ -130,23 +149,25 @@ pub fn perform_session<
     request: Request<'a>,
     catalog_file: &'a str,
     catalog: io::Result<C>,
+    next: Vec<Source<'a, N>>,
     input: io::Result<R>,
     output: &mut W,
     errors: &mut E,
 ) -> Outcome<'a>
-    ensures held { IfOk catalog (λ opened. IfSome (C.remaining opened) (λ bytes. PerformsSession B.seen O.origin catalog_file.entry bytes (file_of request.entry) (W.contents output.old) (W.contents output.new) result)) }
+    ensures held { IfOk catalog (λ opened. IfSome (C.remaining opened) (λ bytes. PerformsSession N.remaining B.seen O.origin catalog_file.entry bytes next.entry.items (file_of request.entry) (W.contents output.old) (W.contents output.new) result)) }
     ensures uncatalogued { IfErr catalog (λ error. IsUnread catalog_file.entry result × Keeps (W.contents output.old) (W.contents output.new)) }
 {
     let mode = request.session_mode();
     let file = request.file();
     match catalog {
-        Ok(catalog) => of_check(session_files(
+        Ok(catalog) => of_end(session_files(
             alloc,
             opener,
             host,
             mode,
             catalog_file,
             catalog,
+            next,
             file,
             input,
             output,
@@ -191,13 +212,14 @@ fn perform_plan<'a, R: Read + Drop, W: Write>(
     }
 }
 
-/// Plays a script over a catalogue that was opened under this name.
+/// Plays a script over a catalogue that was opened under this name, and those that come next.
 fn perform_play<
     'a,
     D: DeskStore + Drop,
     S: SiteStore + Drop,
     P: OpensWorld<D, S>,
     C: Read + Drop,
+    N: Read + Drop,
     R: Read + Drop,
     W: Write,
 >(
@@ -205,17 +227,20 @@ fn perform_play<
     worlds: &P,
     file: &'a str,
     catalog: io::Result<C>,
+    next: Vec<Source<'a, N>>,
     script: &'a str,
     input: io::Result<R>,
     output: &mut W,
 ) -> Outcome<'a>
-    ensures played { IfOk catalog (λ opened. IfSome (C.remaining opened) (λ bytes. IfOk input (λ reader. IfSome (R.remaining reader) (λ text. PerformsPlayOf (world_over D.is_clean S.is_clean D.is_sound S.is_sound D.kept S.kept D.refused S.refused) P.fails_for file.entry bytes script.entry text (W.contents output.old) (W.contents output.new) result)))) }
+    ensures played { IfOk catalog (λ opened. IfSome (C.remaining opened) (λ bytes. IfOk input (λ reader. IfSome (R.remaining reader) (λ text. PerformsPlay N.remaining (world_over D.is_clean S.is_clean D.is_sound S.is_sound D.kept S.kept D.refused S.refused) P.fails_for file.entry bytes next.entry.items script.entry text (W.contents output.old) (W.contents output.new) result)))) }
     ensures uncatalogued { IfErr catalog (λ error. IsUnread file.entry result × Keeps (W.contents output.old) (W.contents output.new)) }
-    ensures idle { IfOk catalog (λ opened. IfSome (C.remaining opened) (λ bytes. IfErr input (λ error. ComesTo spec.outcome_of_check (IsUnplayed file.entry bytes script.entry) result))) }
-    ensures unread { IfErr input (λ error. IsStopped result × Keeps (W.contents output.old) (W.contents output.new)) }
+    ensures idle { IfOk catalog (λ opened. IfSome (C.remaining opened) (λ bytes. IfErr input (λ error. IsIdle N.remaining spec.outcome_of_end file.entry bytes next.entry.items script.entry (W.contents output.old) (W.contents output.new) result))) }
+    ensures unread { IfErr input (λ error. IsStopped next.entry.items result × Keeps (W.contents output.old) (W.contents output.new)) }
 {
     match catalog {
-        Ok(catalog) => of_check(play_files(alloc, worlds, file, catalog, script, input, output)),
+        Ok(catalog) => of_end(play_files(
+            alloc, worlds, file, catalog, next, script, input, output,
+        )),
         Err(error) => unread(file, &error),
     }
 }
@@ -227,15 +252,34 @@ pub fn unread<'a>(file: &'a str, error: &io::Error) -> Outcome<'a>
     Outcome::Stopped(ProgramFault::reading(file, error))
 }
 
-/// What a script came to.
-pub fn of_script(ended: Result<bool, CatalogFault<'_>>) -> Outcome<'_>
+/// What a script over catalogues came to.
+pub fn of_script(ended: Result<bool, ChainFault<'_>>) -> Outcome<'_>
     ensures { result ≡ spec.outcome_of_script ended.entry }
 {
     match ended {
         Ok(false) => Outcome::Done,
         Ok(true) => Outcome::SomeRefused,
-        Err(CatalogFault::Refused(fault)) => Outcome::Refused(fault),
-        Err(CatalogFault::Program(fault)) => Outcome::Stopped(fault),
+        Err(fault) => of_fault(fault),
+    }
+}
+
+/// What a session or a schedule over catalogues came to.
+fn of_end(ended: Result<(), ChainFault<'_>>) -> Outcome<'_>
+    ensures { result ≡ spec.outcome_of_end ended.entry }
+{
+    match ended {
+        Ok(()) => Outcome::Done,
+        Err(fault) => of_fault(fault),
+    }
+}
+
+fn of_fault(fault: ChainFault<'_>) -> Outcome<'_>
+    ensures { result ≡ spec.outcome_of_fault fault.entry }
+{
+    match fault {
+        ChainFault::Program(fault) => Outcome::Stopped(fault),
+        ChainFault::Refused(fault) => Outcome::Refused(fault),
+        ChainFault::Unchained => Outcome::Unchained,
     }
 }
 

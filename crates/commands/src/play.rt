@@ -1,21 +1,21 @@
-//! The command `play`: a script of schedules over a world of its own.
+//! The command `play`: a script of schedules over a world of its own, of a chain of catalogues.
 
-ghost use Rattle.std.specs.Prelude.{◌≡◌, ◌∷◌, [], List, IfErr, IfOk, IfSome, OnOk, is_err, map, true, string_bytes};
+ghost use Rattle.std.specs.Prelude.{◌≡◌, ◌<◌, ◌∷◌, List, IfErr, IfOk, IfSome, OnOk, is_err, length, map, true, string_bytes};
 ghost use Rattle.std.specs.Io.KnownBytes.{Keeps};
 ghost use Rattle.meaning.specs.Whole.{FitsSchema};
 ghost use Rattle.catalog.specs.Catalogue.{Catalogue};
 ghost use Rattle.catalog.specs.FragmentLeaf.{schemas_of};
 ghost use Rattle.catalog.specs.Relation.{catalogue_of};
-ghost use Rattle.commands.specs.Play.{IsChainPlayedOver, IsPlayedOver, IsUnplayed, PlaysChain, PlaysChainOrStops, PlaysFiles, PlaysItem, PlaysItems, PlaysOrStops, PlaysScript, StopsItems};
+ghost use Rattle.commands.specs.CatalogFiles.{DoesOver, IsUnopened};
+ghost use Rattle.commands.specs.Play.{IsPlayedOver, PlaysItem, PlaysItems, PlaysOrStops, PlaysOver, PlaysScript, StopsItems};
 ghost use Rattle.lines.specs.Input.{IsOfInput, IsOfOutput};
 ghost use Rattle.commands.specs.Schedule.{IsCounted, LeavesWorld, stage_of, world_over};
 
+use crate::catalog_files::{ChainFault, Source, read_catalogs};
 use crate::schedule::Schedule;
 use crate::solo::read_script;
 use crate::world_opener::OpensWorld;
-use catalog::catalogue::Catalog;
 use catalog::chain::Chain;
-use lines::catalog_file::{CatalogFault, read_catalog};
 use lines::fault::ProgramFault;
 use lines::play_items::{Placed, read_items};
 use lines::play_load::loaded;
@@ -27,19 +27,20 @@ use std::io::{Read, Write};
 use store::desk_store::DeskStore;
 use store::site_store::SiteStore;
 use terms::memory::Memory;
-use world::chain::{alone, first_of};
+use world::chain::first_of;
 use world::laws::{
     chain_is_listed, database_is_of_catalogue, language_is_lawful, list_runs_are_serial,
 };
 
 /// Plays the script that `input` gives, which `file` names in a fault, over the catalogue that `catalog` gives, which
-/// `catalog_file` names. The catalogue is read first.
+/// `catalog_file` names, and those that come next. The catalogues are read first.
 pub fn play_files<
     'a,
     D: DeskStore + Drop,
     S: SiteStore + Drop,
     O: OpensWorld<D, S>,
     C: Read + Drop,
+    N: Read + Drop,
     R: Read + Drop,
     W: Write,
 >(
@@ -47,29 +48,48 @@ pub fn play_files<
     opener: &O,
     catalog_file: &'a str,
     catalog: C,
+    next: Vec<Source<'a, N>>,
     file: &'a str,
     input: io::Result<R>,
     output: &mut W,
-) -> Result<(), CatalogFault<'a>>
-    ensures opened { IfSome (C.remaining catalog) (λ bytes. IfOk input (λ reader. IfSome (R.remaining reader) (λ script. PlaysFiles (world_over D.is_clean S.is_clean D.is_sound S.is_sound D.kept S.kept D.refused S.refused) O.fails_for catalog_file.entry bytes file.entry script (W.contents output.old) (W.contents output.new) result))) }
-    ensures unread { IfErr input (λ error. IfSome (C.remaining catalog) (λ bytes. IsUnplayed catalog_file.entry bytes file.entry result)) }
+) -> Result<(), ChainFault<'a>>
+    ensures opened { IfSome (C.remaining catalog) (λ bytes. IfOk input (λ reader. IfSome (R.remaining reader) (λ script. DoesOver N.remaining catalog_file.entry bytes next.entry.items (W.contents output.old) (W.contents output.new) (PlaysOver (world_over D.is_clean S.is_clean D.is_sound S.is_sound D.kept S.kept D.refused S.refused) O.fails_for file.entry script (W.contents output.old) (W.contents output.new)) result))) }
+    ensures unread { IfErr input (λ error. IfSome (C.remaining catalog) (λ bytes. DoesOver N.remaining catalog_file.entry bytes next.entry.items (W.contents output.old) (W.contents output.new) (λ catalogues. IsUnopened file.entry) result)) }
+    ensures idle { IfErr input (λ error. (is_err result ≡ true) × (result ≡ Err ChainFault.Unchained → 0 < length next.entry.items) × Keeps (W.contents output.old) (W.contents output.new)) }
+{
+    let chain = read_catalogs(alloc, catalog_file, catalog, next)?;
+    Ok(play_opened(alloc, opener, &chain, file, input, output)?)
+}
+
+/// The same over a chain of catalogues that was read.
+fn play_opened<
+    'a,
+    D: DeskStore + Drop,
+    S: SiteStore + Drop,
+    O: OpensWorld<D, S>,
+    R: Read + Drop,
+    W: Write,
+>(
+    alloc: Global,
+    opener: &O,
+    chain: &Chain,
+    file: &'a str,
+    input: io::Result<R>,
+    output: &mut W,
+) -> Result<(), ProgramFault<'a>>
+    ensures opened { (first : Catalogue) (rest : List Catalogue) → map catalogue_of chain.now ≡ first ∷ rest → IfOk input (λ reader. IfSome (R.remaining reader) (λ script. PlaysScript (world_over D.is_clean S.is_clean D.is_sound S.is_sound D.kept S.kept D.refused S.refused) O.fails_for first rest file.entry script (W.contents output.old) (W.contents output.new) result)) }
+    ensures unread { IfErr input (λ error. IfErr result (IsOfInput file.entry)) }
     ensures idle { IfErr input (λ error. (is_err result ≡ true) × Keeps (W.contents output.old) (W.contents output.new)) }
 {
-    match read_catalog(alloc, catalog_file, catalog) {
-        Ok(catalog) => match input {
-            Ok(input) => match play(alloc, opener, catalog, file, input, output) {
-                Ok(()) => Ok(()),
-                Err(fault) => Err(CatalogFault::Program(fault)),
-            },
-            Err(error) => Err(CatalogFault::Program(ProgramFault::reading(file, &error))),
-        },
-        Err(fault) => Err(fault),
+    match input {
+        Ok(input) => play(alloc, opener, chain, file, input, output),
+        Err(error) => Err(ProgramFault::reading(file, &error)),
     }
 }
 
-/// Plays the script that `input` gives, which `file` names in a fault, over a new world of this catalogue: the
-/// whole script or none of it. Writes what is told of each item to `output`. It writes often, and flushes once:
-/// give it an output with a buffer.
+/// Plays the script that `input` gives, which `file` names in a fault, over a new world of this chain, in which a `refragment` brings
+/// the next catalogue into force: the whole script or none of it. Writes what is told of each item to `output`. It writes often,
+/// and flushes once: give it an output with a buffer.
 pub fn play<
     'a,
     D: DeskStore + Drop,
@@ -80,61 +100,12 @@ pub fn play<
 >(
     alloc: Global,
     opener: &O,
-    catalog: Catalog,
-    file: &'a str,
-    input: R,
-    output: &mut W,
-) -> Result<(), ProgramFault<'a>>
-    ensures { IfSome (R.remaining input) (λ script. PlaysScript (world_over D.is_clean S.is_clean D.is_sound S.is_sound D.kept S.kept D.refused S.refused) O.fails_for (catalogue_of catalog) file.entry script (W.contents output.old) (W.contents output.new) result) }
-{
-    let script = read_script(alloc, file, input)?;
-    let chain = alone(alloc, &catalog)?;
-    play_script(alloc, opener, &chain, script.as_slice(), output)
-}
-
-/// Plays the script that `input` gives, which `file` names in a fault, over a chain of catalogues that was read.
-pub fn play_catalogues<
-    'a,
-    D: DeskStore + Drop,
-    S: SiteStore + Drop,
-    O: OpensWorld<D, S>,
-    R: Read + Drop,
-    W: Write,
->(
-    alloc: Global,
-    opener: &O,
-    chain: &Chain,
-    file: &'a str,
-    input: io::Result<R>,
-    output: &mut W,
-) -> Result<(), ProgramFault<'a>>
-    ensures opened { (first : Catalogue) (rest : List Catalogue) → map catalogue_of chain.now ≡ first ∷ rest → IfOk input (λ reader. IfSome (R.remaining reader) (λ script. PlaysChain (world_over D.is_clean S.is_clean D.is_sound S.is_sound D.kept S.kept D.refused S.refused) O.fails_for first rest file.entry script (W.contents output.old) (W.contents output.new) result)) }
-    ensures unread { IfErr input (λ error. IfErr result (IsOfInput file.entry)) }
-    ensures idle { IfErr input (λ error. (is_err result ≡ true) × Keeps (W.contents output.old) (W.contents output.new)) }
-{
-    match input {
-        Ok(input) => play_chain(alloc, opener, chain, file, input, output),
-        Err(error) => Err(ProgramFault::reading(file, &error)),
-    }
-}
-
-/// Plays a script as `play` does, over a new world of a chain of catalogues: a `refragment` brings the next one into force.
-pub fn play_chain<
-    'a,
-    D: DeskStore + Drop,
-    S: SiteStore + Drop,
-    O: OpensWorld<D, S>,
-    R: Read + Drop,
-    W: Write,
->(
-    alloc: Global,
-    opener: &O,
     chain: &Chain,
     file: &'a str,
     input: R,
     output: &mut W,
 ) -> Result<(), ProgramFault<'a>>
-    ensures { (first : Catalogue) (rest : List Catalogue) → map catalogue_of chain.now ≡ first ∷ rest → IfSome (R.remaining input) (λ script. PlaysChain (world_over D.is_clean S.is_clean D.is_sound S.is_sound D.kept S.kept D.refused S.refused) O.fails_for first rest file.entry script (W.contents output.old) (W.contents output.new) result) }
+    ensures { (first : Catalogue) (rest : List Catalogue) → map catalogue_of chain.now ≡ first ∷ rest → IfSome (R.remaining input) (λ script. PlaysScript (world_over D.is_clean S.is_clean D.is_sound S.is_sound D.kept S.kept D.refused S.refused) O.fails_for first rest file.entry script (W.contents output.old) (W.contents output.new) result) }
 {
     let script = read_script(alloc, file, input)?;
     play_script(alloc, opener, chain, script.as_slice(), output)
@@ -148,8 +119,7 @@ fn play_script<'a, D: DeskStore + Drop, S: SiteStore + Drop, O: OpensWorld<D, S>
     script: &[u8],
     output: &mut W,
 ) -> Result<(), ProgramFault<'a>>
-    ensures one { (catalogue : Catalogue) → map catalogue_of chain.now ≡ catalogue ∷ [] → PlaysOrStops (world_over D.is_clean S.is_clean D.is_sound S.is_sound D.kept S.kept D.refused S.refused) O.fails_for catalogue script.now (W.contents output.old) (W.contents output.new) result }
-    ensures lists { (first : Catalogue) (rest : List Catalogue) → map catalogue_of chain.now ≡ first ∷ rest → PlaysChainOrStops (world_over D.is_clean S.is_clean D.is_sound S.is_sound D.kept S.kept D.refused S.refused) O.fails_for first rest script.now (W.contents output.old) (W.contents output.new) result }
+    ensures { (first : Catalogue) (rest : List Catalogue) → map catalogue_of chain.now ≡ first ∷ rest → PlaysOrStops (world_over D.is_clean S.is_clean D.is_sound S.is_sound D.kept S.kept D.refused S.refused) O.fails_for first rest script.now (W.contents output.old) (W.contents output.new) result }
 {
     let script = read_items(alloc, script)?;
     match loaded(alloc, first_of(chain).schema(), &script) {
@@ -175,8 +145,7 @@ fn play_over<'a, D: DeskStore + Drop, S: SiteStore + Drop, O: OpensWorld<D, S>, 
     output: &mut W,
 ) -> Result<(), ProgramFault<'a>>
     requires { (first : Catalogue) (rest : List Catalogue) → map catalogue_of chain.now ≡ first ∷ rest → FitsSchema (schemas_of first) whole.now }
-    ensures one { (catalogue : Catalogue) → map catalogue_of chain.now ≡ catalogue ∷ [] → OnOk result (IsPlayedOver (world_over D.is_clean S.is_clean D.is_sound S.is_sound D.kept S.kept D.refused S.refused) catalogue whole.now items.now (W.contents output.old) (W.contents output.new)) }
-    ensures lists { (first : Catalogue) (rest : List Catalogue) → map catalogue_of chain.now ≡ first ∷ rest → OnOk result (IsChainPlayedOver (world_over D.is_clean S.is_clean D.is_sound S.is_sound D.kept S.kept D.refused S.refused) first rest whole.now items.now (W.contents output.old) (W.contents output.new)) }
+    ensures ok { (first : Catalogue) (rest : List Catalogue) → map catalogue_of chain.now ≡ first ∷ rest → OnOk result (IsPlayedOver (world_over D.is_clean S.is_clean D.is_sound S.is_sound D.kept S.kept D.refused S.refused) first rest whole.now items.now (W.contents output.old) (W.contents output.new)) }
     ensures err { IfErr result (StopsItems O.fails_for (W.contents output.old) (W.contents output.new)) }
 {
     let first = first_of(chain);

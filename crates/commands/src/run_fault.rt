@@ -2,13 +2,11 @@
 
 ghost use Rattle.std.specs.Prelude.{◌≡◌};
 ghost use Rattle.commands.specs.Run.{outcome_of};
-ghost use Rattle.commands.specs.RunChain as spec;
 
 use crate::catalog_files::ChainFault;
 use catalog::fault::CatFault;
 use lines::fault::ProgramFault;
 use lines::outcome::Outcome;
-use store::fault::StoreFault;
 use terms::memory::Memory;
 use wire::fault::CallFault;
 
@@ -36,7 +34,7 @@ impl<'a> From<ProgramFault<'a>> for RunFault<'a> {
 }
 
 impl<'a> From<ChainFault<'a>> for RunFault<'a> {
-    ghost use Rattle.commands.specs.RunChain.{fault_of_chain};
+    ghost use Rattle.commands.specs.Run.{fault_of_chain};
 
     ghost from_gives = { λ told fault. fault ≡ fault_of_chain told };
 
@@ -85,19 +83,5 @@ pub fn outcome_of(ended: Result<bool, RunFault<'_>>) -> Outcome<'_>
         Err(RunFault::Unchained) => Outcome::Unchained,
         Err(RunFault::Program(fault)) => Outcome::Stopped(fault),
         Err(RunFault::Closed) => Outcome::Lost,
-    }
-}
-
-/// What sessions over one catalogue came to: a coordinator's store that keeps another number than the first is damaged.
-pub fn ended_alone(ended: Result<bool, RunFault<'_>>) -> Result<bool, RunFault<'_>>
-    ensures { result ≡ spec.ended_alone ended.entry }
-{
-    match ended {
-        Err(RunFault::Unchained) => {
-            Err(RunFault::Program(ProgramFault::Store {
-                fault: StoreFault::Damaged,
-            }))
-        }
-        other => other,
     }
 }

@@ -10,8 +10,7 @@ ghost use Rattle.history.specs.Records.{AreRecords};
 ghost use Rattle.commands.specs.Client.{IsOfClient};
 ghost use Rattle.commands.specs.Conversations.{AreOfParts};
 ghost use Rattle.protocol.specs.Parts.{In};
-ghost use Rattle.commands.specs.Run.{Prints, lists_told};
-ghost use Rattle.commands.specs.RunChain.{HasRunOver, IsVerdictOver};
+ghost use Rattle.commands.specs.Run.{HasRun, IsVerdict, Prints, lists_told};
 ghost use Rattle.lines.specs.RunScript.{SessionPart as SessionPartNow};
 
 use crate::client::stopped;
@@ -108,7 +107,7 @@ pub fn conclude<'a, D: DeskStore + Drop, S: SiteStore + Drop>(
     records: Records<D, S>,
 ) -> Result<Option<Ran>, ProgramFault<'a>>
     requires { AreRecords D.is_clean D.is_sound D.kept S.is_clean S.is_sound S.kept records.machines records.catalogs.items records.opening records.entries.items records.pasts.items }
-    ensures ok { (parts : List SessionPartNow) → AreOfParts parts conversations.now → IfOk result (λ ended. IfSome ended (λ ran. HasRunOver D.is_clean D.is_sound D.kept S.is_clean S.is_sound S.kept (map catalogue_of chain.now) parts (string_bytes ran.printed) ran.is_woven)) }
+    ensures ok { (parts : List SessionPartNow) → AreOfParts parts conversations.now → IfOk result (λ ended. IfSome ended (λ ran. HasRun D.is_clean D.is_sound D.kept S.is_clean S.is_sound S.kept (map catalogue_of chain.now) parts (string_bytes ran.printed) ran.is_woven)) }
     ensures err { IfErr result IsOfClient }
 {
     let mut records = records;
@@ -139,7 +138,7 @@ fn verdict<D: DeskStore + Drop, S: SiteStore + Drop>(
     conversations: &[Conversation],
 ) -> Result<Option<WeaveFault>, Memory>
     requires { AreRecords D.is_clean D.is_sound D.kept S.is_clean S.is_sound S.kept records.now.machines records.now.catalogs.items records.now.opening records.now.entries.items records.now.pasts.items }
-    ensures { IfOk result (IsVerdictOver D.is_clean D.is_sound D.kept S.is_clean S.is_sound S.kept records.now.machines records.now.catalogs.items records.now.opening records.now.entries.items records.now.pasts.items (lists_told conversations.now)) }
+    ensures { IfOk result (IsVerdict D.is_clean D.is_sound D.kept S.is_clean S.is_sound S.kept records.now.machines records.now.catalogs.items records.now.opening records.now.entries.items records.now.pasts.items (lists_told conversations.now)) }
 {
     let lists = lists_told(alloc, conversations)?;
     match weave(alloc, records, lists.as_slice()) {

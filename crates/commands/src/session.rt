@@ -3,9 +3,8 @@
 ghost use Rattle.std.specs.Prelude.{◌≡◌, IfErr, IfOk, OnOk, map};
 ghost use Rattle.std.specs.Str.{IsUtf8};
 ghost use Rattle.catalog.specs.Relation.{catalogue_of};
-ghost use Rattle.commands.specs.Session.{IsOfSession, Talks};
+ghost use Rattle.commands.specs.Session.{IsOfSession, RunsSession, Talks};
 ghost use Rattle.commands.specs.Session as spec;
-ghost use Rattle.commands.specs.SessionChain.{HoldsOver};
 ghost use Rattle.commands.specs.Solo.{IsOfRun};
 
 use crate::catalog_files::ChainFault;
@@ -57,7 +56,7 @@ pub fn session<
     output: &mut W,
     errors: &mut E,
 ) -> Result<(), ChainFault<'a>>
-    ensures { HoldsOver B.seen O.origin file.entry (W.contents output.old) (W.contents output.new) (map catalogue_of chain.now) result }
+    ensures { RunsSession B.seen O.origin file.entry (W.contents output.old) (W.contents output.new) (map catalogue_of chain.now) result }
 {
     let found = opener.found(alloc, world::chain::first_of(chain))?;
     let mut database = opener.open(alloc, chain)?;

@@ -1,19 +1,16 @@
 //! A session over the catalogues of files, with the lines of one.
 
-ghost use Rattle.std.specs.Prelude.{◌≡◌, ◌∷◌, IfErr, IfOk, IfSome, OnOk, map};
+ghost use Rattle.std.specs.Prelude.{◌≡◌, ◌∷◌, IfOk, IfSome, map};
 ghost use Rattle.catalog.specs.Relation.{catalogue_of};
 ghost use Rattle.commands.specs.CatalogFiles.{DoesOver};
-ghost use Rattle.commands.specs.Session.{HasTalked, IsOfSession, RunsSession};
-ghost use Rattle.commands.specs.SessionChain.{HoldsOver};
+ghost use Rattle.commands.specs.Session.{RunsSession};
 
 use crate::catalog_files::{ChainFault, Source, read_catalogs};
 use crate::database::Database;
-use crate::opener::{Opens, fault_alone};
+use crate::opener::Opens;
 use crate::session::session;
 use crate::texts::OpensText;
-use catalog::catalogue::Catalog;
 use catalog::chain::Chain;
-use lines::catalog_file::{CatalogFault, read_catalog};
 use lines::fault::ProgramFault;
 use shell::mode::Mode;
 use std::alloc::Global;
@@ -21,102 +18,10 @@ use std::io;
 use std::io::{BufReader, Read, Write};
 use std::time::Clock;
 use terms::memory::Memory;
-use world::chain::alone;
-
-/// Answers what `input` gives, line by line, over a new database of the catalogue that `catalog` gives. `file` and
-/// `catalog_file` name them in a fault. The catalogue is read first.
-pub fn session_files<
-    'a,
-    B: Database + Drop,
-    O: Opens<B>,
-    K: Clock + OpensText<T>,
-    T: Read + Drop,
-    C: Read + Drop,
-    R: Read + Drop,
-    W: Write,
-    E: Write,
->(
-    alloc: Global,
-    opener: &O,
-    host: &K,
-    mode: Mode,
-    catalog_file: &'a str,
-    catalog: C,
-    file: &'a str,
-    input: io::Result<R>,
-    output: &mut W,
-    errors: &mut E,
-) -> Result<(), CatalogFault<'a>>
-    ensures { IfSome (C.remaining catalog) (λ bytes. RunsSession B.seen O.origin catalog_file.entry bytes file.entry (W.contents output.old) (W.contents output.new) result) }
-{
-    match read_catalog(alloc, catalog_file, catalog) {
-        Ok(catalog) => {
-            match session_alone(
-                alloc,
-                opener,
-                host,
-                mode,
-                &catalog,
-                catalog_file,
-                file,
-                input,
-                output,
-                errors,
-            ) {
-                Ok(()) => Ok(()),
-                Err(fault) => Err(CatalogFault::Program(fault)),
-            }
-        }
-        Err(fault) => Err(fault),
-    }
-}
-
-/// Answers what `input` gives, if it could be opened, over one catalogue of this name.
-fn session_alone<
-    'a,
-    B: Database + Drop,
-    O: Opens<B>,
-    K: Clock + OpensText<T>,
-    T: Read + Drop,
-    R: Read + Drop,
-    W: Write,
-    E: Write,
->(
-    alloc: Global,
-    opener: &O,
-    host: &K,
-    mode: Mode,
-    catalog: &Catalog,
-    name: &str,
-    file: &'a str,
-    input: io::Result<R>,
-    output: &mut W,
-    errors: &mut E,
-) -> Result<(), ProgramFault<'a>>
-    ensures ok { OnOk result (HasTalked B.seen O.origin (catalogue_of catalog.now) (W.contents output.old) (W.contents output.new)) }
-    ensures err { IfErr result (IsOfSession file.entry) }
-{
-    let chain = alone(alloc, catalog)?;
-    match open_session(
-        alloc,
-        opener,
-        host,
-        mode,
-        &chain,
-        &[name],
-        file,
-        input,
-        output,
-        errors,
-    ) {
-        Ok(()) => Ok(()),
-        Err(fault) => Err(fault_alone(fault)),
-    }
-}
 
 /// Answers what `input` gives, line by line, over a new database of the catalogue that `catalog` gives and those that come next.
 /// `file` and `catalog_file` name the first two in a fault. The catalogues are read first.
-pub fn session_catalogs<
+pub fn session_files<
     'a,
     B: Database + Drop,
     O: Opens<B>,
@@ -140,7 +45,7 @@ pub fn session_catalogs<
     output: &mut W,
     errors: &mut E,
 ) -> Result<(), ChainFault<'a>>
-    ensures { IfSome (C.remaining catalog) (λ bytes. DoesOver N.remaining catalog_file.entry bytes next.entry.items (W.contents output.old) (W.contents output.new) (HoldsOver B.seen O.origin file.entry (W.contents output.old) (W.contents output.new)) result) }
+    ensures { IfSome (C.remaining catalog) (λ bytes. DoesOver N.remaining catalog_file.entry bytes next.entry.items (W.contents output.old) (W.contents output.new) (RunsSession B.seen O.origin file.entry (W.contents output.old) (W.contents output.new)) result) }
 {
     let names = names_of(alloc, catalog_file, next.as_slice())?;
     let chain = read_catalogs(alloc, catalog_file, catalog, next)?;
@@ -196,7 +101,7 @@ fn open_session<
     output: &mut W,
     errors: &mut E,
 ) -> Result<(), ChainFault<'a>>
-    ensures { HoldsOver B.seen O.origin file.entry (W.contents output.old) (W.contents output.new) (map catalogue_of chain.now) result }
+    ensures { RunsSession B.seen O.origin file.entry (W.contents output.old) (W.contents output.new) (map catalogue_of chain.now) result }
 {
     let input = input.map_err(|error| ProgramFault::reading(file, &error))?;
     let mut input = BufReader::new(alloc, input).map_err(|error| ProgramFault::reading(

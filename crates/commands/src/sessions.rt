@@ -1,11 +1,10 @@
 //! The sessions of a script, run over the files and the stores that the command line names.
 
-use crate::catalog_files::Source;
+use crate::catalog_files::open_next;
 use crate::conversation::Manner;
 use crate::opener::{Folder, InMemory, Lists};
 use crate::progress::{Progress, Unwatched, Watches};
 use crate::run::run_files;
-use crate::run_chain::run_catalogs;
 use crate::sql_stores::{Files, OpensFiles};
 use crate::store_opener::OpensStores;
 use lines::built_in::{BUILT_IN, BUILT_IN_NAME};
@@ -13,8 +12,6 @@ use lines::fault::ProgramFault;
 use lines::outcome::{Outcome, Status, exit};
 use lines::usage::{Sessions, Stores};
 use sqlite::Alter;
-use std::alloc::AllocError;
-use std::fs::File;
 use std::io::{IsTerminal, Read, Write};
 use std::sync::Wait;
 use std::thread::Threads;
@@ -24,8 +21,7 @@ use store::desk_store::DeskStore;
 use store::site_store::SiteStore;
 
 /// Runs the sessions of a script over the stores that they ask for, and the catalogues that come next by these files' names, and
-/// tells what it came to. What files hold no contract can say; over readers and writers `run_files` and `run_catalogs` say what
-/// is done.
+/// tells what it came to. What files hold no contract can say; over readers and writers `run_files` says what is done.
 pub fn do_run<'a, H: Threads + Wait + Clock + Copy + Send + Sync + 'static, W: Write, E: Write>(
     rt: &HostRuntime,
     threads: &H,
@@ -249,28 +245,12 @@ fn run_script<
     output: &mut W,
     errors: &mut E,
 ) -> Status {
-    let alloc = rt.alloc();
-    if next.is_empty() {
-        let outcome = run_files(
-            threads,
-            alloc,
-            opener,
-            manner,
-            catalog_file,
-            catalog,
-            script,
-            input,
-            output,
-            errors,
-        );
-        return exit(errors, &outcome);
-    }
     let Ok(sources) = open_next(rt, next) else {
         return exit(errors, &Outcome::Stopped(ProgramFault::Memory));
     };
-    let outcome = run_catalogs(
+    let outcome = run_files(
         threads,
-        alloc,
+        rt.alloc(),
         opener,
         manner,
         catalog_file,
@@ -282,17 +262,4 @@ fn run_script<
         errors,
     );
     exit(errors, &outcome)
-}
-
-/// The files of the catalogues that come next, as far as they can be opened.
-fn open_next<'a>(rt: &HostRuntime, next: &[&'a str]) -> Result<Vec<Source<'a, File>>, AllocError> {
-    let mut sources = Vec::new(rt.alloc());
-    for file in next {
-        let catalog = fs::open(rt, *file);
-        sources.push(Source {
-            file: *file,
-            catalog,
-        })?;
-    }
-    Ok(sources)
 }

@@ -1,15 +1,16 @@
-//! The command `solo`: a script over a database of its own.
+//! The command `solo`: a script over a database of its own, of a chain of catalogues.
 
-ghost use Rattle.std.specs.Prelude.{◌≡◌, ◌≤◌, ◌<◌, ℕ, List, true, IfOk, IfErr, IfSome, is_err, length, map};
-ghost use Rattle.std.specs.Io.KnownBytes.{Appends, Keeps};
+ghost use Rattle.std.specs.Prelude.{◌≡◌, ◌≤◌, ◌<◌, true, IfErr, IfOk, IfSome, is_err, length, map};
+ghost use Rattle.std.specs.Io.KnownBytes.{Keeps};
 ghost use Rattle.catalog.specs.Relation.{catalogue_of};
 ghost use Rattle.lines.specs.Script.{task_of};
-ghost use Rattle.commands.specs.Solo.{IsOfRead, IsOfRun, IsRun, IsUnrun, RunsFiles, RunsOrStops, RunsScript, Stretches, longest};
+ghost use Rattle.commands.specs.CatalogFiles.{DoesOver, IsUnopened};
+ghost use Rattle.commands.specs.Solo.{IsOfRead, IsOfRun, IsOfRunOver, IsRunOver, RunsOrStops, RunsScript, Stretches, longest};
 
+use crate::catalog_files::{ChainFault, Source, read_catalogs};
 use crate::database::Database;
-use crate::opener::{Opens, open_alone};
-use catalog::catalogue::Catalog;
-use lines::catalog_file::{CatalogFault, read_catalog};
+use crate::opener::Opens;
+use catalog::chain::Chain;
 use lines::fault::ProgramFault;
 use lines::input::read_up_to;
 use lines::script::{Item, items};
@@ -17,55 +18,59 @@ use shell::mode::Mode;
 use std::alloc::Global;
 use std::io;
 use std::io::{Read, Write};
-use world::laws::moves_follow;
+use world::laws::{chain_is_listed, list_served_is_serial, moves_follow};
 
 /// How many bytes a script may have.
 pub const SCRIPT_LIMIT: u64 = 1_048_576;
 
 /// Runs the script that `input` gives, which `file` names in a fault, over the catalogue that `catalog` gives, which
-/// `catalog_file` names. The catalogue is read first.
-pub fn solo_files<'a, B: Database + Drop, O: Opens<B>, C: Read + Drop, R: Read + Drop, W: Write>(
+/// `catalog_file` names, and those that come next. The catalogues are read first.
+pub fn solo_files<
+    'a,
+    B: Database + Drop,
+    O: Opens<B>,
+    C: Read + Drop,
+    N: Read + Drop,
+    R: Read + Drop,
+    W: Write,
+>(
     alloc: Global,
     opener: &O,
     mode: Mode,
     catalog_file: &'a str,
     catalog: C,
+    next: Vec<Source<'a, N>>,
     file: &'a str,
     input: io::Result<R>,
     output: &mut W,
-) -> Result<bool, CatalogFault<'a>>
-    ensures opened { IfSome (C.remaining catalog) (λ bytes. IfOk input (λ reader. IfSome (R.remaining reader) (λ script. RunsFiles B.seen O.origin mode catalog_file.entry bytes file.entry script (W.contents output.old) (W.contents output.new) result))) }
-    ensures unread { IfErr input (λ error. IfSome (C.remaining catalog) (λ bytes. IsUnrun catalog_file.entry bytes file.entry result)) }
-    ensures idle { IfErr input (λ error. (is_err result ≡ true) × Keeps (W.contents output.old) (W.contents output.new)) }
+) -> Result<bool, ChainFault<'a>>
+    ensures opened { IfSome (C.remaining catalog) (λ bytes. IfOk input (λ reader. IfSome (R.remaining reader) (λ script. DoesOver N.remaining catalog_file.entry bytes next.entry.items (W.contents output.old) (W.contents output.new) (RunsScript B.seen O.origin mode file.entry script (W.contents output.old) (W.contents output.new)) result))) }
+    ensures unread { IfErr input (λ error. IfSome (C.remaining catalog) (λ bytes. DoesOver N.remaining catalog_file.entry bytes next.entry.items (W.contents output.old) (W.contents output.new) (λ catalogues. IsUnopened file.entry) result)) }
+    ensures idle { IfErr input (λ error. (is_err result ≡ true) × (result ≡ Err ChainFault.Unchained → 0 < length next.entry.items) × Keeps (W.contents output.old) (W.contents output.new)) }
 {
-    match read_catalog(alloc, catalog_file, catalog) {
-        Ok(catalog) => match input {
-            Ok(input) => match solo(alloc, opener, mode, catalog, file, input, output) {
-                Ok(any_refused) => Ok(any_refused),
-                Err(fault) => Err(CatalogFault::Program(fault)),
-            },
-            Err(error) => Err(CatalogFault::Program(ProgramFault::reading(file, &error))),
-        },
-        Err(fault) => Err(fault),
+    let chain = read_catalogs(alloc, catalog_file, catalog, next)?;
+    match input {
+        Ok(input) => solo(alloc, opener, mode, &chain, file, input, output),
+        Err(error) => Err(ChainFault::Program(ProgramFault::reading(file, &error))),
     }
 }
 
-/// Runs the script that `input` gives, which `file` names in a fault, over a new database of this catalogue: the
-/// whole script or none of it. Writes the answers to `output`, and answers whether a line was refused. It writes
-/// often, and flushes once: give it an output with a buffer.
+/// Runs the script that `input` gives, which `file` names in a fault, over a new database of this chain: the whole script or
+/// none of it. Writes the answers to `output`, and answers whether a line was refused. It writes often, and flushes once: give it
+/// an output with a buffer.
 pub fn solo<'a, B: Database + Drop, O: Opens<B>, R: Read + Drop, W: Write>(
     alloc: Global,
     opener: &O,
     mode: Mode,
-    catalog: Catalog,
+    chain: &Chain,
     file: &'a str,
     input: R,
     output: &mut W,
-) -> Result<bool, ProgramFault<'a>>
-    ensures { IfSome (R.remaining input) (λ script. RunsScript B.seen O.origin mode (catalogue_of catalog) file.entry script (W.contents output.old) (W.contents output.new) result) }
+) -> Result<bool, ChainFault<'a>>
+    ensures { IfSome (R.remaining input) (λ script. RunsScript B.seen O.origin mode file.entry script (W.contents output.old) (W.contents output.new) (map catalogue_of chain.now) result) }
 {
     let script = read_script(alloc, file, input)?;
-    run_script(alloc, opener, mode, catalog, script.as_slice(), output)
+    run_script(alloc, opener, mode, chain, script.as_slice(), output)
 }
 
 /// Runs a script of which all bytes were read.
@@ -73,15 +78,15 @@ fn run_script<'a, B: Database + Drop, O: Opens<B>, W: Write>(
     alloc: Global,
     opener: &O,
     mode: Mode,
-    catalog: Catalog,
+    chain: &Chain,
     script: &[u8],
     output: &mut W,
-) -> Result<bool, ProgramFault<'a>>
+) -> Result<bool, ChainFault<'a>>
     requires { length script.now ≤ longest }
-    ensures { RunsOrStops B.seen O.origin mode (catalogue_of catalog) script.now (W.contents output.old) (W.contents output.new) result }
+    ensures { RunsOrStops B.seen O.origin mode (map catalogue_of chain.now) script.now (W.contents output.old) (W.contents output.new) result }
 {
     let items = items(alloc, script)?;
-    let outcome = run(alloc, opener, mode, catalog, items.as_slice(), output);
+    let outcome = run(alloc, opener, mode, chain, items.as_slice(), output);
     // What was answered before a fault goes out too.
     let flushed = output.flush();
     let any_refused = outcome?;
@@ -109,20 +114,23 @@ pub fn read_script<'a, R: Read + Drop>(
 }
 
 /// Runs the items in order over a new database, and writes each answer. Answers whether a line was refused.
-pub fn run<'a, B: Database + Drop, O: Opens<B>, W: Write>(
+fn run<'a, B: Database + Drop, O: Opens<B>, W: Write>(
     alloc: Global,
     opener: &O,
     mode: Mode,
-    catalog: Catalog,
+    chain: &Chain,
     items: &[Item<'_>],
     output: &mut W,
-) -> Result<bool, ProgramFault<'a>>
-    ensures ok { IfOk result (λ any_refused. (written : List ℕ) × Appends (W.contents output.old) (W.contents output.new) written × IsRun B.seen O.origin mode (catalogue_of catalog) (map task_of items.now) written any_refused) }
-    ensures err { IfErr result IsOfRun }
+) -> Result<bool, ChainFault<'a>>
+    ensures ok { IfOk result (IsRunOver B.seen O.origin mode (map catalogue_of chain.now) (map task_of items.now) (W.contents output.old) (W.contents output.new)) }
+    ensures err { IfErr result (IsOfRunOver (map catalogue_of chain.now)) }
+    ensures unchained { result ≡ Err ChainFault.Unchained → W.contents output.new ≡ W.contents output.old }
 {
-    moves_follow(&catalog);
-    let mut database = open_alone(alloc, opener, &catalog)?;
-    run_items(alloc, mode, &mut database, items, output)
+    chain_is_listed(chain);
+    list_served_is_serial();
+    let mut database = opener.open(alloc, chain)?;
+    moves_follow(database.catalog());
+    Ok(run_items(alloc, mode, &mut database, items, output)?)
 }
 
 /// Runs the items over this database.

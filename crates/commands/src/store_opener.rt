@@ -32,7 +32,7 @@ pub trait OpensStores<D: DeskStore, S: SiteStore> {
     fn open<'a>(&self, alloc: Global, chain: &Chain) -> Result<OpenStores<D, S>, ChainFault<'a>>
         ensures one_each { IfOk result (λ stores. length stores.sites.items ≡ length (sites_of chain.now)) }
         ensures leaves { IfOk result (λ stores. (first : Catalogue) (rest : List Catalogue) → map catalogue_of chain.now ≡ first ∷ rest → HaveLeaves S.is_clean S.kept first stores.sites.items) }
-        ensures err { IfErr result IsOfOpening };
+        ensures err { IfErr result (IsOfOpening (map catalogue_of chain.now)) };
 }
 
 impl OpensStores<PlainDesk, PlainSite> for Lists {
@@ -89,7 +89,7 @@ fn settle<'a, B: Database + Drop, O: Opens<B>>(
     opener: &O,
     chain: &Chain,
 ) -> Result<(), ChainFault<'a>>
-    ensures err { IfErr result IsOfOpening }
+    ensures err { IfErr result (IsOfOpening (map catalogue_of chain.now)) }
 {
     let _settled = opener.open(alloc, chain)?;
     Ok(())

@@ -4,8 +4,7 @@
 //! runs many sessions, each in a thread of its own.
 //!
 //! Here files are opened, and the crate `commands` is called. The contract that carries the program is that of its
-//! `perform::perform`, and over several catalogues that of `perform_chain::perform_chain`: what is written and what comes
-//! of each request.
+//! `perform::perform`: what is written and what comes of each request.
 #![tactic(auto)]
 
 mod explanation;

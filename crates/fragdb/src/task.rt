@@ -1,18 +1,15 @@
-//! What one client asks for, over one catalogue or over several, and what it comes to.
+//! What one client asks for, over its chain of catalogues, and what it comes to.
 
-use commands::catalog_files::Source;
+use commands::catalog_files::open_next;
 use commands::database::Database;
 use commands::opener::Opens;
 use commands::perform::{perform, perform_session};
-use commands::perform_chain::{perform_chain, perform_session_chain};
 use commands::world_opener::OpensWorld;
 use lines::fault::ProgramFault;
 use lines::outcome::Outcome;
 use lines::usage::Request;
-use std::alloc::AllocError;
-use std::fs::File;
+use std::io;
 use std::io::{Read, Write};
-use std::{fs, io};
 use store::desk_store::DeskStore;
 use store::site_store::SiteStore;
 
@@ -23,7 +20,7 @@ pub struct Task<'a> {
     pub next: &'a [&'a str],
 }
 
-/// What a session comes to, over its catalogue alone or over those that come next too.
+/// What a session comes to, over its catalogue and those that come next.
 pub fn outcome_of_session<
     'a,
     B: Database + Drop,
@@ -42,22 +39,24 @@ pub fn outcome_of_session<
     output: &mut W,
     errors: &mut E,
 ) -> Outcome<'a> {
-    let alloc = rt.alloc();
-    let request = task.request;
-    if task.next.is_empty() {
-        return perform_session(
-            alloc, opener, rt, request, file, catalog, input, output, errors,
-        );
-    }
-    match sources(rt, task.next) {
-        Ok(next) => perform_session_chain(
-            alloc, opener, rt, request, file, catalog, next, input, output, errors,
+    match open_next(rt, task.next) {
+        Ok(next) => perform_session(
+            rt.alloc(),
+            opener,
+            rt,
+            task.request,
+            file,
+            catalog,
+            next,
+            input,
+            output,
+            errors,
         ),
         Err(_) => Outcome::Stopped(ProgramFault::Memory),
     }
 }
 
-/// What a request comes to, over its catalogue alone or over those that come next too.
+/// What a request comes to, over its catalogue and those that come next.
 pub fn outcome_of<
     'a,
     B: Database + Drop,
@@ -78,25 +77,18 @@ pub fn outcome_of<
     input: io::Result<R>,
     output: &mut W,
 ) -> Outcome<'a> {
-    let alloc = rt.alloc();
-    let request = task.request;
-    if task.next.is_empty() {
-        return perform(alloc, opener, worlds, request, file, catalog, input, output);
-    }
-    match sources(rt, task.next) {
-        Ok(next) => perform_chain(
-            alloc, opener, worlds, request, file, catalog, next, input, output,
+    match open_next(rt, task.next) {
+        Ok(next) => perform(
+            rt.alloc(),
+            opener,
+            worlds,
+            task.request,
+            file,
+            catalog,
+            next,
+            input,
+            output,
         ),
         Err(_) => Outcome::Stopped(ProgramFault::Memory),
     }
-}
-
-/// The files of the catalogues that come next, each opened if it can be.
-fn sources<'a>(rt: &HostRuntime, next: &[&'a str]) -> Result<Vec<Source<'a, File>>, AllocError> {
-    let mut sources = Vec::new(rt.alloc());
-    for file in next {
-        let catalog = fs::open(rt, file);
-        sources.push(Source { file, catalog })?;
-    }
-    Ok(sources)
 }

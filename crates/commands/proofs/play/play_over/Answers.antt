@@ -1,4 +1,4 @@
-use Rattle.std.proofs.Common.{◌≡◌, [], Err, IfErr, List, Option, Result, ap, inl, inr, map, rules, subst, sym, ℕ}
+use Rattle.std.proofs.Common.{◌≡◌, ◌∷◌, [], Err, IfErr, List, Option, Result, ap, inl, inr, map, rules, subst, sym, ◌∙◌, ℕ}
 use Rattle.store.specs.declared.fault.StoreFault.{StoreFault}
 use Rattle.lines.specs.declared.fault.ProgramFault.{ProgramFault}
 use Rattle.lines.specs.Input.{IsOfOutput}
@@ -15,39 +15,8 @@ use Rattle.commands.proofs.PlayLemmas.{PlaysAll-weaker, first_is, reached_single
 use Rattle.commands.proofs.SoloLemmas.{Appends-kept}
 use Rattle.commands.proofs.play.play_over.Goals as goal
 
-pub returns-clause-one : goal.returns-clause-one
-returns-clause-one g c = λ catalogue is.
-    let seen = world_over g.D.DeskStore.is_clean g.S.SiteStore.is_clean g.D.DeskStore.is_sound g.S.SiteStore.is_sound g.D.DeskStore.kept g.S.SiteStore.kept g.D.DeskStore.refused g.S.SiteStore.refused in
-    let db = database catalogue in
-    let whole = c.args.whole.now in
-    let opening = c.new-schedule.result in
-    let ended = c.play_items-done.new.schedule in
-    let leaves = c.play_items-done.ensures.leaves in
-    let ran = c.in_ok-done.ensures.ok in
-    let opened : IsOpenedOver seen catalogue whole opening.world = subst (IsOpenedOver seen catalogue whole) (sym c.new-schedule.ensures.world) (c.in_ok-world.ensures.ok catalogue is) in
-    let here = first_is c.args.chain.now c.first_of-first.result.now c.first_of-first.ensures.0 catalogue [] c.first_of-first.ensures.1 is in
-    let its_own : IsListed (database (catalogue_of c.first_of-first.result.now)) = record { base = c.database_is_of_catalogue.ensures; lawful = c.language_is_lawful.ensures.of_list } in
-    let listed : IsListed db = subst (λ (first : Catalogue). IsListed (database first)) here its_own in
-    let began = λ (clean : seen.is_clean ended.world).
-    let then = leaves.clean clean in
-    let has : HasRun seen db whole opening.world = record { listed = listed; sound = opened.sound then; stands = stands_alone catalogue opening.world.machines.desk opened.catalog opened.single; reached = rw opened.none ([], run_listed db whole (seen.machines opening.world) [] [] (opened.run then)) } in
-    has in
-    let runs = λ (clean : seen.is_clean ended.world). leaves.runs db whole clean (began clean) in
-    record {
-      opening = opening;
-      opens = record { entries = opened.none; txns = c.new-schedule.ensures.txns; names = c.new-schedule.ensures.names; came = c.new-schedule.ensures.came };
-      catalog = opened.catalog;
-      last = ap (map catalogue_of) opened.single;
-      ended = ended;
-      told = ran.told;
-      plays = PlaysAll-weaker seen {Q = seen.is_clean ended.world} db whole c.args.items.now opening ended ran.told (λ clean. (clean, began clean)) (ran.plays db whole);
-      run = λ clean. reached_single catalogue whole (seen.machines ended.world) (seen.entries ended.world) (none_of (seen.machines ended.world).later (ends_last leaves.catalogs (ap (map catalogue_of) opened.single)).1) (runs clean).reached;
-      serial = λ clean. c.list_runs_are_serial.ensures db listed whole (seen.machines ended.world) (seen.entries ended.world) (runs clean).reached.0 (runs clean).reached.1;
-      said = Appends-kept (g.W.Write.contents c.args.output.now) (g.W.Write.contents c.play_items-done.new.output) (g.W.Write.contents c.send_out-sent.new.output) ran.told ran.said c.send_out-sent.ensures.same;
-    }
-
-pub returns-clause-lists : goal.returns-clause-lists
-returns-clause-lists g c = λ first rest is.
+pub returns-clause-ok : goal.returns-clause-ok
+returns-clause-ok g c = λ first rest is.
     let seen = world_over g.D.DeskStore.is_clean g.S.SiteStore.is_clean g.D.DeskStore.is_sound g.S.SiteStore.is_sound g.D.DeskStore.kept g.S.SiteStore.kept g.D.DeskStore.refused g.S.SiteStore.refused in
     let db = databases first rest in
     let whole = c.args.whole.now in
@@ -74,6 +43,25 @@ returns-clause-lists g c = λ first rest is.
       stands = λ clean. (runs clean).stands;
       run = λ clean. (runs clean).reached;
       serial = λ clean. c.list_runs_are_serial.ensures db listed whole (seen.machines ended.world) (seen.entries ended.world) (runs clean).reached.0 (runs clean).reached.1;
+      alone = λ none.
+          let one = is ∙ ap (λ (rest : List Catalogue). first ∷ rest) none in
+          let own = database first in
+          let over : IsOpenedOver seen first whole opening.world = subst (IsOpenedOver seen first whole) (sym c.new-schedule.ensures.world) (c.in_ok-world.ensures.ok first one) in
+          let here = first_is c.args.chain.now c.first_of-first.result.now c.first_of-first.ensures.0 first [] c.first_of-first.ensures.1 one in
+          let its_own : IsListed (database (catalogue_of c.first_of-first.result.now)) = record { base = c.database_is_of_catalogue.ensures; lawful = c.language_is_lawful.ensures.of_list } in
+          let lawful : IsListed own = subst (λ (first : Catalogue). IsListed (database first)) here its_own in
+          let begun = λ (clean : seen.is_clean ended.world).
+          let then = leaves.clean clean in
+          let has : HasRun seen own whole opening.world = record { listed = lawful; sound = over.sound then; stands = stands_alone first opening.world.machines.desk over.catalog over.single; reached = rw over.none ([], run_listed own whole (seen.machines opening.world) [] [] (over.run then)) } in
+          has in
+          let goes = λ (clean : seen.is_clean ended.world). leaves.runs own whole clean (begun clean) in
+          record {
+            catalog = over.catalog;
+            last = ap (map catalogue_of) over.single;
+            plays = PlaysAll-weaker seen {Q = seen.is_clean ended.world} own whole c.args.items.now opening ended ran.told (λ clean. (clean, begun clean)) (ran.plays own whole);
+            run = λ clean. reached_single first whole (seen.machines ended.world) (seen.entries ended.world) (none_of (seen.machines ended.world).later (ends_last leaves.catalogs (ap (map catalogue_of) over.single)).1) (goes clean).reached;
+            serial = λ clean. c.list_runs_are_serial.ensures own lawful whole (seen.machines ended.world) (seen.entries ended.world) (goes clean).reached.0 (goes clean).reached.1;
+          };
       said = Appends-kept (g.W.Write.contents c.args.output.now) (g.W.Write.contents c.play_items-done.new.output) (g.W.Write.contents c.send_out-sent.new.output) ran.told ran.said c.send_out-sent.ensures.same;
     }
 

@@ -7,7 +7,7 @@ use Rattle.catalog.specs.Relation.{catalogue_of}
 use Rattle.protocol.specs.Parts.{In}
 use Rattle.commands.specs.Run.{ShowsFound, lists_told, relation_lines}
 use Rattle.commands.specs.RunText.{verdict_text}
-use Rattle.commands.proofs.RunChainLemmas.{judged_alone, woven_over}
+use Rattle.commands.proofs.RunLemmas.{woven_over}
 use Rattle.commands.proofs.RunRecordsLemmas.{all_printed, one_run}
 use Rattle.commands.proofs.run_records.conclude.Goals as goal
 
@@ -51,7 +51,7 @@ returns-clause-ok g c = λ parts of_parts.
       shown = prints.shown;
       found = found;
       serial = λ one clean none. one_run g.D.DeskStore.is_clean g.D.DeskStore.is_sound g.D.DeskStore.kept g.S.SiteStore.is_clean g.S.SiteStore.is_sound g.S.SiteStore.kept in_force machines ended catalogs opening entries pasts told (map (λ relation. relation.name) (schemas_of in_force)) prints.shown verdict c.requires one found
-          (judged_alone g.D.DeskStore.is_clean g.D.DeskStore.is_sound g.D.DeskStore.kept g.S.SiteStore.is_clean g.S.SiteStore.is_sound g.S.SiteStore.kept machines catalogs opening entries pasts told verdict one judged) clean none;
+          judged clean none;
       printed_is = all_printed (string_bytes c.new-printed.result) _ _ _ (string_bytes c.put_conversations.new.out) (string_bytes c.put_verdict.new.out) (string_bytes c.put_relations.new.out) (search rules) c.in_ok-put_conversations.ensures c.in_ok-put_verdict.ensures prints.printed
           ∙ ap (λ (over : Catalogue). flat_map (λ one. string_bytes one.printed) c.args.conversations.now ++ verdict_text verdict ++ flat_map (relation_lines over) prints.shown) same;
     }

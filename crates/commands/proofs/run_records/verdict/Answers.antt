@@ -2,8 +2,7 @@
 use Rattle.std.proofs.Common.{◌≡◌, List, ap, subst, ◌∙◌}
 use Rattle.history.specs.declared.told.Told.{Told}
 use Rattle.history.specs.Picks.{rows_of}
-use Rattle.commands.specs.Run.{lists_told}
-use Rattle.commands.specs.RunChain.{AreWoven}
+use Rattle.commands.specs.Run.{AreWoven, lists_told}
 use Rattle.commands.proofs.run_records.verdict.Goals as goal
 
 pub returns-in-Ok : goal.returns-in-Ok

@@ -3,7 +3,7 @@ use Rattle.catalog.specs.Catalogue.{Catalogue}
 use Rattle.catalog.specs.Relation.{catalogue_of}
 use Rattle.desk.specs.CatalogueDatabase.{database}
 use Rattle.world.specs.Commands.{MovesFollow}
-use Rattle.commands.proofs.SessionChainLemmas.{talked_over, told_unopened}
+use Rattle.commands.proofs.SessionLemmas.{talked_over, told_unopened}
 use Rattle.commands.proofs.session.session.Goals as goal
 
 pub returns-in_err-database : goal.returns-in_err-database

@@ -3,7 +3,7 @@ use Rattle.catalog.specs.Relation.{catalogue_of}
 use Rattle.store.specs.PlainSite.{kept_of}
 use Rattle.wire.proofs.Leaves.{have_all}
 use Rattle.commands.proofs.PlayLemmas.{sites_there}
-use Rattle.commands.proofs.RunChainLemmas.{leaves_over}
+use Rattle.commands.proofs.RunLemmas.{leaves_over}
 use Rattle.commands.proofs.store_opener.ListsOpensStoresPlainDeskPlainSite.open.Goals as goal
 
 pub returns-clause-one_each : goal.returns-clause-one_each

@@ -1,4 +1,4 @@
--- Lemmas on scripts over a chain of catalogues.
+-- Lemmas on scripts that run over a chain of catalogues.
 use Rattle.std.proofs.Common.{◌≡◌, ◌∷◌, ℕ, Bool, List, Option, subst}
 use Rattle.std.specs.Io.KnownBytes.{Keeps}
 use Rattle.catalog.specs.Catalogue.{Catalogue}
@@ -11,8 +11,7 @@ use Rattle.shell.specs.declared.mode.Mode.{Mode}
 use Rattle.lines.specs.Script.{Reading}
 use Rattle.commands.specs.Client.{Seen}
 use Rattle.commands.specs.Origin.{BeginsOver, Origin}
-use Rattle.commands.specs.Solo.{Stretches}
-use Rattle.commands.specs.SoloChain.{IsRunOver}
+use Rattle.commands.specs.Solo.{IsRunOver, Stretches}
 use Rattle.commands.proofs.ClientLemmas.{run_over}
 use Rattle.commands.proofs.ListClientLemmas.{list_run}
 use Rattle.commands.proofs.SoloLemmas.{Appends-kept}
