@@ -153,7 +153,7 @@ def split_parts(rows, leaves):
 for name, statement, leaves, most in (
     ("a look-up", "SELECT t.id, u.note FROM t JOIN u ON t.other = u.id", 1, 2),
     ("a union of 32 leaves", "SELECT note FROM t", 32, 5),
-    ("all columns of 32 leaves", "SELECT * FROM t", 32, 19),
+    ("all columns of 32 leaves", "SELECT * FROM t", 32, 5),
     ("a join of 64 fragments", "SELECT t.id, u.note FROM t JOIN u ON t.other = u.id", 32, 12),
 ):
     for rows in (2500, 20000):
