@@ -98,7 +98,11 @@ fn put_unless_same(name: &Leaf, before: &Option<Row>, after: &Row) -> Result<Opt
             return Ok(None);
         }
     }
-    Ok(Some(Write::Put(name.copy()?, Part::of_row(after)?)))
+    // A row that fits its relation has values that parts can have, so nothing is turned away here.
+    let Some(part) = Part::of_row(after)? else {
+        return Err(Memory);
+    };
+    Ok(Some(Write::Put(name.copy()?, part)))
 }
 
 /// A row's part in a leaf; none where there is no row, or the leaf's conditions don't hold of it.

@@ -246,7 +246,7 @@ fn shown(
     if same_all(places, columns) && are_once(columns) && are_wide(columns, rows) {
         return copy_all(alloc, rows);
     }
-    let mut found = Vec::new(alloc);
+    let mut found = Vec::with_capacity(alloc, rows.len())?;
     for row in rows {
         found.push(row_shown(alloc, places, columns, row)?)?;
     }
@@ -256,7 +256,7 @@ fn shown(
 fn row_shown(alloc: Global, places: &[usize], columns: &[usize], row: &Row) -> Result<Row, Memory>
     ensures { IfOk result (λ found. found ≡ filter_map (seen_part columns.now row.now) places.now) }
 {
-    let mut values = Vec::new(alloc);
+    let mut values = Vec::with_capacity(alloc, places.len())?;
     for place in places {
         if let Some(value) = value_in(columns, row, *place) {
             values.push(value.copy()?)?;

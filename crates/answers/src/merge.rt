@@ -26,7 +26,7 @@ pub(crate) fn merged(
     // Each row that is left out was compared with the one that has its key.
     ensures least { IfOk result (λ found. ledger.new.steps < 18446744073709551615 → ledger.old.steps + (length rows.now + length others.now) ≤ ledger.new.steps + length found.items) }
 {
-    let mut found = Vec::new(alloc);
+    let mut found = Vec::with_capacity(alloc, rows.len().saturating_add(others.len()))?;
     let (mut rest, mut rest_others) = (rows, others);
     while let (Some((row, later)), Some((other, later_others))) = (
         rest.split_first(),

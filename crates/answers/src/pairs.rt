@@ -27,7 +27,7 @@ pub(crate) fn key_pairs(
     // The rows of each pair were compared.
     ensures least { IfOk result (λ found. ledger.new.steps < 18446744073709551615 → ledger.old.steps + length found.items ≤ ledger.new.steps) }
 {
-    let mut found = Vec::new(alloc);
+    let mut found = Vec::with_capacity(alloc, rows.len().min(others.len()))?;
     let (mut rest, mut rest_others) = (rows, others);
     while let (Some((row, later)), Some((other, later_others))) = (
         rest.split_first(),

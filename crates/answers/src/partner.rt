@@ -34,7 +34,7 @@ pub(crate) fn partner_pairs(
     ensures least { IfOk result (λ found. ledger.new.steps < 18446744073709551615 → ledger.old.steps + (length found.items + length others.now) ≤ ledger.new.steps) }
 {
     let places = places_of(alloc, ledger, others)?;
-    let mut found = Vec::new(alloc);
+    let mut found = Vec::with_capacity(alloc, rows.len())?;
     for row in rows {
         if let Some(other) = partner(ledger, &places, others, value_in(columns, row, col)) {
             found.push(pair(alloc, columns, others_columns, row, other)?)?;

@@ -1,6 +1,6 @@
 //! Values of rows by their columns.
 
-ghost use Rattle.std.specs.Prelude.{◌≡◌, ◌==◌, ◌++◌, ◌+◌, ◌<◌, ℕ, not, true, length, IfOk, OnOk, filter, map};
+ghost use Rattle.std.specs.Prelude.{◌≡◌, ◌==◌, ◌++◌, ◌+◌, ◌<◌, ◌↔◌, ℕ, not, length, IfOk, IsTrue, OnOk, filter, map};
 ghost use Rattle.std.specs.List.{AllByRecursion, list_all};
 ghost use Rattle.std.specs.Option.{option_copied};
 ghost use Rattle.terms.specs.Cond.{holds_of};
@@ -74,7 +74,7 @@ pub(crate) fn are_wide(columns: &[usize], rows: &[Row]) -> bool
 
 /// Whether no column stands twice.
 pub(crate) fn are_once(columns: &[usize]) -> bool
-    ensures { result ≡ true → AreOnce columns.now }
+    ensures { IsTrue result ↔ AreOnce columns.now }
 {
     let Some((first, rest)) = columns.split_first() else {
         return true;

@@ -35,7 +35,7 @@ pub(crate) fn table_read(alloc: Global, read: &Fetch, parts: &[Part]) -> Result<
 fn met(alloc: Global, conds: &[Cond], parts: &[Part]) -> Result<Vec<Row>, Memory>
     ensures { IfOk result (λ found. found.items ≡ met conds.now parts.now) }
 {
-    let mut found = Vec::new(alloc);
+    let mut found = Vec::with_capacity(alloc, parts.len())?;
     for part in parts {
         if part.meets(conds) {
             found.push(Row::of_part(part)?)?;
@@ -110,7 +110,7 @@ fn rows_cut(
 ) -> Result<Vec<Row>, Memory>
     ensures { IfOk result (λ found. found.items ≡ map (picked (is_seen wanted.now) columns.now) rows.now) }
 {
-    let mut found = Vec::new(alloc);
+    let mut found = Vec::with_capacity(alloc, rows.len())?;
     for row in rows {
         found.push(row_cut(alloc, wanted, columns, row)?)?;
     }

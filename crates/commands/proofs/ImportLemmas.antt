@@ -7,27 +7,34 @@ use Rattle.terms.specs.declared.value.Value.{Value}
 use Rattle.meaning.specs.Whole.{Relations}
 use Rattle.catalog.specs.Catalogue.{Catalogue}
 use Rattle.protocol.specs.Desk.{Deed}
-use Rattle.desk.specs.Database.{language}
+use Rattle.desk.specs.Database.{Database, language}
 use Rattle.desk.specs.CatalogueDatabase.{database}
+use Rattle.world.specs.Listed.{IsListed}
 use Rattle.shell.specs.declared.mode.Mode.TheVariants.{Tabs}
 use Rattle.lines.specs.declared.fault.ProgramFault.{ProgramFault}
 use Rattle.lines.specs.declared.reply.Reply.{Reply}
-use Rattle.commands.specs.Client.{GoesOn, IsAnswered, Seen, Standing, standing_of}
+use Rattle.commands.specs.Client.{AnswersTask, GoesOn, IsAnswered, Seen, standing_of}
+use Rattle.commands.specs.ListClient.{AnswersTaskOver, GoesOnOver, Happened, IsAnsweredOver, list_standing_of}
 use Rattle.commands.specs.declared.import.Imported.{Imported}
 use Rattle.commands.specs.declared.import.Imported.TheVariants.{All, Until}
-use Rattle.commands.specs.Import.{Comes, HasCome, IsCommitted, IsCutShort, IsImport, RollsBack, StopsAt, before_row, begins, commits, ending, import_of, inserts_from, row_says}
+use Rattle.commands.specs.Import.{Comes, IsCommitted, IsCutShort, IsImport, RollsBack, StopsAt, before_row, begins, commits, ending, import_of, inserts_from, row_says}
 use Rattle.lines.specs.Reply.{Answered, Told, is_refusal, text_of, told_by}
 use Rattle.lines.specs.Script.{Reading, Runs}
-use Rattle.commands.specs.Solo.{AnswersTasks, IsStretch}
+use Rattle.commands.specs.Solo.{AnswersInTurn, IsStretch}
 
--- some tasks, and then others
-tasks_then : (catalogue : Catalogue) (first others : List (Reading × Told)) (old middle new : Standing catalogue) → AnswersTasks Tabs catalogue first old middle → AnswersTasks Tabs catalogue others middle new → AnswersTasks Tabs catalogue (first ++ others) old new
-tasks_then catalogue [] others old middle new same rest = subst (λ (s : Standing catalogue). AnswersTasks Tabs catalogue others s new) same rest
-tasks_then catalogue (one ∷ first) others old middle new done rest = (done.0, done.1, tasks_then catalogue first others done.0 middle new done.2 rest)
+module _ {S : Type 0} (Answers : Reading → S → S → Told → Type 0) where
+  -- some tasks, and then others
+  tasks_then : (first others : List (Reading × Told)) (old middle new : S) → AnswersInTurn Answers first old middle → AnswersInTurn Answers others middle new → AnswersInTurn Answers (first ++ others) old new
+  tasks_then [] others old middle new same rest = subst (λ (s : S). AnswersInTurn Answers others s new) same rest
+  tasks_then (one ∷ first) others old middle new done rest = (done.0, done.1, tasks_then first others done.0 middle new done.2 rest)
 
 -- no task has come to anything
 pub comes_none : {B : Type 0} (seen : Seen B) (old : B) → Comes seen [] old old
-comes_none seen old = record { clean = λ clean. clean; come = λ catalogue whole past clean h. record { later = past; goes_on = h; answered = refl } }
+comes_none seen old = record {
+  clean = λ clean. clean;
+  come = λ catalogue whole past clean h. record { later = past; goes_on = h; answered = refl };
+  over = λ db whole happened listed clean h. record { later = happened; goes_on = h; answered = refl };
+}
 
 pub comes_then : {B : Type 0} (seen : Seen B) (first others : List (Reading × Told)) (old middle new : B) → Comes seen first old middle → Comes seen others middle new → Comes seen (first ++ others) old new
 comes_then seen first others old middle new one two = record {
@@ -38,19 +45,37 @@ comes_then seen first others old middle new one two = record {
       record {
         later = rest.later;
         goes_on = rest.goes_on;
-        answered = tasks_then catalogue first others (standing_of seen catalogue old past) (standing_of seen catalogue middle done.later) (standing_of seen catalogue new rest.later) done.answered rest.answered;
+        answered = tasks_then (AnswersTask Tabs catalogue) first others (standing_of seen catalogue old past) (standing_of seen catalogue middle done.later) (standing_of seen catalogue new rest.later) done.answered rest.answered;
+      };
+  over = λ db whole happened listed clean h.
+      let done = one.over db whole happened listed (two.clean clean) h in
+      let rest = two.over db whole done.later listed clean done.goes_on in
+      record {
+        later = rest.later;
+        goes_on = rest.goes_on;
+        answered = tasks_then (AnswersTaskOver Tabs db whole) first others (list_standing_of seen old happened) (list_standing_of seen middle done.later) (list_standing_of seen new rest.later) done.answered rest.answered;
       };
 }
 
--- one task has
-answered_once : {B : Type 0} (seen : Seen B) (task : Reading) (told : List ℕ) (old new : B) (reply : Reply) → told_by reply ≡ Answered told → (catalogue : Catalogue) (whole : Relations) (past : List (Deed (language (database catalogue)))) → IsAnswered seen Tabs catalogue whole task past old new (told_by reply) → HasCome seen catalogue whole ((task, Answered told) ∷ []) past old new
-answered_once seen task told old new reply wanted catalogue whole past answered =
-    let so : IsAnswered seen Tabs catalogue whole task past old new (Answered told) = subst (IsAnswered seen Tabs catalogue whole task past old new) wanted answered in
-    record { later = so.later; goes_on = so.goes_on; answered = (standing_of seen catalogue new so.later, so.answers, refl) }
+-- a task that is answered by this reply
+pub comes_so : {B : Type 0} (seen : Seen B) (task : Reading) (old new : B) (told : Told) → (seen.is_clean new → seen.is_clean old) →
+    ((catalogue : Catalogue) (whole : Relations) (past : List (Deed (language (database catalogue)))) → seen.is_clean new → GoesOn seen catalogue whole past old → IsAnswered seen Tabs catalogue whole task past old new told) →
+    ((db : Database) (whole : Relations) (happened : Happened db) → IsListed db → seen.is_clean new → GoesOnOver seen db whole happened old → IsAnsweredOver seen Tabs db whole task happened old new told) → Comes seen ((task, told) ∷ []) old new
+comes_so seen task old new told was_clean answers over = record {
+  clean = was_clean;
+  come = λ catalogue whole past clean h.
+      let so = answers catalogue whole past clean h in
+      record { later = so.later; goes_on = so.goes_on; answered = (standing_of seen catalogue new so.later, so.answers, refl) };
+  over = λ db whole happened listed clean h.
+      let so = over db whole happened listed clean h in
+      record { later = so.later; goes_on = so.goes_on; answered = (list_standing_of seen new so.later, so.answers, refl) };
+}
 
+-- so by the answer that is wanted
 pub comes_once : {B : Type 0} (seen : Seen B) (task : Reading) (told : List ℕ) (old new : B) (reply : Reply) → (seen.is_clean new → seen.is_clean old) →
-    ((catalogue : Catalogue) (whole : Relations) (past : List (Deed (language (database catalogue)))) → seen.is_clean new → GoesOn seen catalogue whole past old → IsAnswered seen Tabs catalogue whole task past old new (told_by reply)) → told_by reply ≡ Answered told → Comes seen ((task, Answered told) ∷ []) old new
-comes_once seen task told old new reply was_clean answers wanted = record { clean = was_clean; come = λ catalogue whole past clean h. answered_once seen task told old new reply wanted catalogue whole past (answers catalogue whole past clean h) }
+    ((catalogue : Catalogue) (whole : Relations) (past : List (Deed (language (database catalogue)))) → seen.is_clean new → GoesOn seen catalogue whole past old → IsAnswered seen Tabs catalogue whole task past old new (told_by reply)) →
+    ((db : Database) (whole : Relations) (happened : Happened db) → IsListed db → seen.is_clean new → GoesOnOver seen db whole happened old → IsAnsweredOver seen Tabs db whole task happened old new (told_by reply)) → told_by reply ≡ Answered told → Comes seen ((task, Answered told) ∷ []) old new
+comes_once seen task told old new reply was_clean answers over wanted = subst (λ (told : Told). Comes seen ((task, told) ∷ []) old new) wanted (comes_so seen task old new (told_by reply) was_clean answers over)
 
 -- the rows up to a place, and that one
 inserts_snoc : (many : ℕ) (name : List ℕ) (number : ℕ) (rows : List (List Value)) (row : List Value) → inserts_from many name number (rows ++ row ∷ []) ≡ inserts_from many name number rows ++ row_says many name (number + length rows) row
@@ -90,16 +115,6 @@ ending_none number none = rw (none) refl
 
 pub ending_some : (number : ℕ) → (number == 0) ≡ false → commits ∷ [] ≡ ending number
 ending_some number some = rw (some) refl
-
--- a task that is answered by this reply
-pub comes_so : {B : Type 0} (seen : Seen B) (task : Reading) (old new : B) (told : Told) → (seen.is_clean new → seen.is_clean old) →
-    ((catalogue : Catalogue) (whole : Relations) (past : List (Deed (language (database catalogue)))) → seen.is_clean new → GoesOn seen catalogue whole past old → IsAnswered seen Tabs catalogue whole task past old new told) → Comes seen ((task, told) ∷ []) old new
-comes_so seen task old new told was_clean answers = record {
-  clean = was_clean;
-  come = λ catalogue whole past clean h.
-      let so = answers catalogue whole past clean h in
-      record { later = so.later; goes_on = so.goes_on; answered = (standing_of seen catalogue new so.later, so.answers, refl) };
-}
 
 -- one command is answered otherwise than is wanted
 pub stops_once : {B : Type 0} (seen : Seen B) (command wanted : List ℕ) (old new : B) (told : Told) → Comes seen ((Runs command, told) ∷ []) old new → told ≢ Answered wanted → StopsAt seen [] ((Runs command, Answered wanted) ∷ []) old new told

@@ -7,6 +7,7 @@ use Rattle.shell.specs.declared.mode.Mode.TheVariants.{Tabs}
 use Rattle.lines.specs.Reply.{Told}
 use Rattle.lines.specs.Script.{Reading}
 use Rattle.commands.specs.Client.{Seen, Standing, standing_of}
+use Rattle.commands.specs.ListClient.{in_force, list_standing_of}
 use Rattle.commands.specs.Import.{Comes, ImportMade, IsCutShort, import_of, imported_text}
 use Rattle.commands.specs.Session.{AnswersEach, Exchange, Import, Talks, imports_by}
 use Rattle.commands.specs.Solo.{AnswersTasks}
@@ -32,6 +33,15 @@ import_talks seen made before after old new comes wrote = record {
         goes_on = come.goes_on;
         pieces = Import made ∷ [];
         answered = subst (λ (done : List Exchange). AnswersEach catalogue done old_standing new_standing) (sym (append-nil (map imports_by made.answers))) (each_of catalogue made.answers old_standing new_standing come.answered);
+        lines = sym (append-nil (imported_text made.count));
+      };
+  over = λ db whole happened listed clean h.
+      let come = comes.over db whole happened listed clean h in
+      record {
+        later = come.later;
+        goes_on = come.goes_on;
+        pieces = (in_force db (list_standing_of seen old happened), Import made) ∷ [];
+        come = (list_standing_of seen new come.later, refl, come.answered, refl);
         lines = sym (append-nil (imported_text made.count));
       };
 }

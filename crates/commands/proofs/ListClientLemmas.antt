@@ -93,20 +93,21 @@ module _ {B : Type 0} {seen : Seen B} (db : Database) (whole : Relations) (happe
   abbrev Sounds : Type 0
   Sounds = seen.is_clean new → seen.is_sound old → seen.is_sound new
 
-  -- the catalogue in force now, and those behind it, are those of the list
+  -- the catalogue in force now, of the number that the machines keep, and those behind it, are those of the list
   abbrev StandsNow : Type 0
-  StandsNow = (db.catalogue (seen.version new) ≡ seen.catalogue new) × AreBehind db (seen.version new) (seen.later new)
+  StandsNow = (seen.version new ≡ (seen.machines new).table.version) × (db.catalogue (seen.version new) ≡ seen.catalogue new) × AreBehind db (seen.version new) (seen.later new)
 
   goes_over : (later : Happened db) → seen.stopped new ≡ None → StandsNow → Sounds → IsTold db whole (seen.machines new) later → GoesOnOver seen db whole later new
-  goes_over later going stands sound told = record { going = going; here = stands.0; next = stands.1; sound = sound clean h.sound; told = told }
+  goes_over later going stands sound told = record { going = going; number = stands.0; here = stands.1; next = stands.2; sound = sound clean h.sound; told = told }
 
   -- something is shown
   pub shows_over : (seen.current new ≡ seen.current old) × (seen.stopped new ≡ seen.stopped old) → seen.version new ≡ seen.version old → seen.catalogue new ≡ seen.catalogue old → seen.later new ≡ seen.later old → Sounds →
       (seen.is_clean new → seen.is_sound old → uncounted (seen.machines new) ≡ uncounted (seen.machines old)) → GoesOnOver seen db whole happened new
   shows_over still version catalogue later sound stays =
+      let number = version ∙ h.number ∙ sym (ap (λ (machines : Machines). machines.table.version) (stays clean h.sound)) in
       let here = ap (λ (n : ℕ). db.catalogue n) version ∙ h.here ∙ sym catalogue in
       let next = subst (λ (n : ℕ). AreBehind db n (seen.later new)) (sym version) (subst (λ (cs : List Catalogue). AreBehind db (seen.version old) cs) (sym later) h.next) in
-      goes_over happened (still.1 ∙ h.going) (here, next) sound (record { served = list_still db whole (seen.machines old) (seen.machines new) happened.deeds (stays clean h.sound) h.told.served; tells = h.told.tells })
+      goes_over happened (still.1 ∙ h.going) (number, here, next) sound (record { served = list_still db whole (seen.machines old) (seen.machines new) happened.deeds (stays clean h.sound) h.told.served; tells = h.told.tells })
 
   pub stays_still : (seen.current new ≡ seen.current old) × (seen.stopped new ≡ seen.stopped old) → (seen.is_clean new → seen.is_sound old → uncounted (seen.machines new) ≡ uncounted (seen.machines old)) →
       StaysStill (list_standing_of seen old happened) (list_standing_of seen new happened)

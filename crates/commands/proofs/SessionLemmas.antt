@@ -5,19 +5,22 @@ use Rattle.std.proofs.lemmas.Grind.{flat_map-append}
 use Rattle.meaning.specs.Whole.{Relations}
 use Rattle.catalog.specs.Catalogue.{Catalogue}
 use Rattle.protocol.specs.Desk.{Deed}
-use Rattle.desk.specs.Database.{language}
+use Rattle.desk.specs.Database.{Database, language}
 use Rattle.world.specs.declared.event.Entry.{Entry}
 use Rattle.world.specs.Commands.{MovesFollow}
-use Rattle.desk.specs.CatalogueDatabase.{database}
+use Rattle.desk.specs.CatalogueDatabase.{database, databases}
+use Rattle.world.specs.Listed.{IsListed}
+use Rattle.world.specs.ListServed.{ListHeardIsSerial}
 use Rattle.world.specs.Replies.{Tells}
 use Rattle.lines.specs.declared.fault.ProgramFault.{ProgramFault}
 use Rattle.commands.specs.declared.catalog_files.ChainFault.{ChainFault}
 use Rattle.commands.specs.declared.catalog_files.ChainFault.TheVariants.{Program, Refused, Unchained}
 use Rattle.commands.specs.CatalogFiles.{IsOfOpening}
 use Rattle.commands.specs.Client.{GoesOn, IsAnswered, Seen, Standing, standing_of}
-use Rattle.commands.specs.Origin.{BeginsOver, BeginsWith, IsBegun, Origin}
+use Rattle.commands.specs.ListClient.{GoesOnOver, Happened, IsAnsweredOver, ListStanding, in_force, list_standing_of, unhappened}
+use Rattle.commands.specs.Origin.{BeginsOver, BeginsWith, BeginsWithOver, IsBegun, IsBegunOver, Origin}
 use Rattle.lines.specs.Reply.{text_of}
-use Rattle.commands.specs.Session.{Answer, AnswersEach, Beside, Exchange, HasTalked, IsAsideOf, IsOfSession, IsSessionFrom, IsTalk, RunsSession, Talks, aside_text, exchange_in, exchanges_in, piece_text, said_by_each}
+use Rattle.commands.specs.Session.{Answer, AnswersEach, Beside, Exchange, HasTalked, IsAsideOf, IsOfSession, IsSessionFrom, IsSessionFromOver, IsTalk, IsTalkOver, ListPiece, PiecesCome, RunsSession, Talks, TellsNumber, aside_text, exchange_in, exchanges_in, list_piece_text, piece_text, said_by_each}
 use Rattle.commands.specs.Solo.{said_by}
 use Rattle.commands.proofs.ClientLemmas.{still_told, task_told}
 use Rattle.commands.proofs.SoloLemmas.{Appends-more, Keeps-same}
@@ -32,6 +35,11 @@ then_others : (catalogue : Catalogue) (first others : List Exchange) (old middle
 then_others catalogue [] others old middle new same rest = subst (λ (s : Standing catalogue). AnswersEach catalogue others s new) same rest
 then_others catalogue (one ∷ first) others old middle new done rest = (done.0, done.1, then_others catalogue first others done.0 middle new done.2 rest)
 
+-- some pieces, and then others
+pieces_then : (db : Database) (whole : Relations) (first others : List ListPiece) (old middle new : ListStanding db) → PiecesCome db whole first old middle → PiecesCome db whole others middle new → PiecesCome db whole (first ++ others) old new
+pieces_then db whole [] others old middle new same rest = subst (λ (s : ListStanding db). PiecesCome db whole others s new) same rest
+pieces_then db whole (one ∷ first) others old middle new done rest = (done.0, done.1, done.2, pieces_then db whole first others done.0 middle new done.3 rest)
+
 -- nothing is written
 pub Appends-none : (known : Option (List ℕ)) → Appends known known []
 Appends-none None = tt
@@ -39,34 +47,40 @@ Appends-none (Some bytes) = sym (append-nil bytes)
 
 -- nothing is answered and nothing written
 pub talks_none : {B : Type 0} (seen : Seen B) (output : Option (List ℕ)) (old : B) → Talks seen output output old old
-talks_none seen output old = record { clean = λ clean. clean; written = []; told = Appends-none output; stretch = λ catalogue whole past clean h. record { later = past; goes_on = h; pieces = []; answered = refl; lines = refl } }
-
--- something besides answers is written, whatever the catalogue
-pub talks_aside : {B : Type 0} (seen : Seen B) (before after : Option (List ℕ)) (old : B) (text : List ℕ) → Appends before after text → ((catalogue : Catalogue) → IsAsideOf catalogue text) → Talks seen before after old old
-talks_aside seen before after old text wrote beside = record {
+talks_none seen output old = record {
   clean = λ clean. clean;
-  written = text;
-  told = wrote;
-  stretch = λ catalogue whole past clean h.
-      let aside = beside catalogue in
-      record { later = past; goes_on = h; pieces = Beside aside.0 ∷ []; answered = refl; lines = aside.1 ∙ sym (append-nil (aside_text catalogue aside.0)) };
+  written = [];
+  told = Appends-none output;
+  stretch = λ catalogue whole past clean h. record { later = past; goes_on = h; pieces = []; answered = refl; lines = refl };
+  over = λ db whole happened listed clean h. record { later = happened; goes_on = h; pieces = []; come = refl; lines = refl };
 }
 
--- something is written that is told of the catalogue
-pub talks_of : {B : Type 0} (seen : Seen B) (before after : Option (List ℕ)) (old : B) (text : List ℕ) → Appends before after text → IsAsideOf (seen.catalogue old) text → Talks seen before after old old
-talks_of seen before after old text wrote beside = record {
+-- something besides answers is written; what it tells of a catalogue and its number is told of the one in force
+pub talks_aside : {B : Type 0} (seen : Seen B) (before after : Option (List ℕ)) (old : B) (text : List ℕ) → Appends before after text → (beside : IsAsideOf (seen.catalogue old) text) → TellsNumber (seen.catalogue old) beside.0 (seen.version old) → Talks seen before after old old
+talks_aside seen before after old text wrote beside numbered = record {
   clean = λ clean. clean;
   written = text;
   told = wrote;
   stretch = λ catalogue whole past clean h.
       let aside = subst (λ (c : Catalogue). IsAsideOf c text) h.catalog beside in
       record { later = past; goes_on = h; pieces = Beside aside.0 ∷ []; answered = refl; lines = aside.1 ∙ sym (append-nil (aside_text catalogue aside.0)) };
+  over = λ db whole happened listed clean h.
+      let own = seen.catalogue old in
+      let standing = list_standing_of seen old happened in
+      record {
+        later = happened;
+        goes_on = h;
+        pieces = (own, Beside beside.0) ∷ [];
+        come = (standing, sym h.here ∙ ap db.catalogue h.number, (subst (TellsNumber own beside.0) h.number numbered, refl), refl);
+        lines = beside.1 ∙ sym (append-nil (aside_text own beside.0));
+      };
 }
 
 -- an answer is written
 pub talks_answer : {B : Type 0} (seen : Seen B) (before after : Option (List ℕ)) (old new : B) (exchange : Exchange) (text : List ℕ) → Appends before after text → text ≡ text_of exchange.told → (seen.is_clean new → seen.is_clean old) →
-    ((catalogue : Catalogue) (whole : Relations) (past : List (Deed (language (database catalogue)))) → seen.is_clean new → GoesOn seen catalogue whole past old → IsAnswered seen exchange.mode catalogue whole exchange.task past old new exchange.told) → Talks seen before after old new
-talks_answer seen before after old new exchange text wrote is was_clean answers = record {
+    ((catalogue : Catalogue) (whole : Relations) (past : List (Deed (language (database catalogue)))) → seen.is_clean new → GoesOn seen catalogue whole past old → IsAnswered seen exchange.mode catalogue whole exchange.task past old new exchange.told) →
+    ((db : Database) (whole : Relations) (happened : Happened db) → IsListed db → seen.is_clean new → GoesOnOver seen db whole happened old → IsAnsweredOver seen exchange.mode db whole exchange.task happened old new exchange.told) → Talks seen before after old new
+talks_answer seen before after old new exchange text wrote is was_clean answers answers_over = record {
   clean = was_clean;
   written = text;
   told = wrote;
@@ -77,6 +91,15 @@ talks_answer seen before after old new exchange text wrote is was_clean answers 
         goes_on = answered.goes_on;
         pieces = Answer exchange ∷ [];
         answered = (standing_of seen catalogue new answered.later, answered.answers, refl);
+        lines = is ∙ sym (append-nil (text_of exchange.told));
+      };
+  over = λ db whole happened listed clean h.
+      let answered = answers_over db whole happened listed clean h in
+      record {
+        later = answered.later;
+        goes_on = answered.goes_on;
+        pieces = (in_force db (list_standing_of seen old happened), Answer exchange) ∷ [];
+        come = (list_standing_of seen new answered.later, refl, answered.answers, refl);
         lines = is ∙ sym (append-nil (text_of exchange.told));
       };
 }
@@ -92,6 +115,16 @@ talk_then seen catalogue whole past old middle new first second one two = record
   lines = ap₂ (λ front back. front ++ back) one.lines two.lines ∙ sym (flat_map-append (piece_text catalogue) one.pieces two.pieces);
 }
 
+-- so over a list of catalogues
+talk_then_over : {B : Type 0} (seen : Seen B) (db : Database) (whole : Relations) (happened : Happened db) (old middle new : B) (first second : List ℕ) → (one : IsTalkOver seen db whole happened old middle first) → IsTalkOver seen db whole one.later middle new second → IsTalkOver seen db whole happened old new (first ++ second)
+talk_then_over seen db whole happened old middle new first second one two = record {
+  later = two.later;
+  goes_on = two.goes_on;
+  pieces = one.pieces ++ two.pieces;
+  come = pieces_then db whole one.pieces two.pieces (list_standing_of seen old happened) (list_standing_of seen middle one.later) (list_standing_of seen new two.later) one.come two.come;
+  lines = ap₂ (λ front back. front ++ back) one.lines two.lines ∙ sym (flat_map-append list_piece_text one.pieces two.pieces);
+}
+
 -- one call, and then another
 pub talks_then : {B : Type 0} (seen : Seen B) (first second third : Option (List ℕ)) (old middle new : B) → Talks seen first second old middle → Talks seen second third middle new → Talks seen first third old new
 talks_then seen first second third old middle new one two = record {
@@ -101,6 +134,9 @@ talks_then seen first second third old middle new one two = record {
   stretch = λ catalogue whole past clean h.
       let done = one.stretch catalogue whole past (two.clean clean) h in
       talk_then seen catalogue whole past old middle new one.written two.written done (two.stretch catalogue whole done.later clean done.goes_on);
+  over = λ db whole happened listed clean h.
+      let done = one.over db whole happened listed (two.clean clean) h in
+      talk_then_over seen db whole happened old middle new one.written two.written done (two.over db whole done.later listed clean done.goes_on);
 }
 
 -- what exchanges asked for and heard tells what has happened
@@ -130,20 +166,42 @@ session_over seen catalogue origin old new opened ended fresh law talks whole be
       serial = law.serial whole (seen.machines ended) _ stretch.later (each_told catalogue law (exchanges_in catalogue stretch.pieces) (standing_of seen catalogue opened []) (standing_of seen catalogue ended stretch.later) [] (record { phased = refl; stated = tt; heard = refl }) stretch.answered) stretch.goes_on.served;
     }
 
+-- so over a list of catalogues
+list_session : {B : Type 0} (seen : Seen B) (first : Catalogue) (rest : List Catalogue) (origin : Origin) (old new : Option (List ℕ)) (opened ended : B) → IsBegunOver seen first rest origin opened → IsListed (databases first rest) → ListHeardIsSerial (databases first rest) → (talks : Talks seen old new opened ended) →
+    (whole : Relations) → BeginsWithOver first rest origin whole → seen.is_clean ended → IsSessionFromOver (databases first rest) whole talks.written
+list_session seen first rest origin old new opened ended begun listed law talks whole begins clean =
+    let fresh = begun.goes_on whole begins (talks.clean clean) in
+    let stretch = talks.over (databases first rest) whole unhappened listed clean fresh in
+    record {
+      opening = list_standing_of seen opened unhappened;
+      opened = record { told = fresh.told; none = refl; idle = begun.idle };
+      end = list_standing_of seen ended stretch.later;
+      pieces = stretch.pieces;
+      come = stretch.come;
+      lines = stretch.lines;
+      told = stretch.goes_on.told;
+      serial = law whole (seen.machines ended) stretch.later.entries stretch.later.deeds stretch.goes_on.told.tells stretch.goes_on.told.served;
+    }
+
 module _ {B : Type 0} (seen : Seen B) (IsOrigin : Origin → Type 0) where
   -- there was a session over a database of several catalogues that was opened
-  pub talked_over : (old new : Option (List ℕ)) (catalogues : List Catalogue) (opened ended : B) → BeginsOver seen IsOrigin catalogues opened → MovesFollow (database (seen.catalogue opened)) → Talks seen old new opened ended → HasTalked seen IsOrigin catalogues old new
-  talked_over old new catalogues opened ended fresh law talks = record {
+  pub talked_over : (old new : Option (List ℕ)) (catalogues : List Catalogue) (opened ended : B) → BeginsOver seen IsOrigin catalogues opened → MovesFollow (database (seen.catalogue opened)) →
+      ((first : Catalogue) (rest : List Catalogue) → catalogues ≡ first ∷ rest → IsListed (databases first rest)) → ((db : Database) → IsListed db → ListHeardIsSerial db) → Talks seen old new opened ended → HasTalked seen IsOrigin catalogues old new
+  talked_over old new catalogues opened ended fresh law listed serial talks = record {
     origin = fresh.origin;
     is_origin = fresh.is_origin;
     opened = opened;
     begun = fresh.last;
+    begun_over = fresh.over;
     ended = ended;
     talks = talks;
     held = λ catalogue whole last begins clean.
         let begun = fresh.last catalogue last in
         let is = (begun.goes_on whole begins (talks.clean clean)).catalog in
         session_over seen catalogue fresh.origin old new opened ended begun (subst (λ (own : Catalogue). MovesFollow (database own)) is law) talks whole begins clean;
+    held_over = λ first rest whole chain begins clean.
+        let of = listed first rest chain in
+        list_session seen first rest fresh.origin old new opened ended (fresh.over first rest chain) of (serial (databases first rest) of) talks whole begins clean;
   }
 
   -- no database was opened

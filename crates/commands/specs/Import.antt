@@ -6,14 +6,16 @@ use Rattle.meaning.specs.Whole.{Relations}
 use Rattle.catalog.specs.Catalogue.{Catalogue}
 use Rattle.protocol.specs.Desk.{Deed}
 use Rattle.reader.specs.PrintStatement.{statement_bytes}
-use Rattle.desk.specs.Database.{language}
+use Rattle.desk.specs.Database.{Database, language}
 use Rattle.desk.specs.CatalogueDatabase.{database}
+use Rattle.world.specs.Listed.{IsListed}
 use Rattle.exchange.specs.Insert.{insert_of}
 use Rattle.shell.specs.declared.mode.Mode.TheVariants.{Tabs}
 use Rattle.commands.specs.Client.{GoesOn, Seen, standing_of}
+use Rattle.commands.specs.ListClient.{AnswersTaskOver, GoesOnOver, Happened, list_standing_of}
 use Rattle.lines.specs.Reply.{Answered, Told}
 use Rattle.lines.specs.Script.{Reading, Runs}
-use Rattle.commands.specs.Solo.{AnswersTasks}
+use Rattle.commands.specs.Solo.{AnswersInTurn, AnswersTasks}
 
 -- how many rows were imported
 abbrev pub imported_text : ℕ → List ℕ
@@ -115,10 +117,17 @@ pub record HasCome {B : Type 0} (seen : Seen B) (catalogue : Catalogue) (whole :
   pub goes_on : GoesOn seen catalogue whole later new
   pub answered : AnswersTasks Tabs catalogue answers (standing_of seen catalogue old past) (standing_of seen catalogue new later)
 
--- so whatever has happened before, where the stores are clean at the end
+-- so over a list of catalogues
+pub record HasComeOver {B : Type 0} (seen : Seen B) (db : Database) (whole : Relations) (answers : List (Reading × Told)) (happened : Happened db) (old new : B) : Type 0 where
+  pub later : Happened db
+  pub goes_on : GoesOnOver seen db whole later new
+  pub answered : AnswersInTurn (AnswersTaskOver Tabs db whole) answers (list_standing_of seen old happened) (list_standing_of seen new later)
+
+-- so whatever has happened before, over one catalogue and over each list of catalogues, where the stores are clean at the end
 pub record Comes {B : Type 0} (seen : Seen B) (answers : List (Reading × Told)) (old new : B) : Type 0 where
   pub clean : seen.is_clean new → seen.is_clean old
   pub come : (catalogue : Catalogue) (whole : Relations) (past : List (Deed (language (database catalogue)))) → seen.is_clean new → GoesOn seen catalogue whole past old → HasCome seen catalogue whole answers past old new
+  pub over : (db : Database) (whole : Relations) (happened : Happened db) → IsListed db → seen.is_clean new → GoesOnOver seen db whole happened old → HasComeOver seen db whole answers happened old new
 
 -- What was wanted came up to one command, which was answered otherwise. made: what came before it
 pub record StopsAt {B : Type 0} (seen : Seen B) (made wanted : List (Reading × Told)) (old new : B) (reply : Told) : Type 0 where

@@ -60,9 +60,10 @@ list_standing_of seen base happened = record { machines = seen.machines base; cu
 abbrev pub in_force : (db : Database) → ListStanding db → Catalogue
 in_force db standing = db.catalogue standing.machines.table.version
 
--- nothing has stopped the database of this list: its catalogue in force is that of its number, those that come after it are those behind, and what has happened is told
+-- nothing has stopped the database of this list: its catalogue in force is that of its number, which its machines keep, those that come after it are those behind, and what has happened is told
 pub record GoesOnOver {B : Type 0} (seen : Seen B) (db : Database) (whole : Relations) (happened : Happened db) (base : B) : Type 0 where
   pub going : seen.stopped base ≡ None
+  pub number : seen.version base ≡ (seen.machines base).table.version
   pub here : db.catalogue (seen.version base) ≡ seen.catalogue base
   pub next : AreBehind db (seen.version base) (seen.later base)
   pub sound : seen.is_sound base

@@ -1,14 +1,15 @@
 -- A session: what is typed is answered line by line, over one database.
-use Rattle.std.specs.Prelude.{ℕ, ◌≡◌, ◌⊎◌, Bool, if◌then◌else◌, List, [], ◌∷◌, ◌++◌, codes, flat_map, map, Option, Result, Ok, Err}
+use Rattle.std.specs.Prelude.{ℕ, ◌≡◌, ◌⊎◌, ⊤, Bool, if◌then◌else◌, List, [], ◌∷◌, ◌++◌, codes, flat_map, map, Option, Result, Ok, Err}
 use Rattle.std.specs.Borrow.{Bor}
 use Rattle.std.specs.Io.KnownBytes.{Appends, Keeps}
 use Rattle.meaning.specs.Whole.{Relations}
 use Rattle.catalog.specs.Catalogue.{Catalogue}
 use Rattle.protocol.specs.Desk.{Deed}
-use Rattle.desk.specs.Database.{language}
+use Rattle.desk.specs.Database.{Database, language}
 use Rattle.world.specs.declared.event.Entry.{Entry}
-use Rattle.desk.specs.CatalogueDatabase.{database, fits}
+use Rattle.desk.specs.CatalogueDatabase.{database, databases, fits}
 use Rattle.world.specs.Executed.{Stands}
+use Rattle.world.specs.Listed.{IsListed}
 use Rattle.world.specs.Runs.{IsSerialRun}
 use Rattle.world.specs.Client.{IsServed}
 use Rattle.shell.specs.declared.mode.Mode.{Mode}
@@ -18,17 +19,18 @@ use Rattle.commands.specs.declared.catalog_files.ChainFault.{ChainFault}
 use Rattle.commands.specs.declared.catalog_files.ChainFault.TheVariants.{Program, Refused, Unchained}
 use Rattle.commands.specs.CatalogFiles.{AreSeveral}
 use Rattle.commands.specs.Client.{AnswersTask, GoesOn, Seen, Standing, standing_of}
+use Rattle.commands.specs.ListClient.{AnswersTaskOver, GoesOnOver, Happened, IsTold, ListStanding, in_force, list_standing_of}
 use Rattle.lines.specs.Input.{IsOfInput}
 use Rattle.lines.specs.Listing.{catalog_text, schema_text, tables_text}
 use Rattle.commands.specs.declared.stats.Stats.{Stats}
 use Rattle.commands.specs.Import.{ImportMade, imported_text}
 use Rattle.commands.specs.Stats.{stats_text}
 use Rattle.world.specs.declared.traffic.Traffic.{Traffic}
-use Rattle.commands.specs.Origin.{BeginsWith, IsBegun, IsLastOf, Origin}
+use Rattle.commands.specs.Origin.{BeginsWith, BeginsWithOver, IsBegun, IsBegunOver, IsLastOf, Origin}
 use Rattle.lines.specs.Plan.{IsPlanOf}
 use Rattle.lines.specs.Reply.{Told, text_of}
 use Rattle.lines.specs.Script.{Reading}
-use Rattle.commands.specs.Solo.{IsOfRun, IsOpened, said_by}
+use Rattle.commands.specs.Solo.{AnswersInTurn, IsOfRun, IsOpened, IsOpenedOver, said_by}
 
 -- what a session begins with
 abbrev pub greeting_text : List ℕ
@@ -140,6 +142,41 @@ pub record IsSessionFrom (catalogue : Catalogue) (whole : Relations) (written : 
   pub stands : Stands (database catalogue) (fits catalogue) end.current end.machines end.past
   pub serial : IsSerialRun (database catalogue) whole end.machines (said_by_each catalogue (exchanges_in catalogue pieces) opening end answered)
 
+-- a piece that is written under a catalogue
+abbrev pub ListPiece : Type 0
+ListPiece = (catalogue : Catalogue) × Piece catalogue
+
+abbrev pub list_piece_text : ListPiece → List ℕ
+list_piece_text piece = piece_text piece.0 piece.1
+
+-- the number that is told of the catalogue in force is this one, where one is told
+abbrev pub TellsNumber : (catalogue : Catalogue) → Aside catalogue → ℕ → Type 0
+TellsNumber catalogue (InForce number count name) version = number ≡ version
+TellsNumber catalogue aside version = ⊤
+
+-- What a piece comes to over a list of catalogues, where this one of them is in force: what is asked for is answered as in a script, and by an aside nothing happens.
+abbrev pub PieceComes : (db : Database) (whole : Relations) (catalogue : Catalogue) → Piece catalogue → ListStanding db → ListStanding db → Type 0
+PieceComes db whole catalogue (Answer exchange) before after = AnswersTaskOver exchange.mode db whole exchange.task before after exchange.told
+PieceComes db whole catalogue (Import made) before after = AnswersInTurn (AnswersTaskOver Tabs db whole) made.answers before after
+PieceComes db whole catalogue (Beside aside) before after = TellsNumber catalogue aside before.machines.table.version × (after ≡ before)
+
+-- pieces, one after another, each under the catalogue of the list that is in force then
+abbrev pub PiecesCome : (db : Database) (whole : Relations) → List ListPiece → ListStanding db → ListStanding db → Type 0
+PiecesCome db whole [] before after = after ≡ before
+PiecesCome db whole (first ∷ others) before after = (middle : ListStanding db) × (first.0 ≡ in_force db before) × PieceComes db whole first.0 first.1 before middle × PiecesCome db whole others middle after
+
+-- So a session over a list of catalogues, whichever of them comes into force by a REFRAGMENT that is typed: the committed transactions, ordinary ones and REFRAGMENTs, one after another over whole relations, give the answers that
+-- were heard in it and, under the catalogue in force at the end, what the settled fragments rebuild.
+pub record IsSessionFromOver (db : Database) (whole : Relations) (written : List ℕ) : Type 0 where
+  pub opening : ListStanding db
+  pub opened : IsOpenedOver db whole opening
+  pub end : ListStanding db
+  pub pieces : List ListPiece
+  pub come : PiecesCome db whole pieces opening end
+  pub lines : written ≡ flat_map list_piece_text pieces
+  pub told : IsTold db whole end.machines end.happened
+  pub serial : IsSerialRun db whole end.machines end.happened.entries
+
 -- a fault that may end a session whose lines this file gives
 abbrev pub IsOfSession : Bor (List ℕ) → ProgramFault → Type 0
 IsOfSession file fault = IsOfRun fault ⊎ IsOfInput file fault
@@ -152,25 +189,36 @@ pub record IsTalk {B : Type 0} (seen : Seen B) (catalogue : Catalogue) (whole : 
   pub answered : AnswersEach catalogue (exchanges_in catalogue pieces) (standing_of seen catalogue old past) (standing_of seen catalogue new later)
   pub lines : written ≡ flat_map (piece_text catalogue) pieces
 
--- what a call has come to: something was written, and whatever has happened before, that is a stretch of a session where the stores are clean as the call ends
+-- so over a list of catalogues
+pub record IsTalkOver {B : Type 0} (seen : Seen B) (db : Database) (whole : Relations) (happened : Happened db) (old new : B) (written : List ℕ) : Type 0 where
+  pub later : Happened db
+  pub goes_on : GoesOnOver seen db whole later new
+  pub pieces : List ListPiece
+  pub come : PiecesCome db whole pieces (list_standing_of seen old happened) (list_standing_of seen new later)
+  pub lines : written ≡ flat_map list_piece_text pieces
+
+-- what a call has come to: something was written, and whatever has happened before, that is a stretch of a session where the stores are clean as the call ends, over one catalogue and over each list of catalogues
 pub record Talks {B : Type 0} (seen : Seen B) (before after : Option (List ℕ)) (old new : B) : Type 0 where
   pub clean : seen.is_clean new → seen.is_clean old
   pub written : List ℕ
   pub told : Appends before after written
   pub stretch : (catalogue : Catalogue) (whole : Relations) (past : List (Deed (language (database catalogue)))) → seen.is_clean new → GoesOn seen catalogue whole past old → IsTalk seen catalogue whole past old new written
+  pub over : (db : Database) (whole : Relations) (happened : Happened db) → IsListed db → seen.is_clean new → GoesOnOver seen db whole happened old → IsTalkOver seen db whole happened old new written
 
 -- seen: how databases are seen that are opened for a session; IsOrigin: what they may begin with
 module _ {B : Type 0} (seen : Seen B) (IsOrigin : Origin → Type 0) where
   -- A session over a database of these catalogues that was opened for it. Where the catalogue in force as it began is the last one, and the stores are clean at its end, it is a session over this one, whatever
-  -- relations it began with
+  -- relations it began with; and so it is a session over the list of them, whichever is in force and comes into force
   pub record HasTalked (catalogues : List Catalogue) (old new : Option (List ℕ)) : Type 0 where
     pub origin : Origin
     pub is_origin : IsOrigin origin
     pub opened : B
     pub begun : (catalogue : Catalogue) → IsLastOf catalogues origin catalogue → IsBegun seen catalogue origin opened
+    pub begun_over : (first : Catalogue) (rest : List Catalogue) → catalogues ≡ first ∷ rest → IsBegunOver seen first rest origin opened
     pub ended : B
     pub talks : Talks seen old new opened ended
     pub held : (catalogue : Catalogue) (whole : Relations) → IsLastOf catalogues origin catalogue → BeginsWith catalogue origin whole → seen.is_clean ended → IsSessionFrom catalogue whole talks.written
+    pub held_over : (first : Catalogue) (rest : List Catalogue) (whole : Relations) → catalogues ≡ first ∷ rest → BeginsWithOver first rest origin whole → seen.is_clean ended → IsSessionFromOver (databases first rest) whole talks.written
 
   -- a session whose lines this file gives had an end, or was stopped; of several catalogues a coordinator's store may keep the number of none
   abbrev pub RunsSession : Bor (List ℕ) → Option (List ℕ) → Option (List ℕ) → List Catalogue → Result Unit ChainFault → Type 0

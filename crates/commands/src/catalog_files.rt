@@ -141,7 +141,8 @@ fn read_source<'a, C: Read + Drop>(
     }
 }
 
-/// The files of the catalogues that come next, as far as they can be opened.
+/// The files of the catalogues that come next, as far as they can be opened. No clause says which can, since no contract can say
+/// what files there are.
 pub fn open_next<'a>(
     rt: &HostRuntime,
     next: &[&'a str],

@@ -49,7 +49,7 @@ pub struct Progress<'r> {
 }
 
 impl<'r> Progress<'r> {
-    /// Nothing is done yet. What a person is told meanwhile has no clause.
+    /// Nothing is done yet. No clause says what a person is told meanwhile, since it depends on the clock.
     pub fn new(rt: &'r HostRuntime) -> Progress<'r> {
         Progress {
             rt,

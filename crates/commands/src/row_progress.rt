@@ -14,7 +14,7 @@ pub struct RowProgress<'r> {
 }
 
 impl<'r> RowProgress<'r> {
-    /// Nobody is told. What that writes, nothing, has no clause.
+    /// Nobody is told. No clause says so, since nothing is claimed of what stands on the standard error.
     pub fn untold() -> RowProgress<'r> {
         RowProgress {
             rt: None,
@@ -23,7 +23,7 @@ impl<'r> RowProgress<'r> {
         }
     }
 
-    /// A person is told on the standard error. What stands there has no clause.
+    /// A person is told on the standard error. No clause says what stands there, since it depends on the clock.
     pub fn told(rt: &'r HostRuntime) -> RowProgress<'r> {
         RowProgress {
             rt: Some(rt),
@@ -32,7 +32,7 @@ impl<'r> RowProgress<'r> {
         }
     }
 
-    /// A person at a terminal is told, and nobody else. What stands on the standard error has no clause.
+    /// A person at a terminal is told, and nobody else. No clause says so, since none says what a terminal is.
     pub fn at_terminal(rt: &'r HostRuntime) -> RowProgress<'r> {
         if rt.stderr().is_terminal() {
             RowProgress::told(rt)
@@ -41,7 +41,8 @@ impl<'r> RowProgress<'r> {
         }
     }
 
-    /// The row of this number, counted from 0, is inserted, of so many in all. What is told of that has no clause.
+    /// The row of this number, counted from 0, is inserted, of so many in all. No clause says what is told of that, since it
+    /// depends on the clock.
     pub fn inserted(&mut self, number: usize, all: usize) {
         if let (Some(rt), Some(begun)) = (self.rt, self.begun)
             && let Ok(took) = begun.elapsed(rt)

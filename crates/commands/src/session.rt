@@ -27,7 +27,7 @@ use std::alloc::Global;
 use std::io;
 use std::io::{BufRead, Read, Write};
 use std::time::{Clock, Instant};
-use world::laws::moves_follow;
+use world::laws::{chain_is_listed, list_served_is_serial, moves_follow};
 
 /// What a session begins with.
 const GREETING: &str =
@@ -58,6 +58,8 @@ pub fn session<
 ) -> Result<(), ChainFault<'a>>
     ensures { RunsSession B.seen O.origin file.entry (W.contents output.old) (W.contents output.new) (map catalogue_of chain.now) result }
 {
+    chain_is_listed(chain);
+    list_served_is_serial();
     let found = opener.found(alloc, world::chain::first_of(chain))?;
     let mut database = opener.open(alloc, chain)?;
     moves_follow(database.catalog());

@@ -102,7 +102,7 @@ pub struct Files<'f> {
 }
 
 impl<'f> Files<'f> {
-    /// Those that a program reaches. What files hold no contract can say.
+    /// Those that a program reaches. No clause says which, since no contract can say what files hold.
     pub fn new(rt: &'f HostRuntime) -> Files<'f> {
         Files { rt }
     }

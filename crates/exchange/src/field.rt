@@ -11,18 +11,24 @@ use std::alloc::Global;
 use terms::memory::Memory;
 use terms::text::Text;
 use terms::value::{Kind, TEXT_LIMIT, Value};
+use thiserror::Error;
 
-/// Why a field is no value of a column's type.
-#[derive(Clone, Copy, Debug, PartialEq, Eq)]
+/// Why a field is no value of a column's type. Its text stands behind the field, for a person's eyes, so no clause says it.
+#[derive(Clone, Copy, Debug, PartialEq, Eq, Error)]
 pub enum FieldFault {
     /// A minus or nothing and then digits are an integer; this is none.
+    #[error("is no integer")]
     NoInteger,
     /// An integer that 64 bits don't hold.
+    #[error("is no integer of 64 bits")]
     TooLarge,
     /// A text of more than `TEXT_LIMIT` bytes.
+    #[error("has more than {TEXT_LIMIT} bytes")]
     TooLong,
     /// No UTF-8, or a control character in it.
+    #[error("is no text: not UTF-8, or with a control character")]
     NoText,
+    #[error("takes more memory than there is")]
     Memory,
 }
 

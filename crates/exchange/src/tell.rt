@@ -1,6 +1,5 @@
 //! What is wrong with a file, told to a person.
 
-use crate::field::FieldFault;
 use crate::line_fault::{LineFault, LineWhat};
 use crate::order::HeaderFault;
 use crate::row::RowFault;
@@ -32,7 +31,6 @@ pub fn tell(alloc: Global, relation: &RelationSchema, fault: &LineFault) -> Resu
         }
         LineWhat::Row(RowFault::Field(number, why)) => {
             let column = column(relation, *number);
-            let why = field(*why);
             format!(in alloc; "line {line}, column {column}: '{refused}' {why}")?
         }
         LineWhat::Io(error) => unread(alloc, error)?,
@@ -78,8 +76,7 @@ pub fn tell_suggestion(
         SuggestFault::KeyTwice(number) => format!(in alloc; "{key} is {number} in two lines")?,
         SuggestFault::Field { line, place, fault } => {
             let number = place.saturating_add(1);
-            let why = field(*fault);
-            format!(in alloc; "line {line}: the field of column {number} {why}")?
+            format!(in alloc; "line {line}: the field of column {number} {fault}")?
         }
         SuggestFault::Line(fault) => unread_line(alloc, fault)?,
         SuggestFault::Catalogue(fault) => format!(in alloc; "the catalogue would be {fault}")?,
@@ -133,17 +130,6 @@ fn column(relation: &RelationSchema, number: usize) -> &str {
     match relation.columns.as_slice().get(number) {
         Some(column) => column.name.as_str(),
         None => "",
-    }
-}
-
-/// What is wrong with a field, behind the field.
-fn field(why: FieldFault) -> &'static str {
-    match why {
-        FieldFault::NoInteger => "is no integer",
-        FieldFault::TooLarge => "is no integer of 64 bits",
-        FieldFault::TooLong => "has more than 200 bytes",
-        FieldFault::NoText => "is no text: not UTF-8, or with a control character",
-        FieldFault::Memory => "takes more memory than there is",
     }
 }
 

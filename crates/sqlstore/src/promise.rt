@@ -19,8 +19,8 @@ pub struct Promise {
     pub intents: Vec<Intent>,
 }
 
-/// What is put into the tables, or none where nothing is changed, a leaf isn't the site's, a number is none of a
-/// table's, or a part has no spelling.
+/// What is put into the tables, or none where nothing is changed, a leaf isn't the site's, or a number is none of a
+/// table's.
 pub fn promise_of(
     alloc: Global,
     leaves: &[Leaf],
@@ -39,9 +39,7 @@ pub fn promise_of(
     let Some(txn) = txn_of(txn) else {
         return Ok(None);
     };
-    let Some(intents) = intents_of(alloc, changes)? else {
-        return Ok(None);
-    };
+    let intents = intents_of(alloc, changes)?;
     Ok(Some(Promise {
         visit,
         txn,

@@ -63,11 +63,11 @@ key_first : (value : Value) (values : List Value) → HasKey (value ∷ []) → 
 key_first (Int n) values key = tt
 key_first (Text bytes) values key = absurd key
 
-pub read_is_spelled : ReadIsSpelled
+-- what bytes spell is stored, and its spelling is they
+pub bytes_spell : (bytes : List ℕ) (part : List Value) → AreBytes bytes → part_from bytes ≡ Ok part → IsStorable part × (spelling part ≡ bytes)
 unfolding part_from
-read_is_spelled [] part all e = absurd cc
-read_is_spelled (count ∷ bytes) part all e =
-    let fits = from_all (count ∷ bytes) all in
+bytes_spell [] part fits e = absurd cc
+bytes_spell (count ∷ bytes) part fits e =
     let ended = λ (x : List Value × List ℕ). cond (eqb (length x.1) 0) (Ok x.0) (Err Trailing) in
     let g = guard_ok (eqb count 0 || ltb 16 count) BadTag (key_from bytes >>= λ key. behind (key.0 ∷ []) (values_from (count - 1) key.1) >>= ended) part e in
     let counts = or_parts (eqb count 0) (ltb 16 count) g.0 in
@@ -90,6 +90,9 @@ read_is_spelled (count ∷ bytes) part all e =
     in
     let stored : IsStorable (a.0.0 ∷ c.0.0) = record { key = key_first a.0.0 c.0.0 key.1; few = omega (arith, counted); fit = (key.0.1, others.2) } in
     subst (λ (v : List Value). IsStorable v × (spelling v ≡ count ∷ bytes)) (ap (λ (x : List Value × List ℕ). x.0) made-is ∙ ok_is b.0.0 part d.1) (stored, spelled)
+
+pub read_is_spelled : ReadIsSpelled
+read_is_spelled bytes part all e = bytes_spell bytes part (from_all bytes all) e
 
 pub spelled_is_read : SpelledIsRead
 unfolding part_from

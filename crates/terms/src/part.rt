@@ -1,9 +1,10 @@
 //! Parts: the values that a fragment keeps of a row.
 
-ghost use Rattle.std.specs.Prelude.{◌≡◌, List, IfOk, IsTrue, ◌↔◌};
+ghost use Rattle.std.specs.Prelude.{◌≡◌, List, IfOk, IfSome, IsSome, IsTrue, ◌↔◌};
 ghost use Rattle.std.specs.Arc.{arc_slice_items};
 ghost use Rattle.terms.specs.Row.{key_of};
 ghost use Rattle.terms.specs.Cond.{conds_hold};
+ghost use Rattle.terms.specs.Stored.{IsStorable};
 
 use crate::cond::{Cond, all_hold};
 use crate::copy::TryCopy;
@@ -14,8 +15,11 @@ use crate::value::Value;
 use std::marker::Model;
 use std::sync::ArcSlice;
 
-/// A part of a row: the values of some columns, the key first. Contracts see the list of its values. Its copies share them, so
-/// that a copy takes no memory.
+/// The most values that a part has.
+pub(crate) const VALUE_LIMIT: usize = 16;
+
+/// A part of a row: the values of some columns, the key first. It has 1 to `VALUE_LIMIT` values that a database holds, the first
+/// an integer. Contracts see the list of its values. Its copies share them, so that a copy takes no memory.
 #[derive(Debug, Drop)]
 pub struct Part {
     pub(crate) values: ArcSlice<Value>,
@@ -25,35 +29,48 @@ impl Model for Part {
     ghost use Rattle.std.specs.Prelude.{List};
     ghost use Rattle.std.specs.Arc.{arc_slice_items};
     ghost use Rattle.terms.specs.declared.value.Value.{Value as Cell};
+    ghost use Rattle.terms.specs.Stored.{IsStorable};
 
     ghost Value = { List Cell };
 
     ghost view = { λ p. arc_slice_items p.values };
+
+    ghost invariant = { λ p. IsStorable (arc_slice_items p.values) };
 }
 
 impl Part {
-    pub fn new(values: Vec<Value>) -> Result<Part, Memory>
-        ensures { IfOk result (λ part. part ≡ values.items) }
+    /// The part that has these values; none where a part can't have them.
+    pub fn new(values: Vec<Value>) -> Result<Option<Part>, Memory>
+        ensures found { IfOk result (λ found. IfSome found (λ part. part ≡ values.items)) }
+        ensures storable { IfOk result (λ found. IsSome found ↔ IsStorable values.items) }
     {
+        if !is_storable(values.as_slice()) {
+            return Ok(None);
+        }
         let values = ArcSlice::from_vec(values)?;
-        Ok(Part { values })
+        Ok(Some(Part { values }))
     }
 
-    /// The part that has a row's values, which it shares.
-    pub fn of_row(row: &Row) -> Result<Part, Memory>
-        ensures { IfOk result (λ part. part ≡ row.now) }
+    /// The part that has a row's values, which it shares; none where a part can't have them.
+    pub fn of_row(row: &Row) -> Result<Option<Part>, Memory>
+        ensures found { IfOk result (λ found. IfSome found (λ part. part ≡ row.now)) }
+        ensures storable { IfOk result (λ found. IsSome found ↔ IsStorable row.now) }
     {
+        if !is_storable(row.values()) {
+            return Ok(None);
+        }
         let values = row.values.clone()?;
-        Ok(Part { values })
+        Ok(Some(Part { values }))
     }
 
     pub fn values(&self) -> &[Value]
-        ensures { result.now ≡ self.now }
+        ensures values { result.now ≡ self.now }
+        ensures storable { IsStorable self.now }
     {
         self.values.as_slice()
     }
 
-    /// The key: the integer in the first column. A part without one counts as having 0.
+    /// The key: the integer in the first column.
     pub fn key(&self) -> i64
         ensures { result ≡ key_of self.now }
     {
@@ -82,4 +99,14 @@ impl Same for Part {
     fn same(&self, other: &Part) -> bool {
         same_all(self.values(), other.values())
     }
+}
+
+/// Whether a part can have these values: 1 to `VALUE_LIMIT` that a database holds, the first an integer.
+fn is_storable(values: &[Value]) -> bool
+    ensures { IsTrue result ↔ IsStorable values.now }
+{
+    let Some(Value::Int(_)) = values.first() else {
+        return false;
+    };
+    values.len() <= VALUE_LIMIT && values.iter().all(|value| value.fits())
 }

@@ -1,34 +1,20 @@
 //! Parts as bytes, as stores keep them.
 
-ghost use Rattle.std.specs.Prelude.{◌≡◌, ◌≤◌, ◌++◌, ◌∷◌, [], length, IfOk, IsTrue, ◌↔◌, OnOk};
+ghost use Rattle.std.specs.Prelude.{◌≡◌, ◌≤◌, ◌++◌, ◌∷◌, [], length, IfOk, OnOk};
 ghost use Rattle.terms.specs.Value.{Fits};
 ghost use Rattle.terms.specs.Stored.{IsStorable, value_spelling, spelling, Gives, printable_from, int_from, text_from, key_from, value_from, values_from, behind, part_from, SpelledIsRead, ReadIsSpelled};
 
 use crate::memory::Memory;
-use crate::part::Part;
+use crate::part::{Part, VALUE_LIMIT};
 use crate::part_fault::PartFault;
 use crate::text::{Text, is_text_up_to};
 use crate::value::{TEXT_LIMIT, Value};
 use std::alloc::Global;
 
-/// The most values that a part has.
-pub const VALUE_LIMIT: usize = 16;
-
-/// Whether a part has a spelling: 1 to `VALUE_LIMIT` values that a database holds, the first an integer.
-pub fn is_storable(part: &Part) -> bool
-    ensures { IsTrue result ↔ IsStorable part.now }
-{
-    let values = part.values();
-    let Some(Value::Int(_)) = values.first() else {
-        return false;
-    };
-    values.len() <= VALUE_LIMIT && values.iter().all(|value| value.fits())
-}
-
 /// The spelling of a part.
 pub fn encode_part(alloc: Global, part: &Part) -> Result<Vec<u8>, Memory>
-    requires { IsStorable part.now }
-    ensures { IfOk result (λ bytes. bytes.items ≡ spelling part.now) }
+    ensures bytes { IfOk result (λ bytes. bytes.items ≡ spelling part.now) }
+    ensures storable { IsStorable part.now }
 {
     let values = part.values();
     let mut bytes = Vec::new(alloc);
@@ -59,9 +45,20 @@ fn put_value(out: &mut Vec<u8>, value: &Value) -> Result<(), Memory>
 }
 
 /// The part that bytes spell, all of them; else the first fault from the left.
-#[tactic(auto, unfolding(crate::specs::Stored::part_from))]
 pub fn decode_part(alloc: Global, bytes: &[u8]) -> Result<Part, PartFault>
     ensures { Gives (λ part. part) result (part_from bytes.now) }
+{
+    let values = values_of(alloc, bytes)?;
+    let Some(part) = Part::new(values)? else {
+        unreachable!("what bytes spell can be stored")
+    };
+    Ok(part)
+}
+
+/// The values of the part that bytes spell.
+#[tactic(auto, unfolding(crate::specs::Stored::part_from))]
+fn values_of(alloc: Global, bytes: &[u8]) -> Result<Vec<Value>, PartFault>
+    ensures { Gives (λ values. values.items) result (part_from bytes.now) }
 {
     let Some((count, bytes)) = bytes.split_first() else {
         return Err(PartFault::Truncated);
@@ -72,7 +69,7 @@ pub fn decode_part(alloc: Global, bytes: &[u8]) -> Result<Part, PartFault>
     let (key, bytes) = key_at(bytes)?;
     let (values, bytes) = values_at(alloc, key, *count - 1, bytes)?;
     if bytes.is_empty() {
-        Ok(Part::new(values)?)
+        Ok(values)
     } else {
         Err(PartFault::Trailing)
     }

@@ -10,6 +10,7 @@ use std::test::*;
 use terms::copy::TryCopy;
 use terms::leaf::Leaf;
 use terms::memory::Memory;
+use terms::part::Part;
 use terms::row::Row;
 use terms::text::Text;
 use terms::value::Value;
@@ -97,5 +98,43 @@ fn looks_up_sites(rt: HostRuntime) {
     ] {
         let found = looked_up(rt.alloc(), site).or_else(|_| looked_up(rt.alloc(), site));
         assert!(rt; found.is_ok_and(|found| found == wanted), "at {site}");
+    }
+}
+
+/// Whether there is a part of so many values: the key, and texts of so many letters.
+fn is_part(alloc: Global, count: usize, letters: usize) -> Result<bool, Memory> {
+    let mut text = String::new(alloc);
+    for _ in 0..letters {
+        text.push('x')?;
+    }
+    let mut values = Vec::new(alloc);
+    for place in 0..count {
+        values.push(match place {
+            0 => Value::Int(1),
+            _ => Value::Text(Text::copy_of(alloc, text.as_str())?),
+        })?;
+    }
+    Ok(Part::new(values)?.is_some())
+}
+
+#[test]
+fn makes_parts(rt: HostRuntime) {
+    for (count, letters, wanted) in [
+        (0, 0, false),
+        (1, 0, true),
+        (2, 200, true),
+        (2, 201, false),
+        (16, 0, true),
+        (17, 0, false),
+    ] {
+        let made = is_part(rt.alloc(), count, letters).or_else(|_| is_part(
+            rt.alloc(),
+            count,
+            letters,
+        ));
+        assert!(rt;
+            made.is_ok_and(|made| made == wanted),
+            "{count} values, {letters} letters"
+        );
     }
 }

@@ -61,7 +61,7 @@ pub(crate) fn part_of(alloc: Global, line: &str) -> Result<Part, Memory> {
     for word in line.split(' ') {
         values.push(value(alloc, word)?)?;
     }
-    Part::new(values)
+    Part::new(values)?.ok_or(Memory)
 }
 
 /// The part that the words behind a place name.
@@ -70,7 +70,7 @@ fn part(alloc: Global, words: &[&str]) -> Result<Part, Memory> {
     for word in words {
         values.push(value(alloc, word)?)?;
     }
-    Part::new(values)
+    Part::new(values)?.ok_or(Memory)
 }
 
 /// The conditions of a fetch: none, or that the key is an integer.

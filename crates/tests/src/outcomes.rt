@@ -39,7 +39,7 @@ fn part(alloc: Global, text: &str) -> Result<Part, Memory> {
             Err(_) => Value::Text(Text::copy_of(alloc, word)?),
         })?;
     }
-    Part::new(values)
+    Part::new(values)?.ok_or(Memory)
 }
 
 /// What the fetches bring, of these parts.

@@ -22,6 +22,7 @@ pub mod database;
 pub mod fault;
 mod front;
 pub mod gate;
+mod patience;
 pub mod records;
 mod seat;
 pub mod session;

@@ -3,6 +3,7 @@
 use crate::begun::{Begun, begun_in};
 use crate::fault::CallFault;
 use crate::front::{Done, Errand, Front};
+use crate::patience::hold;
 use crate::seat::{Given, Seats};
 use crossbeam_channel::Sender;
 use meaning::schema::Schema;
@@ -35,7 +36,7 @@ pub(crate) struct Shared<D: DeskStore, G> {
 impl<D: DeskStore, G> Shared<D, G> {
     /// Calls the coordinator, under its lock. No clause says what it answers, since none follows what lies under a lock.
     pub fn call<R: Wait>(&self, rt: &R, errand: Errand<'_>) -> Result<Done, Memory> {
-        let mut front = self.front.lock(rt);
+        let mut front = hold(rt, &self.front);
         front.call(rt, self.alloc, errand, &self.counter)
     }
 
@@ -67,7 +68,7 @@ impl<D: DeskStore, G> Shared<D, G> {
         errand: Errand<'_>,
         to: Sender<Given>,
     ) -> Result<Begun, CallFault> {
-        let mut front = self.front.lock(rt);
+        let mut front = hold(rt, &self.front);
         let Done {
             given,
             given_up,
@@ -78,7 +79,7 @@ impl<D: DeskStore, G> Shared<D, G> {
             return Err(CallFault::from(fault));
         }
         let begun = begun_in(given.as_slice())?;
-        let seated = self.seats.lock(rt).enter(begun.txn, to);
+        let seated = hold(rt, &self.seats).enter(begun.txn, to);
         drop(front);
         if seated.is_err() {
             self.give_up(rt, begun.txn);
@@ -94,7 +95,7 @@ impl<D: DeskStore, G> Shared<D, G> {
     /// Hands replies out to the sessions that wait for them. No clause says so, since none follows a channel.
     pub fn hand_out<R: Wait>(&self, rt: &R, given: Vec<Given>) {
         for one in given {
-            self.seats.lock(rt).tell(rt, one);
+            hold(rt, &self.seats).tell(rt, one);
         }
     }
 
@@ -127,7 +128,7 @@ impl<D: DeskStore, G> Shared<D, G> {
 
     /// Tells the session that waits for a transaction that memory ran out. No clause says so, since none follows a channel.
     fn lose<R: Wait>(&self, rt: &R, txn: Txn) {
-        self.seats.lock(rt).lose(rt, txn);
+        hold(rt, &self.seats).lose(rt, txn);
     }
 }
 

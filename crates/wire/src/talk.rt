@@ -15,6 +15,7 @@ ghost use Rattle.wire.specs.Talk.{IsAnswered, open_after, tells_end};
 use crate::begun::Begun;
 use crate::fault::CallFault;
 use crate::front::Errand;
+use crate::patience::{hold, next};
 use crate::seat::Given;
 use crate::shared::Shared;
 use crossbeam_channel::{Receiver, Sender};
@@ -238,7 +239,7 @@ impl<'a, D: DeskStore, G> Talk<'a, D, G> {
         ensures { IsAnswered result }
     {
         for _ in rt.forever() {
-            let Ok(given) = self.given.recv(rt) else {
+            let Some(given) = next(rt, &self.given) else {
                 break;
             };
             if given.txn == txn {
@@ -263,12 +264,12 @@ impl<'a, D: DeskStore, G> Talk<'a, D, G> {
 
     /// Whether memory ran out for a letter without which a transaction doesn't go on.
     fn has_lost<R: Wait>(&self, rt: &R, txn: Txn) -> bool {
-        self.shared.seats.lock(rt).has_lost(txn)
+        hold(rt, &self.shared.seats).has_lost(txn)
     }
 
     /// Nobody waits for the replies of a transaction any more.
     fn leave<R: Wait>(&self, rt: &R, txn: Txn) {
-        self.shared.seats.lock(rt).leave(txn);
+        hold(rt, &self.shared.seats).leave(txn);
     }
 }
 

@@ -2,6 +2,7 @@
 
 use crate::front::Word;
 use crate::gate::Gate;
+use crate::patience::next;
 use crate::shared::Shared;
 use crossbeam_channel::Receiver;
 use history::entry::Entry;
@@ -27,7 +28,7 @@ pub(crate) fn serve<R: Wait, S: SiteStore, D: DeskStore, G: Gate>(
 ) -> SiteCell<S> {
     let mut cell = cell;
     for _ in rt.forever() {
-        let Ok(word) = words.recv(rt) else {
+        let Some(word) = next(rt, words) else {
             break;
         };
         match word {

@@ -7,6 +7,7 @@ use Rattle.protocol.specs.Desk.{Deed}
 use Rattle.catalog.specs.declared.relation.SplitRelation.{SplitRelation}
 use Rattle.catalog.specs.FragmentLeaf.{schemas_of}
 use Rattle.catalog.specs.Relation.{catalogue_of}
+use Rattle.desk.specs.CatalogueDatabase.{database}
 use Rattle.desk.specs.Database.{Database, language}
 use Rattle.desk.specs.OfCatalogue.{InForce, IsOfCatalogue, first_in, follow}
 use Rattle.world.specs.declared.machines.Machines as code
@@ -77,6 +78,14 @@ pub record CallsNoStore {D S : Type 0} (old new : code.Machines D S) : Type 0 wh
 abbrev pub OverDatabase : {D S : Type 0} → (code.Machines D S → Type 0) → (code.Machines D S → Type 0) → (code.Machines D S → Machines) → code.Machines D S → code.Machines D S → (Database → Machines → Machines → Type 0) → Type 0
 OverDatabase clean sound view old new P = (db : Database) → IsOfCatalogue db → InForce db (view old).table.version old.desk.catalog → clean new → sound old → AreFit db (view old) → P db (view old) (view new)
 
+-- so of the one database of the catalogue in force
+abbrev pub OverFit : {D S : Type 0} → (code.Machines D S → Type 0) → (code.Machines D S → Type 0) → (code.Machines D S → Machines) → code.Machines D S → code.Machines D S → (Database → Machines → Machines → Type 0) → Type 0
+OverFit clean sound view old new P = clean new → sound old → AreFit (database (catalogue_of old.desk.catalog)) (view old) → P (database (catalogue_of old.desk.catalog)) (view old) (view new)
+
+-- something holds of that database, the whole relations that one client began with, and all that had happened, where the machines had served that client
+abbrev pub OverServed : {D S : Type 0} → (code.Machines D S → Type 0) → (code.Machines D S → Type 0) → (code.Machines D S → Machines) → code.Machines D S → code.Machines D S → ((db : Database) → Relations → List (Deed (language db)) → Type 0) → Type 0
+OverServed clean sound view old new P = (whole : Relations) (past : List (Deed (language (database (catalogue_of old.desk.catalog))))) → clean new → sound old → IsServed (database (catalogue_of old.desk.catalog)) whole (view old) past → P (database (catalogue_of old.desk.catalog)) whole past
+
 -- machines that one client was served by go on to be such
 abbrev pub StaysServed : {D S : Type 0} → (code.Machines D S → Type 0) → (code.Machines D S → Type 0) → (code.Machines D S → Machines) → code.Machines D S → code.Machines D S → Type 0
 StaysServed clean sound view old new = (db : Database) (whole : Relations) (past : List (Deed (language db))) → IsOfCatalogue db → ReachedLaw (language db) → InForce db (view old).table.version old.desk.catalog → clean new → sound old
@@ -109,6 +118,10 @@ MakesMoves db before after (Err told) kind = (is_stop told ≡ true) ⊎ HasMade
 -- something holds of each database in whose list the machines stand and that had served one client, with what had happened; and they stand in it after the call
 abbrev pub OverLists : {D S : Type 0} → (code.Machines D S → Type 0) → (code.Machines D S → Type 0) → (code.Machines D S → Machines) → code.Machines D S → code.Machines D S → ((db : Database) → Relations → List (Deed (language db)) → Type 0) → Type 0
 OverLists clean sound view old new P = (db : Database) (whole : Relations) (past : List (Deed (language db))) → IsListed db → StandsIn db old.desk → clean new → sound old → IsListServed db whole (view old) past → P db whole past × StandsIn db new.desk
+
+-- so of a call by which none comes into force
+abbrev pub OverListServed : {D S : Type 0} → (code.Machines D S → Type 0) → (code.Machines D S → Type 0) → (code.Machines D S → Machines) → code.Machines D S → code.Machines D S → ((db : Database) → Relations → List (Deed (language db)) → Type 0) → Type 0
+OverListServed clean sound view old new P = (db : Database) (whole : Relations) (past : List (Deed (language db))) → IsListed db → StandsIn db old.desk → clean new → sound old → IsListServed db whole (view old) past → P db whole past
 
 -- something holds of each database in whose list the machines stand, of the machines before a call and after it, where stores are clean now and were sound, and memory fitted them
 abbrev pub OverFitting : {D S : Type 0} → (code.Machines D S → Type 0) → (code.Machines D S → Type 0) → (code.Machines D S → Machines) → code.Machines D S → code.Machines D S → (Database → Machines → Machines → Type 0) → Type 0

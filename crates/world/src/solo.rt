@@ -24,7 +24,7 @@ ghost use Rattle.desk.specs.CatalogueDatabase.{database, databases, fits};
 ghost use Rattle.world.specs.Counted.{counts};
 ghost use Rattle.world.specs.BatchRuns.{HasRun, WasStopped};
 ghost use Rattle.world.specs.Fault.{FailsFor, is_memory};
-ghost use Rattle.world.specs.Frame.{ComesTo, EndsIn, FindsNone, LeavesDatabase, LeavesMachines, ListMakes, OverLists, StaysAsItIs};
+ghost use Rattle.world.specs.Frame.{ComesTo, EndsIn, FindsNone, LeavesDatabase, LeavesMachines, ListMakes, OverFit, OverFitting, OverListServed, OverLists, OverServed, StaysAsItIs};
 ghost use Rattle.world.specs.Batch.{RunsAll};
 ghost use Rattle.world.specs.Course.{CommitsNone};
 ghost use Rattle.world.specs.Listed.{FitsList, IsListed, StandsIn};
@@ -346,8 +346,8 @@ impl<D: DeskStore, S: SiteStore> Solo<D, S> {
         ensures executes { (whole : Relations) (past : List (Deed (language (database (catalogue_of self.old.machines.desk.catalog))))) → self.old.stopped ≡ None → OfStores D.is_clean S.is_clean self.new.machines → OfStores D.is_sound S.is_sound self.old.machines
             → IsServed (database (catalogue_of self.old.machines.desk.catalog)) whole (counted D.kept S.kept D.refused S.refused self.old.machines) past
             → UnlessStopped (λ heard. heard.items) (Executes (database (catalogue_of self.old.machines.desk.catalog)) (fits (catalogue_of self.old.machines.desk.catalog)) whole text.now self.old.current (counted D.kept S.kept D.refused S.refused self.old.machines) self.new.current (counted D.kept S.kept D.refused S.refused self.new.machines) past) result }
-        ensures served { (whole : Relations) (past : List (Deed (language (database (catalogue_of self.old.machines.desk.catalog))))) → OfStores D.is_clean S.is_clean self.new.machines → OfStores D.is_sound S.is_sound self.old.machines
-            → IsServed (database (catalogue_of self.old.machines.desk.catalog)) whole (counted D.kept S.kept D.refused S.refused self.old.machines) past → (deeds : List (Deed (language (database (catalogue_of self.old.machines.desk.catalog))))) × IsServed (database (catalogue_of self.old.machines.desk.catalog)) whole (counted D.kept S.kept D.refused S.refused self.new.machines) (past ++ deeds) }
+        ensures served { OverServed (OfStores D.is_clean S.is_clean) (OfStores D.is_sound S.is_sound) (counted D.kept S.kept D.refused S.refused) self.old.machines self.new.machines
+            (λ db whole past. (deeds : List (Deed (language db))) × IsServed db whole (counted D.kept S.kept D.refused S.refused self.new.machines) (past ++ deeds)) }
         ensures lists { self.old.stopped ≡ None → OverLists (OfStores D.is_clean S.is_clean) (OfStores D.is_sound S.is_sound) (counted D.kept S.kept D.refused S.refused) self.old.machines self.new.machines
             (λ db whole past. ListMakes db whole (counted D.kept S.kept D.refused S.refused self.new.machines) past result (λ done moves. IsCommand db.schemas text.now self.old.current self.new.current moves (heard_in (λ heard. heard.items) done) × OnErr done (CommitsNone moves))) }
         ensures served_lists { OverLists (OfStores D.is_clean S.is_clean) (OfStores D.is_sound S.is_sound) (counted D.kept S.kept D.refused S.refused) self.old.machines self.new.machines (λ db whole past. IsListServedOn db whole (counted D.kept S.kept D.refused S.refused self.new.machines) past) }
@@ -385,8 +385,8 @@ impl<D: DeskStore, S: SiteStore> Solo<D, S> {
             → IsServed (database (catalogue_of self.old.machines.desk.catalog)) whole (counted D.kept S.kept D.refused S.refused self.old.machines) past → Tells (database (catalogue_of self.old.machines.desk.catalog)) entries past → result ≡ Err (Stopped stop)
             → WasStopped (database (catalogue_of self.old.machines.desk.catalog)) (fits (catalogue_of self.old.machines.desk.catalog)) whole transactions.now stop.done (counted D.kept S.kept D.refused S.refused self.old.machines) (counted D.kept S.kept D.refused S.refused self.new.machines) entries past }
         ensures blames { (stop : StopNow) → OfStores D.is_clean S.is_clean self.new.machines → OfStores D.is_sound S.is_sound self.old.machines → result ≡ Err (Stopped stop) → StopsFor (counts D.refused S.refused self.old.machines) (counts D.refused S.refused self.new.machines) stop.refusal }
-        ensures served { (whole : Relations) (past : List (Deed (language (database (catalogue_of self.old.machines.desk.catalog))))) → OfStores D.is_clean S.is_clean self.new.machines → OfStores D.is_sound S.is_sound self.old.machines
-            → IsServed (database (catalogue_of self.old.machines.desk.catalog)) whole (counted D.kept S.kept D.refused S.refused self.old.machines) past → (deeds : List (Deed (language (database (catalogue_of self.old.machines.desk.catalog))))) × IsServed (database (catalogue_of self.old.machines.desk.catalog)) whole (counted D.kept S.kept D.refused S.refused self.new.machines) (past ++ deeds) }
+        ensures served { OverServed (OfStores D.is_clean S.is_clean) (OfStores D.is_sound S.is_sound) (counted D.kept S.kept D.refused S.refused) self.old.machines self.new.machines
+            (λ db whole past. (deeds : List (Deed (language db))) × IsServed db whole (counted D.kept S.kept D.refused S.refused self.new.machines) (past ++ deeds)) }
         ensures lists { OverLists (OfStores D.is_clean S.is_clean) (OfStores D.is_sound S.is_sound) (counted D.kept S.kept D.refused S.refused) self.old.machines self.new.machines
             (λ db whole past. IfOk result (λ outcomes. ListMade db whole (counted D.kept S.kept D.refused S.refused self.new.machines) past (RunsAll transactions.now outcomes.items)) × OnErr result (IsListServedOn db whole (counted D.kept S.kept D.refused S.refused self.new.machines) past)) }
         ensures busy { (txn : TxnNow) → self.old.stopped ≡ None → self.old.current ≡ Some txn → (result ≡ Err (Unstarted refusals.Busy)) × (self.new ≡ self.old) }
@@ -456,14 +456,12 @@ impl<D: DeskStore, S: SiteStore> Solo<D, S> {
     pub fn parts(&mut self, leaf: &Leaf) -> Result<Option<Vec<Part>>, Fault>
         ensures sent { result ≢ Err faults.Unsent }
         ensures leaves { LeavesMachines D.is_clean S.is_clean D.is_sound S.is_sound D.refused S.refused self.old.machines self.new.machines }
-        ensures parts { OfStores D.is_clean S.is_clean self.new.machines → OfStores D.is_sound S.is_sound self.old.machines → AreFit (database (catalogue_of self.old.machines.desk.catalog)) (counted D.kept S.kept D.refused S.refused self.old.machines)
-            → IfOk result (λ shown. option_map (λ parts. parts.items) shown ≡ parts_kept (database (catalogue_of self.old.machines.desk.catalog)) (counted D.kept S.kept D.refused S.refused self.old.machines) leaf.now) }
-        ensures lists { (db : Database) → IsListed db → StandsIn db self.old.machines.desk → OfStores D.is_clean S.is_clean self.new.machines → OfStores D.is_sound S.is_sound self.old.machines → FitsList db (counted D.kept S.kept D.refused S.refused self.old.machines)
-            → IfOk result (λ shown. option_map (λ parts. parts.items) shown ≡ parts_kept db (counted D.kept S.kept D.refused S.refused self.old.machines) leaf.now) × IfErr result (FailsFor (counts D.refused S.refused self.old.machines) (counts D.refused S.refused self.new.machines)) }
+        ensures parts { OverFit (OfStores D.is_clean S.is_clean) (OfStores D.is_sound S.is_sound) (counted D.kept S.kept D.refused S.refused) self.old.machines self.new.machines (λ db before _. IfOk result (λ shown. option_map (λ parts. parts.items) shown ≡ parts_kept db before leaf.now)) }
+        ensures lists { OverFitting (OfStores D.is_clean S.is_clean) (OfStores D.is_sound S.is_sound) (counted D.kept S.kept D.refused S.refused) self.old.machines self.new.machines
+            (λ db before _. IfOk result (λ shown. option_map (λ parts. parts.items) shown ≡ parts_kept db before leaf.now) × IfErr result (FailsFor (counts D.refused S.refused self.old.machines) (counts D.refused S.refused self.new.machines))) }
         ensures same { StaysAsItIs (OfStores D.is_clean S.is_clean) (OfStores D.is_sound S.is_sound) (held D.kept S.kept) self.old.machines self.new.machines }
         ensures still { (self.new.current ≡ self.old.current) × (self.new.stopped ≡ self.old.stopped) }
-        ensures fails { OfStores D.is_clean S.is_clean self.new.machines → OfStores D.is_sound S.is_sound self.old.machines → AreFit (database (catalogue_of self.old.machines.desk.catalog)) (counted D.kept S.kept D.refused S.refused self.old.machines)
-            → IfErr result (FailsFor (counts D.refused S.refused self.old.machines) (counts D.refused S.refused self.new.machines)) }
+        ensures fails { OverFit (OfStores D.is_clean S.is_clean) (OfStores D.is_sound S.is_sound) (counted D.kept S.kept D.refused S.refused) self.old.machines self.new.machines (λ db _ _. IfErr result (FailsFor (counts D.refused S.refused self.old.machines) (counts D.refused S.refused self.new.machines))) }
     {
         kept_parts(&mut self.machines, leaf)
     }
@@ -477,17 +475,12 @@ impl<D: DeskStore, S: SiteStore> Solo<D, S> {
         ensures rows { (whole : Relations) → OfStores D.is_clean S.is_clean self.new.machines → OfStores D.is_sound S.is_sound self.old.machines → AreFit (database (catalogue_of self.old.machines.desk.catalog)) (counted D.kept S.kept D.refused S.refused self.old.machines)
             → AreThoseOf (database (catalogue_of self.old.machines.desk.catalog)) (counted D.kept S.kept D.refused S.refused self.old.machines) whole → FitsSchema (schemas_of (catalogue_of self.old.machines.desk.catalog)) whole
             → IfOk result (λ shown. option_map (λ rows. rows.items) shown ≡ rows_shown (database (catalogue_of self.old.machines.desk.catalog)) whole relation.now) }
-        ensures served { (whole : Relations) (past : List (Deed (language (database (catalogue_of self.old.machines.desk.catalog))))) → OfStores D.is_clean S.is_clean self.new.machines → OfStores D.is_sound S.is_sound self.old.machines
-            → IsServed (database (catalogue_of self.old.machines.desk.catalog)) whole (counted D.kept S.kept D.refused S.refused self.old.machines) past
-            → IfOk result (λ shown. option_map (λ rows. rows.items) shown ≡ rows_shown (database (catalogue_of self.old.machines.desk.catalog)) (after_committed (database (catalogue_of self.old.machines.desk.catalog)) past whole) relation.now) }
-        ensures lists { (db : Database) (whole : Relations) (past : List (Deed (language db))) → IsListed db → StandsIn db self.old.machines.desk → OfStores D.is_clean S.is_clean self.new.machines → OfStores D.is_sound S.is_sound self.old.machines
-            → IsListServed db whole (counted D.kept S.kept D.refused S.refused self.old.machines) past
-            → IfOk result (λ shown. option_map (λ rows. rows.items) shown ≡ rows_shown db (after_committed db past whole) relation.now) × IfErr result (FailsFor (counts D.refused S.refused self.old.machines) (counts D.refused S.refused self.new.machines)) }
+        ensures served { OverServed (OfStores D.is_clean S.is_clean) (OfStores D.is_sound S.is_sound) (counted D.kept S.kept D.refused S.refused) self.old.machines self.new.machines (λ db whole past. IfOk result (λ shown. option_map (λ rows. rows.items) shown ≡ rows_shown db (after_committed db past whole) relation.now)) }
+        ensures lists { OverListServed (OfStores D.is_clean S.is_clean) (OfStores D.is_sound S.is_sound) (counted D.kept S.kept D.refused S.refused) self.old.machines self.new.machines
+            (λ db whole past. IfOk result (λ shown. option_map (λ rows. rows.items) shown ≡ rows_shown db (after_committed db past whole) relation.now) × IfErr result (FailsFor (counts D.refused S.refused self.old.machines) (counts D.refused S.refused self.new.machines))) }
         ensures same { StaysAsItIs (OfStores D.is_clean S.is_clean) (OfStores D.is_sound S.is_sound) (held D.kept S.kept) self.old.machines self.new.machines }
         ensures still { (self.new.current ≡ self.old.current) × (self.new.stopped ≡ self.old.stopped) }
-        ensures fails_after { (whole : Relations) (past : List (Deed (language (database (catalogue_of self.old.machines.desk.catalog))))) → OfStores D.is_clean S.is_clean self.new.machines → OfStores D.is_sound S.is_sound self.old.machines
-            → IsServed (database (catalogue_of self.old.machines.desk.catalog)) whole (counted D.kept S.kept D.refused S.refused self.old.machines) past
-            → IfErr result (FailsFor (counts D.refused S.refused self.old.machines) (counts D.refused S.refused self.new.machines)) }
+        ensures fails_after { OverServed (OfStores D.is_clean S.is_clean) (OfStores D.is_sound S.is_sound) (counted D.kept S.kept D.refused S.refused) self.old.machines self.new.machines (λ db whole past. IfErr result (FailsFor (counts D.refused S.refused self.old.machines) (counts D.refused S.refused self.new.machines))) }
         ensures fails { (whole : Relations) → OfStores D.is_clean S.is_clean self.new.machines → OfStores D.is_sound S.is_sound self.old.machines → AreFit (database (catalogue_of self.old.machines.desk.catalog)) (counted D.kept S.kept D.refused S.refused self.old.machines)
             → AreThoseOf (database (catalogue_of self.old.machines.desk.catalog)) (counted D.kept S.kept D.refused S.refused self.old.machines) whole → FitsSchema (schemas_of (catalogue_of self.old.machines.desk.catalog)) whole
             → IfErr result (FailsFor (counts D.refused S.refused self.old.machines) (counts D.refused S.refused self.new.machines)) }

@@ -259,10 +259,14 @@ fn put_part(
     ensures within { (slot : Place) → OnOk result (IsSome (fin.get parts.new slot) → (slot.leaf ≡ leaf.now.name) ⊎ IsSome (fin.get parts.old slot)) }
 {
     one_change_more();
-    match place(alloc, leaf.conds.as_slice(), leaf.columns.as_slice(), row)? {
-        Some(placed) => parts.put(leaf.name.copy()?, Part::of_row(&placed)?),
-        None => Ok(()),
-    }
+    let Some(placed) = place(alloc, leaf.conds.as_slice(), leaf.columns.as_slice(), row)? else {
+        return Ok(());
+    };
+    // A row that fits its relation has values that parts can have, so nothing is turned away here.
+    let Some(part) = Part::of_row(&placed)? else {
+        return Err(Memory);
+    };
+    parts.put(leaf.name.copy()?, part)
 }
 
 /// The parts of rows in a leaf are put.

@@ -8,7 +8,7 @@ use Rattle.commands.proofs.catalog_word.take_catalog.Goals as goal
 
 pub returns-clause-ok : goal.returns-clause-ok
 returns-clause-ok g c =
-    talks_aside g.B.Database.seen (g.W.Write.contents c.args.output.now) (g.W.Write.contents c.write_text.new.output) c.args.database.now c.as_str.result.now c.in_ok-write_text.ensures.written (λ catalogue. (InForce c.version-number.result (length c.args.names.now) c.name_at-name.result.now, c.as_str.ensures.value ∙ c.in_ok-text.ensures))
+    talks_aside g.B.Database.seen (g.W.Write.contents c.args.output.now) (g.W.Write.contents c.write_text.new.output) c.args.database.now c.as_str.result.now c.in_ok-write_text.ensures.written (InForce c.version-number.result (length c.args.names.now) c.name_at-name.result.now, c.as_str.ensures.value ∙ c.in_ok-text.ensures) c.version-number.ensures
 
 pub returns-clause-told : goal.returns-clause-told
 returns-clause-told g c =

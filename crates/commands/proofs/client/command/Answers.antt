@@ -1,4 +1,4 @@
-use Rattle.std.proofs.Common.{ap, ◌∙◌, ◌≡◌, subst, None, OnOk}
+use Rattle.std.proofs.Common.{ap, ◌∙◌, ◌≡◌, refl, subst, None, OnOk}
 use Rattle.catalog.specs.Relation.{catalogue_of}
 use Rattle.world.proofs.Leaves.{ends_last}
 use Rattle.commands.specs.Client.{heard_text}
@@ -17,7 +17,7 @@ returns-in_ok-heard_text-in-Ok g c = record {
       let new = c.execute.new.self in
       let done = c.in-Ok.ensures.lists h.going db whole happened.deeds listed (stands_in db old.machines.desk h.here h.next) clean h.sound h.told.served in
       is_heard_over db whole happened old new clean h c.args.mode c.args.text.now c.in-Ok.heard.items _ done.0 (subst (λ done. OnOk done (new.stopped ≡ None)) c.in-Ok.is (c.execute.ensures.stops h.going).0)
-      (done.1.here, behind_of db new.machines.desk.volatile.version new.machines.desk.later.items done.1.next) c.execute.ensures.leaves.sound (c.in_ok-heard_text-in-Ok.ensures ∙ ap (heard_text c.args.mode) c.as_slice.ensures.value);
+      (refl, done.1.here, behind_of db new.machines.desk.volatile.version new.machines.desk.later.items done.1.next) c.execute.ensures.leaves.sound (c.in_ok-heard_text-in-Ok.ensures ∙ ap (heard_text c.args.mode) c.as_slice.ensures.value);
   err = tt;
 }
 
@@ -32,6 +32,6 @@ returns-in-Err g c = record {
       let new = c.execute.new.self in
       let done = c.in-Err.ensures.lists h.going db whole happened.deeds listed (stands_in db old.machines.desk h.here h.next) clean h.sound h.told.served in
       is_turned_away_over db whole happened old new clean h c.args.mode c.args.text.now c.in-Err.refusal c.refused.result done.0 (not_stopped c.execute.result c.in-Err.refusal new.stopped (c.execute.ensures.stops h.going).1 c.in-Err.is)
-      (done.1.here, behind_of db new.machines.desk.volatile.version new.machines.desk.later.items done.1.next) c.execute.ensures.leaves.sound c.in-Err.ensures.still c.refused.ensures.goes_on c.refused.ensures.told;
+      (refl, done.1.here, behind_of db new.machines.desk.volatile.version new.machines.desk.later.items done.1.next) c.execute.ensures.leaves.sound c.in-Err.ensures.still c.refused.ensures.goes_on c.refused.ensures.told;
   err = c.refused.ensures.err;
 }

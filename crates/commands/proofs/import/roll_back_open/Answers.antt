@@ -16,5 +16,5 @@ returns-clause-ends g c =
     let ending : List (Reading × Told) = (Runs (codes "ROLLBACK"), told) ∷ [] in (
       ending,
       subst (λ is. IsRolledBack is ending) (sym c.if-not-is_open.false ∙ c.is_open.ensures) (told, refl),
-      comes_so g.B.Database.seen (Runs (codes "ROLLBACK")) c.args.database.now c.ask.new.database told c.in_ok-_rolled_back.ensures.clean c.in_ok-_rolled_back.ensures.answers,
+      comes_so g.B.Database.seen (Runs (codes "ROLLBACK")) c.args.database.now c.ask.new.database told c.in_ok-_rolled_back.ensures.clean c.in_ok-_rolled_back.ensures.answers c.in_ok-_rolled_back.ensures.over,
     )

@@ -11,4 +11,4 @@ returns-in_err-database g c = told_unopened g.B.Database.seen g.O.Opens.origin c
 
 pub returns : goal.returns
 returns g c = talked_over g.B.Database.seen g.O.Opens.origin (g.W.Write.contents c.args.output.now) (g.W.Write.contents c.talk.new.output) (map catalogue_of c.args.chain.now) c.in_ok-database.database c.talk.new.database c.in_ok-database.ensures.ok
-    (subst (λ (own : Catalogue). MovesFollow (database own)) c.catalog.ensures c.moves_follow.ensures) c.in_ok-talk.ensures.ok
+    (subst (λ (own : Catalogue). MovesFollow (database own)) c.catalog.ensures c.moves_follow.ensures) c.chain_is_listed.ensures c.list_served_is_serial.ensures.heard c.in_ok-talk.ensures.ok

@@ -8,6 +8,6 @@ use Rattle.world.proofs.NewStores.{put_more}
 use Rattle.world.proofs.SiteSteps.{on_ok}
 use Rattle.world.proofs.start.put_part.Goals as goal
 
-pub returns-in_ok-of_row-in-Some-clause-within : goal.returns-in_ok-of_row-in-Some-clause-within
-returns-in_ok-of_row-in-Some-clause-within c = λ slot.
-    on_ok c.put.result (λ is there. put_more c.args.parts.now c.args.leaf.now.name (slot_of c.in_ok-copy-in-Some.field-0 (key_of c.in_ok-of_row-in-Some.field-0)) (Some c.in_ok-of_row-in-Some.field-0) slot c.in_ok-copy-in-Some.ensures (subst (λ (parts : Changes). IsSome (fin.get parts slot)) is there)) c.put.ensures.ok
+pub returns-clause-within : goal.returns-clause-within
+returns-clause-within c = λ slot.
+    on_ok c.put.result (λ is there. put_more c.args.parts.now c.args.leaf.now.name (slot_of c.in_ok-copy.field-0 (key_of c.in-Some-2.part)) (Some c.in-Some-2.part) slot c.in_ok-copy.ensures (subst (λ (parts : Changes). IsSome (fin.get parts slot)) is there)) c.put.ensures.ok

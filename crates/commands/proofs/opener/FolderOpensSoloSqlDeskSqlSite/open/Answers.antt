@@ -35,6 +35,7 @@ returns-in-Ok-clause-ok g c =
             let begun = c.in-Ok.ensures.lists first rest chain clean left.began left.machines left.past left.leaves left.served left.memory left.kept in
             record {
               going = c.in-Ok.ensures.idle.1;
+              number = refl;
               here = begun.2.here;
               next = behind_of (databases first rest) c.in-Ok.database.machines.desk.volatile.version c.in-Ok.database.machines.desk.later.items begun.2.next;
               sound = c.in-Ok.ensures.sound clean;

@@ -51,6 +51,7 @@ returns-in-Ok-clause-ok c =
                 let served = c.in-Ok.ensures.lists first rest chain (all_fit first is) c.in_ok-desk.ensures.new.nothing.version clean (all_new first is) in
                 record {
                   going = c.in-Ok.ensures.idle.1;
+                  number = refl;
                   here = served.1.here;
                   next = behind_of (databases first rest) c.in-Ok.database.machines.desk.volatile.version c.in-Ok.database.machines.desk.later.items served.1.next;
                   sound = c.in-Ok.ensures.sound clean;

@@ -46,6 +46,7 @@ returns-in-Ok-clause-ok c =
             idle = c.in-Ok.ensures.idle.0;
             goes_on = λ whole begins clean. record {
               going = c.in-Ok.ensures.idle.1;
+              number = refl;
               here = served.1.here;
               next = behind_of (databases first rest) c.in-Ok.database.machines.desk.volatile.version c.in-Ok.database.machines.desk.later.items served.1.next;
               sound = c.in-Ok.ensures.sound;
