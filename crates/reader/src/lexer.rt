@@ -56,7 +56,7 @@ pub fn tokens(alloc: Global, text: &[u8]) -> Result<Vec<Placed<'_>>, ReadFault>
     ensures rule { Refuses result (λ rule. IsTokenRule rule) }
     ensures within { IfErr result (λ fault. fault.offset ≤ length text.now) }
 {
-    let mut tokens = Vec::new(alloc);
+    let mut tokens = Vec::with_capacity(alloc, text.len() / 3)?;
     let mut rest = text;
     loop {
         let (_, begun) = Class::Blank.split(rest);

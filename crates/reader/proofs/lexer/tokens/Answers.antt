@@ -15,7 +15,7 @@ overflow_sub-offset c = behind_within c.args.text.now c.loop-begun.tokens.items 
 
 pub returns-in_err-token-clause-none : goal.returns-in_err-token-clause-none
 returns-in_err-token-clause-none c =
-    let p = err_from_is_err_and c.from_residual.result c.from_residual.ensures.1 in
+    let p = err_from_is_err_and c.from_residual-in_err-token.result c.from_residual-in_err-token.ensures.1 in
     let full : (length c.split.result.1.now == 0) ≡ false = sym c.is_empty.ensures ∙ c.if-is_empty.false in
     let apart = eqb-false _ _ full in
     let some : 0 < length c.split.result.1.now = omega arith in
@@ -23,7 +23,7 @@ returns-in_err-token-clause-none c =
 
 pub returns-in_err-token-clause-within : goal.returns-in_err-token-clause-within
 returns-in_err-token-clause-within c =
-    let p = err_from_is_err_and c.from_residual.result c.from_residual.ensures.1 in
+    let p = err_from_is_err_and c.from_residual-in_err-token.result c.from_residual-in_err-token.ensures.1 in
     let behind = behind_within c.args.text.now c.loop-begun.tokens.items c.loop-begun.rest.now c.split.result.1.now c.loop-begun.invariant c.split.ensures.rest in
     let fault = c.in_err-token.ensures.within in
     rw (p.1, p.2) (omega arith)
