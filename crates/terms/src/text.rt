@@ -67,6 +67,21 @@ fn is_printable(text: &str) -> bool
     text.chars().all(|c| c >= ' ' && c != '\u{7f}')
 }
 
+/// Whether two texts are the same, byte by byte. Names are short, and most that differ do so in length or in the first byte.
+fn are_same(bytes: &[u8], others: &[u8]) -> bool
+    ensures { result ≡ pointwise nat_eq bytes.now others.now }
+{
+    if bytes.len() != others.len() {
+        return false;
+    }
+    for place in 0..bytes.len() {
+        if bytes[place] != others[place] {
+            return false;
+        }
+    }
+    true
+}
+
 impl TryCopy for Text {
     fn copy(&self) -> Result<Text, Memory> {
         Ok(Text {
@@ -77,7 +92,7 @@ impl TryCopy for Text {
 
 impl Same for Text {
     fn same(&self, other: &Text) -> bool {
-        self.as_str() == other.as_str()
+        are_same(self.as_str().as_bytes(), other.as_str().as_bytes())
     }
 }
 
@@ -95,7 +110,7 @@ impl PartialEq for Text {
     ghost laws = { partial_equiv_from_equiv nat_list_eq_equiv };
 
     fn eq(&self, other: &Text) -> bool {
-        self.as_str() == other.as_str()
+        are_same(self.as_str().as_bytes(), other.as_str().as_bytes())
     }
 }
 
