@@ -93,7 +93,7 @@ fn asks_begin(
     let sites = send::ask_sites(alloc, asks.as_slice())?;
     let letters = send::opens(alloc, txn, participants, sites.as_slice())?;
     let visited = send::visited(alloc, participants, sites.as_slice())?;
-    let going = asks_step(alloc, txn, visited.as_slice(), asks)?;
+    let going = asks_step(alloc, txn, visited, asks)?;
     Ok(SentOut {
         participants: going.participants,
         letters: joined(letters, going.letters)?,
@@ -191,16 +191,16 @@ fn idles(undecided: &mut Undecided)
 fn writing_goes(
     alloc: Global,
     txn: Txn,
-    participants: &[Participant],
+    participants: Vec<Participant>,
     writing: &mut Writing,
 ) -> Result<Written, Refusal>
-    ensures participants { IfOk result (λ written. written.going.participants.items ≡ (writes_go txn writing.old.unsent.items participants.now).participants) }
-    ensures letters { IfOk result (λ written. written.going.letters.items ≡ (writes_go txn writing.old.unsent.items participants.now).letters) }
-    ensures left { IfOk result (λ _. writing.new.unsent.items ≡ (writes_go txn writing.old.unsent.items participants.now).left) }
+    ensures participants { IfOk result (λ written. written.going.participants.items ≡ (writes_go txn writing.old.unsent.items participants.items).participants) }
+    ensures letters { IfOk result (λ written. written.going.letters.items ≡ (writes_go txn writing.old.unsent.items participants.items).letters) }
+    ensures left { IfOk result (λ _. writing.new.unsent.items ≡ (writes_go txn writing.old.unsent.items participants.items).left) }
     ensures answer { OnOk result (writing.new.answer ≡ writing.old.answer) }
     ensures done { IfOk result (λ written. written.answer ≡ (if nat_eq (length writing.new.unsent.items) 0 then Some writing.old.answer else None)) }
-    ensures short { AreShort participants.now → IfOk result (λ written. AreShort written.going.participants.items) }
-    ensures full { result ≡ Err refusals.Full → IsPast (writes_go txn writing.old.unsent.items participants.now).participants }
+    ensures short { AreShort participants.items → IfOk result (λ written. AreShort written.going.participants.items) }
+    ensures full { result ≡ Err refusals.Full → IsPast (writes_go txn writing.old.unsent.items participants.items).participants }
     ensures same { OnErr result (writing.new ≡ writing.old) }
 {
     let answer = writing.answer.copy()?;
@@ -263,7 +263,7 @@ pub(crate) fn ticket_goes(
             Ok(no_progress(alloc))
         }
         Stage::Reading(reading) => {
-            let going = asks_step(alloc, txn, participants.as_slice(), &mut reading.asks)?;
+            let going = asks_step(alloc, txn, participants, &mut reading.asks)?;
             set_participants(undecided, going.participants);
             Ok(Progress {
                 letters: going.letters,
@@ -271,7 +271,7 @@ pub(crate) fn ticket_goes(
             })
         }
         Stage::Writing(writing) => {
-            let written = writing_goes(alloc, txn, participants.as_slice(), writing)?;
+            let written = writing_goes(alloc, txn, participants, writing)?;
             Ok(wrote(undecided, written))
         }
     }
@@ -388,7 +388,7 @@ fn writes_begin(
     let sites = send::write_sites(alloc, unsent.as_slice())?;
     let letters = send::opens(alloc, txn, participants, sites.as_slice())?;
     let visited = send::visited(alloc, participants, sites.as_slice())?;
-    let going = writes_step(alloc, txn, visited.as_slice(), unsent)?;
+    let going = writes_step(alloc, txn, visited, unsent)?;
     Ok(SentOut {
         participants: going.participants,
         letters: joined(letters, going.letters)?,
