@@ -409,26 +409,25 @@ pub(crate) fn call_run(
     volatile: &mut Volatile,
     catalog: &Catalog,
     txn: Txn,
-    statement: &Statement,
+    statement: Statement,
 ) -> Result<Out, Refusal>
-    requires { IsStatementOf (schemas_of (catalogue_of catalog.now)) statement.now }
+    requires { IsStatementOf (schemas_of (catalogue_of catalog.now)) statement }
     ensures ok { (db : Database) (kept : DeskContent) → IsOfCatalogue db → InForce db volatile.old.version catalog.now → Fits db kept (volatile_of volatile.old)
-        → IfOk result (λ out. Runs db (volatile_of volatile.old) kept (volatile_of volatile.new) txn statement.now out.letters out.replies) }
+        → IfOk result (λ out. Runs db (volatile_of volatile.old) kept (volatile_of volatile.new) txn statement out.letters out.replies) }
     ensures states { StatesInMemory volatile.old volatile.new txn result }
-    ensures told { (db : Database) → IfErr result (λ told. (told ≡ refusals.Memory) ⊎ WhyNotStated db (volatile_of volatile.old) txn statement.now told
-        ⊎ ((refusal (State (volatile.old.version, statement.now)) (txn_in db (volatile_of volatile.old) txn) ≡ None) × (((is_refragment statement.now ≡ true) × (told ≡ refusals.Busy)) ⊎ (told ≡ refusals.Full)))) }
+    ensures told { (db : Database) → IfErr result (λ told. (told ≡ refusals.Memory) ⊎ WhyNotStated db (volatile_of volatile.old) txn statement told
+        ⊎ ((refusal (State (volatile.old.version, statement)) (txn_in db (volatile_of volatile.old) txn) ≡ None) × (((is_refragment statement ≡ true) × (told ≡ refusals.Busy)) ⊎ (told ≡ refusals.Full)))) }
     ensures full { (db : Database) (kept : DeskContent) → IsOfCatalogue db → InForce db volatile.old.version catalog.now → Fits db kept (volatile_of volatile.old) → result ≡ Err refusals.Full
-        → RunsPastLimits db (volatile_of volatile.old) txn statement.now }
+        → RunsPastLimits db (volatile_of volatile.old) txn statement }
 {
     let room = room(volatile.alloc)?;
     may_state(volatile, &txn)?;
     if statement.is_refragment() {
         return Err(Refusal::Busy);
     }
-    let plan = Planned::new(volatile.alloc, catalog, statement)?;
+    let plan = Planned::new(volatile.alloc, catalog, &statement)?;
     let asks = asks_of(volatile.alloc, catalog, plan.fetches())?;
-    let copy = statement.copy()?;
-    match start(volatile, catalog, txn, copy, plan, asks) {
+    match start(volatile, catalog, txn, statement, plan, asks) {
         Ok(step) => Ok(put_out(room, txn, step)),
         Err(refusal) => Err(limit_or_memory(refusal)),
     }
@@ -451,5 +450,5 @@ pub(crate) fn call_statement(
 {
     may_state(volatile, &txn)?;
     let statement = statement_of(volatile.alloc, catalog, text)?;
-    call_run(volatile, catalog, txn, &statement)
+    call_run(volatile, catalog, txn, statement)
 }
