@@ -215,17 +215,17 @@ fn run_at_once(
     undecided: &mut Undecided,
     statement: &Statement,
     plan: &Planned,
-    asks: &[Ask],
 ) -> Result<Progress, Refusal>
     ensures does { (db : Database) (n : ℕ) → IsOfCatalogue db → InForce db n catalog.now → AreParticipants db undecided.old.participants → undecided.old.stage ≡ stages.Idle
-        → IsOfPlan db n statement.now plan.now asks.now → asks.now ≡ map (ask_from (db.catalogue n)) plan.now.fetches → asks.now ≡ []
+        → IsOfPlan db n statement.now plan.now [] → [] ≡ map (ask_from (db.catalogue n)) plan.now.fetches
         → IfOk result (λ step. Does db n txn undecided.new step (λ choice. on_request (txn_name txn) choice (State (n, statement.now)) (Known (undecided_of db undecided.old)))) }
     ensures goes { GoesOnOrStays undecided.old undecided.new result }
     ensures full { (db : Database) (n : ℕ) → IsOfCatalogue db → InForce db n catalog.now → AreParticipants db undecided.old.participants → undecided.old.stage ≡ stages.Idle
-        → IsOfPlan db n statement.now plan.now asks.now → asks.now ≡ map (ask_from (db.catalogue n)) plan.now.fetches → asks.now ≡ [] → result ≡ Err refusals.Full
+        → IsOfPlan db n statement.now plan.now [] → [] ≡ map (ask_from (db.catalogue n)) plan.now.fetches → result ≡ Err refusals.Full
         → IsLong db (λ choice. on_request (txn_name txn) choice (State (n, statement.now)) (Known (undecided_of db undecided.old))) }
 {
-    let worked = evaluate(alloc, catalog, None, statement, plan, asks)?;
+    let fetched = Vec::new(alloc);
+    let worked = evaluate(alloc, catalog, None, statement, plan, fetched.as_slice())?;
     let Worked { answer, unsent } = worked;
     works(alloc, txn, undecided, answer, unsent)
 }
@@ -251,8 +251,7 @@ fn start_reading(
 {
     leaf_names_are_unique();
     if asks.is_empty() {
-        let none = asks.as_slice();
-        return run_at_once(alloc, catalog, txn, undecided, &statement, &plan, none);
+        return run_at_once(alloc, catalog, txn, undecided, &statement, &plan);
     }
     reads(alloc, txn, undecided, statement, plan, asks, version)
 }

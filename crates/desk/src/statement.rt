@@ -8,6 +8,7 @@ ghost use Rattle.desk.specs.declared.refusal.Refusal.TheVariants as refusals;
 ghost use Rattle.desk.specs.declared.transaction.TxnState.TheVariants as standings;
 ghost use Rattle.desk.specs.declared.transaction.Stage.TheVariants as stages;
 ghost use Rattle.desk.specs.Database.{Database, language};
+ghost use Rattle.desk.specs.Fetches.{brought};
 ghost use Rattle.desk.specs.Frame.{SendsOrStays};
 ghost use Rattle.desk.specs.Opening.{HaveParticipants, opens, visits};
 ghost use Rattle.desk.specs.Planned.{AreUnsentBy, AreUnsentFrom, IsOfPlan, unsent_by, unsent_from};
@@ -43,7 +44,7 @@ ghost use Rattle.answers.specs.Writes.{writes_between};
 ghost use Rattle.meaning.specs.declared.statement.Statement.{Statement};
 ghost use Rattle.desk.specs.declared.transaction.Unsent.{Unsent as UnsentNow};
 
-use crate::fetches::{Ask, brought, unsent_by, unsent_of};
+use crate::fetches::{Ask, unsent_by, unsent_of};
 use crate::participant::{Participant, with_ticket};
 use crate::refusal::Refusal;
 use crate::reply::Reply;
@@ -284,24 +285,22 @@ pub(crate) struct Worked {
     pub(crate) unsent: Vec<Unsent>,
 }
 
-/// A statement is evaluated, by its plan and by the rows that its fetches brought. `next` is the catalogue that comes next, if one does.
+/// A statement is evaluated, by its plan and by what its fetches brought. `next` is the catalogue that comes next, if one does.
 pub(crate) fn evaluate(
     alloc: Global,
     catalog: &Catalog,
     next: Option<&Catalog>,
     statement: &Statement,
     plan: &Planned,
-    asks: &[Ask],
+    fetched: &[FetchRows],
 ) -> Result<Worked, Memory>
     ensures home { (db : Database) (n : ℕ) → IsOfCatalogue db → InForce db n catalog.now → IsNextOf db n (option_copied next.entry) → IfOk result (λ worked. UnsentAtHome db worked.unsent.items) }
     ensures participants { (db : Database) (n : ℕ) (participants : List Participant) → IsOfCatalogue db → InForce db n catalog.now → IsNextOf db n (option_copied next.entry) → sites_of participants ≡ db.sites → IfOk result (λ worked. HaveParticipants participants (write_sites worked.unsent.items)) }
-    ensures explained { (db : Database) (n : ℕ) (t : Name) → IsOfCatalogue db → InForce db n catalog.now → IsNextOf db n (option_copied next.entry) → IsOfPlan db n statement.now plan.now asks.now
-        → IfOk result (λ worked. Explained {L = language db} (WorkedDeed t (n, statement.now) (map (ask_of db) asks.now) (worked.answer, map write_of worked.unsent.items))) }
+    ensures explained { (db : Database) (n : ℕ) (t : Name) (asks : List AskNow) → fetched.now ≡ brought asks → IsOfCatalogue db → InForce db n catalog.now → IsNextOf db n (option_copied next.entry) → IsOfPlan db n statement.now plan.now asks
+        → IfOk result (λ worked. Explained {L = language db} (WorkedDeed t (n, statement.now) (map (ask_of db) asks) (worked.answer, map write_of worked.unsent.items))) }
 {
     leaf_names_are_unique();
-    let fetched = brought(alloc, asks)?;
     let fetches = plan.fetches();
-    let fetched = fetched.as_slice();
     // Each list of rows was looked at as it came, so nothing is turned away here.
     if !are_all_parts(fetches, fetched) {
         return Err(Memory);
