@@ -113,16 +113,14 @@ fn leaf_of(write: &Write) -> &Leaf
 pub(crate) fn unsent_of(
     alloc: Global,
     catalog: &Catalog,
-    writes: &[Write],
+    writes: Vec<Write>,
 ) -> Result<Vec<Unsent>, Memory>
-    ensures { IfOk result (λ unsent. unsent.items ≡ map (unsent_from (catalogue_of catalog.now)) writes.now) }
+    ensures { IfOk result (λ unsent. unsent.items ≡ map (unsent_from (catalogue_of catalog.now)) writes.items) }
 {
     let mut unsent = Vec::new(alloc);
     for write in writes {
-        unsent.push(Unsent {
-            write: write.copy()?,
-            site: home_in(alloc, catalog, leaf_of(write))?,
-        })?;
+        let site = home_in(alloc, catalog, leaf_of(&write))?;
+        unsent.push(Unsent { write, site })?;
     }
     Ok(unsent)
 }

@@ -51,6 +51,7 @@ use crate::reply::Reply;
 use crate::send;
 use crate::send::{SentOut, asks_step, writes_step};
 use crate::transaction::{Planned, Reading, Stage, Undecided, Unsent, Writing};
+use answers::finish::Outcome;
 use answers::table::{FetchRows, are_all_parts};
 use answers::work;
 use answers::work::work;
@@ -336,11 +337,9 @@ fn outcome_of(
     ensures leaves { IfOk result (λ worked. AreUnsentFrom (catalogue_of catalog.now) worked.unsent.items) }
 {
     let outcome = work(alloc, catalog, statement, plan, fetches, fetched)?;
-    let unsent = unsent_of(alloc, catalog, outcome.writes.as_slice())?;
-    Ok(Worked {
-        answer: outcome.answer,
-        unsent,
-    })
+    let Outcome { answer, writes } = outcome;
+    let unsent = unsent_of(alloc, catalog, writes.into_vec())?;
+    Ok(Worked { answer, unsent })
 }
 
 /// So a REFRAGMENT: its writes are the moves to the next catalogue's split.
