@@ -156,6 +156,21 @@ left_over txn participants now same (w ∷ ws) =
 pub left_waiting : (txn : Txn) (ws : List Unsent) (participants : List Participant) → (writes_go txn ws participants).left ≡ filter (waits_in participants) ws
 left_waiting txn ws participants = left_over txn participants participants (λ j. refl) ws
 
+-- what goes out leaves the tickets as they are
+pub still_given : (txn : Txn) (ws : List Unsent) (participants : List Participant) (j : List ℕ) → (participant_in j (writes_go txn ws participants).participants).ticket ≡ (participant_in j participants).ticket
+still_given txn [] participants j = refl
+still_given txn (w ∷ ws) participants j = go (λ now. still_given txn ws now j) (participant_in w.site participants).ticket refl
+  where
+    go : ((now : List Participant) → (participant_in j (writes_go txn ws now).participants).ticket ≡ (participant_in j now).ticket) → (k : Option Ticket) → (participant_in w.site participants).ticket ≡ k →
+        (participant_in j (write_goes txn w k participants (writes_go txn ws)).participants).ticket ≡ (participant_in j participants).ticket
+    go below (Some k) e = below (one_more w.site participants) ∙ (one_more_same w.site participants (ticket_there w.site k participants e)).ticket j
+    go below None e = below participants
+
+-- so the writes that wait on are those without a ticket also after it
+pub left_waiting_after : (txn : Txn) (ws : List Unsent) (participants after : List Participant) → after ≡ (writes_go txn ws participants).participants → filter (waits_in after) ws ≡ (writes_go txn ws participants).left
+left_waiting_after txn ws participants after is =
+    ap (λ (now : List Participant). filter (waits_in now) ws) is ∙ sym (left_over txn (writes_go txn ws participants).participants participants (λ j. sym (still_given txn ws participants j)) ws)
+
 -- ---- a vector after its slice was written
 pub as_many : (asks : List Ask) (numbers : List (Option ℕ)) → length (with_numbers asks numbers) ≡ length asks
 as_many [] numbers = refl

@@ -45,6 +45,7 @@ use store::desk_store::DeskStore;
 use store::fault::StoreFault;
 use store::letter::{Body, Letter};
 use store::name::Txn;
+use terms::copy::TryCopy;
 
 /// A coordinator: its store, the catalogue in force and those that come after it, and what it has in memory. What its clauses say
 /// holds where the store is clean as the call ends, and was sound, and where what is in memory fitted it as the call began.
@@ -210,7 +211,8 @@ impl<S: DeskStore> Desk<S> {
         ensures full { (db : Database) → IsOfCatalogue db → InForce db self.old.volatile.version self.old.catalog → Fits db (S.kept self.old.store) (volatile_of self.old.volatile) → result ≡ Err refusals.Full
             → RunsPastLimits db (volatile_of self.old.volatile) txn statement.now }
     {
-        call_run(&mut self.volatile, &self.catalog, txn, statement)
+        let copy = statement.copy()?;
+        call_run(&mut self.volatile, &self.catalog, txn, copy)
     }
 
     /// A letter comes. One of a site that the catalogue doesn't have, and one that no site sends, are passed over. Where the letter

@@ -7,7 +7,7 @@ ghost use Rattle.protocol.specs.Letters.{leaf_of};
 ghost use Rattle.desk.specs.Place.{home_in, site_in};
 ghost use Rattle.desk.specs.Planned.{ask_from, unsent_by, unsent_from};
 ghost use Rattle.catalog.specs.FragmentLeaf.{catalogue_leaves, leaf_named};
-ghost use Rattle.desk.specs.Fetches.{are_in_with, awaits, brought, fits_leaf, has_rows_with, rows_for, with_found, with_rows};
+ghost use Rattle.desk.specs.Fetches.{are_in_with, awaits, brought, brought_by, fits_leaf, has_rows_with, rows_for, with_found, with_rows};
 
 use crate::transaction::Unsent;
 use answers::moves::Move;
@@ -113,16 +113,14 @@ fn leaf_of(write: &Write) -> &Leaf
 pub(crate) fn unsent_of(
     alloc: Global,
     catalog: &Catalog,
-    writes: &[Write],
+    writes: Vec<Write>,
 ) -> Result<Vec<Unsent>, Memory>
-    ensures { IfOk result (λ unsent. unsent.items ≡ map (unsent_from (catalogue_of catalog.now)) writes.now) }
+    ensures { IfOk result (λ unsent. unsent.items ≡ map (unsent_from (catalogue_of catalog.now)) writes.items) }
 {
     let mut unsent = Vec::new(alloc);
     for write in writes {
-        unsent.push(Unsent {
-            write: write.copy()?,
-            site: home_in(alloc, catalog, leaf_of(write))?,
-        })?;
+        let site = home_in(alloc, catalog, leaf_of(&write))?;
+        unsent.push(Unsent { write, site })?;
     }
     Ok(unsent)
 }
@@ -157,34 +155,6 @@ fn awaits(catalog: &Catalog, site: &Text, rows: &Rows, ask: &Ask) -> bool
         && ask.number == Some(rows.op)
         && ask.rows.is_none()
         && fits_leaf(catalog, &ask.leaf, rows.parts.as_slice())
-}
-
-/// A fetch, with these rows if it waits for them.
-fn with_rows(catalog: &Catalog, site: &Text, rows: &Rows, ask: &Ask) -> Result<Ask, Memory>
-    ensures { IfOk result (λ other. other ≡ with_rows (catalogue_of catalog.now) site.now rows.now.op rows.now.parts ask.now) }
-{
-    let mut other = ask.copy()?;
-    if awaits(catalog, site, rows, ask) {
-        other.rows = Some(rows.parts.copy()?);
-    }
-    Ok(other)
-}
-
-/// Fetches, of which those have these rows that wait for them.
-pub(crate) fn all_with_rows(
-    alloc: Global,
-    catalog: &Catalog,
-    site: &Text,
-    rows: &Rows,
-    asks: &[Ask],
-) -> Result<Vec<Ask>, Memory>
-    ensures { IfOk result (λ others. others.items ≡ map (with_rows (catalogue_of catalog.now) site.now rows.now.op rows.now.parts) asks.now) }
-{
-    let mut others = Vec::new(alloc);
-    for ask in asks {
-        others.push(with_rows(catalog, site, rows, ask)?)?;
-    }
-    Ok(others)
 }
 
 /// The rows that a fetch gets, if it waits for these.
@@ -266,17 +236,44 @@ pub(crate) fn are_in_with(catalog: &Catalog, site: &Text, rows: &Rows, asks: &[A
         .all(|ask| has_rows_with(catalog, site, rows, ask))
 }
 
-/// What fetches brought.
-pub(crate) fn brought(alloc: Global, asks: &[Ask]) -> Result<Vec<FetchRows>, Memory>
-    ensures { IfOk result (λ fetched. fetched.items ≡ brought asks.now) }
+/// What a fetch has brought once these rows have come.
+fn brought_by(
+    catalog: &Catalog,
+    site: &Text,
+    rows: &Rows,
+    ask: &Ask,
+) -> Result<Option<FetchRows>, Memory>
+    ensures { IfOk result (λ found. found ≡ brought_by (with_rows (catalogue_of catalog.now) site.now rows.now.op rows.now.parts ask.now)) }
+{
+    if awaits(catalog, site, rows, ask) {
+        return Ok(Some(FetchRows {
+            leaf: ask.leaf.copy()?,
+            parts: rows.parts.copy()?,
+        }));
+    }
+    match &ask.rows {
+        Some(parts) => Ok(Some(FetchRows {
+            leaf: ask.leaf.copy()?,
+            parts: parts.copy()?,
+        })),
+        None => Ok(None),
+    }
+}
+
+/// What fetches have brought once these rows have come.
+pub(crate) fn brought_with(
+    alloc: Global,
+    catalog: &Catalog,
+    site: &Text,
+    rows: &Rows,
+    asks: &[Ask],
+) -> Result<Vec<FetchRows>, Memory>
+    ensures { IfOk result (λ fetched. fetched.items ≡ brought (map (with_rows (catalogue_of catalog.now) site.now rows.now.op rows.now.parts) asks.now)) }
 {
     let mut fetched = Vec::new(alloc);
     for ask in asks {
-        if let Some(rows) = &ask.rows {
-            fetched.push(FetchRows {
-                leaf: ask.leaf.copy()?,
-                parts: rows.copy()?,
-            })?;
+        if let Some(found) = brought_by(catalog, site, rows, ask)? {
+            fetched.push(found)?;
         }
     }
     Ok(fetched)

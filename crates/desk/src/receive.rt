@@ -33,7 +33,7 @@ ghost use Rattle.desk.specs.OfCatalogue.{InForce, IsNextOf, IsOfCatalogue};
 use crate::abort::on_refusal;
 use crate::acknowledge::on_row;
 use crate::commit::{gave_first, is_first, on_vote};
-use crate::fetches::{all_with_rows, are_in_with, bring};
+use crate::fetches::{are_in_with, bring, brought_with};
 use crate::refusal::Refusal;
 use crate::reply::Out;
 use crate::request::{limit_or_memory, put_out};
@@ -235,14 +235,14 @@ fn rows_come(
         bring(alloc, catalog, site, rows, &mut reading.asks)?;
         return Ok(no_progress(alloc));
     }
-    let asks = all_with_rows(alloc, catalog, site, rows, reading.asks.as_slice())?;
+    let fetched = brought_with(alloc, catalog, site, rows, reading.asks.as_slice())?;
     let worked = evaluate(
         alloc,
         catalog,
         next,
         &reading.statement,
         &reading.plan,
-        asks.as_slice(),
+        fetched.as_slice(),
     )?;
     let Worked { answer, unsent } = worked;
     works(alloc, txn, undecided, answer, unsent)

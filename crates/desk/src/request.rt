@@ -215,17 +215,17 @@ fn run_at_once(
     undecided: &mut Undecided,
     statement: &Statement,
     plan: &Planned,
-    asks: &[Ask],
 ) -> Result<Progress, Refusal>
     ensures does { (db : Database) (n : ℕ) → IsOfCatalogue db → InForce db n catalog.now → AreParticipants db undecided.old.participants → undecided.old.stage ≡ stages.Idle
-        → IsOfPlan db n statement.now plan.now asks.now → asks.now ≡ map (ask_from (db.catalogue n)) plan.now.fetches → asks.now ≡ []
+        → IsOfPlan db n statement.now plan.now [] → [] ≡ map (ask_from (db.catalogue n)) plan.now.fetches
         → IfOk result (λ step. Does db n txn undecided.new step (λ choice. on_request (txn_name txn) choice (State (n, statement.now)) (Known (undecided_of db undecided.old)))) }
     ensures goes { GoesOnOrStays undecided.old undecided.new result }
     ensures full { (db : Database) (n : ℕ) → IsOfCatalogue db → InForce db n catalog.now → AreParticipants db undecided.old.participants → undecided.old.stage ≡ stages.Idle
-        → IsOfPlan db n statement.now plan.now asks.now → asks.now ≡ map (ask_from (db.catalogue n)) plan.now.fetches → asks.now ≡ [] → result ≡ Err refusals.Full
+        → IsOfPlan db n statement.now plan.now [] → [] ≡ map (ask_from (db.catalogue n)) plan.now.fetches → result ≡ Err refusals.Full
         → IsLong db (λ choice. on_request (txn_name txn) choice (State (n, statement.now)) (Known (undecided_of db undecided.old))) }
 {
-    let worked = evaluate(alloc, catalog, None, statement, plan, asks)?;
+    let fetched = Vec::new(alloc);
+    let worked = evaluate(alloc, catalog, None, statement, plan, fetched.as_slice())?;
     let Worked { answer, unsent } = worked;
     works(alloc, txn, undecided, answer, unsent)
 }
@@ -251,8 +251,7 @@ fn start_reading(
 {
     leaf_names_are_unique();
     if asks.is_empty() {
-        let none = asks.as_slice();
-        return run_at_once(alloc, catalog, txn, undecided, &statement, &plan, none);
+        return run_at_once(alloc, catalog, txn, undecided, &statement, &plan);
     }
     reads(alloc, txn, undecided, statement, plan, asks, version)
 }
@@ -409,26 +408,25 @@ pub(crate) fn call_run(
     volatile: &mut Volatile,
     catalog: &Catalog,
     txn: Txn,
-    statement: &Statement,
+    statement: Statement,
 ) -> Result<Out, Refusal>
-    requires { IsStatementOf (schemas_of (catalogue_of catalog.now)) statement.now }
+    requires { IsStatementOf (schemas_of (catalogue_of catalog.now)) statement }
     ensures ok { (db : Database) (kept : DeskContent) → IsOfCatalogue db → InForce db volatile.old.version catalog.now → Fits db kept (volatile_of volatile.old)
-        → IfOk result (λ out. Runs db (volatile_of volatile.old) kept (volatile_of volatile.new) txn statement.now out.letters out.replies) }
+        → IfOk result (λ out. Runs db (volatile_of volatile.old) kept (volatile_of volatile.new) txn statement out.letters out.replies) }
     ensures states { StatesInMemory volatile.old volatile.new txn result }
-    ensures told { (db : Database) → IfErr result (λ told. (told ≡ refusals.Memory) ⊎ WhyNotStated db (volatile_of volatile.old) txn statement.now told
-        ⊎ ((refusal (State (volatile.old.version, statement.now)) (txn_in db (volatile_of volatile.old) txn) ≡ None) × (((is_refragment statement.now ≡ true) × (told ≡ refusals.Busy)) ⊎ (told ≡ refusals.Full)))) }
+    ensures told { (db : Database) → IfErr result (λ told. (told ≡ refusals.Memory) ⊎ WhyNotStated db (volatile_of volatile.old) txn statement told
+        ⊎ ((refusal (State (volatile.old.version, statement)) (txn_in db (volatile_of volatile.old) txn) ≡ None) × (((is_refragment statement ≡ true) × (told ≡ refusals.Busy)) ⊎ (told ≡ refusals.Full)))) }
     ensures full { (db : Database) (kept : DeskContent) → IsOfCatalogue db → InForce db volatile.old.version catalog.now → Fits db kept (volatile_of volatile.old) → result ≡ Err refusals.Full
-        → RunsPastLimits db (volatile_of volatile.old) txn statement.now }
+        → RunsPastLimits db (volatile_of volatile.old) txn statement }
 {
     let room = room(volatile.alloc)?;
     may_state(volatile, &txn)?;
     if statement.is_refragment() {
         return Err(Refusal::Busy);
     }
-    let plan = Planned::new(volatile.alloc, catalog, statement)?;
+    let plan = Planned::new(volatile.alloc, catalog, &statement)?;
     let asks = asks_of(volatile.alloc, catalog, plan.fetches())?;
-    let copy = statement.copy()?;
-    match start(volatile, catalog, txn, copy, plan, asks) {
+    match start(volatile, catalog, txn, statement, plan, asks) {
         Ok(step) => Ok(put_out(room, txn, step)),
         Err(refusal) => Err(limit_or_memory(refusal)),
     }
@@ -451,5 +449,5 @@ pub(crate) fn call_statement(
 {
     may_state(volatile, &txn)?;
     let statement = statement_of(volatile.alloc, catalog, text)?;
-    call_run(volatile, catalog, txn, &statement)
+    call_run(volatile, catalog, txn, statement)
 }

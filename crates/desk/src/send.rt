@@ -18,7 +18,7 @@ use store::letter::{Body, Letter};
 use store::name::{Ticket, Txn};
 use store::order::{Fetch, Intention, Order, Prepare};
 use store::reply::Vote;
-use terms::copy::{TryCopy, copy_all};
+use terms::copy::TryCopy;
 use terms::memory::Memory;
 use terms::text::Text;
 
@@ -211,17 +211,17 @@ pub(crate) struct SentOut {
 pub(crate) fn asks_step(
     alloc: Global,
     txn: Txn,
-    participants: &[Participant],
+    participants: Vec<Participant>,
     asks: &mut Vec<Ask>,
 ) -> Result<SentOut, Refusal>
-    ensures participants { IfOk result (λ going. going.participants.items ≡ (asks_go txn asks.old.items participants.now).participants) }
-    ensures letters { IfOk result (λ going. going.letters.items ≡ (asks_go txn asks.old.items participants.now).letters) }
-    ensures left { IfOk result (λ _. asks.new.items ≡ (asks_go txn asks.old.items participants.now).left) }
-    ensures short { AreShort participants.now → IfOk result (λ going. AreShort going.participants.items) }
-    ensures full { result ≡ Err refusals.Full → IsPast (asks_go txn asks.old.items participants.now).participants }
+    ensures participants { IfOk result (λ going. going.participants.items ≡ (asks_go txn asks.old.items participants.items).participants) }
+    ensures letters { IfOk result (λ going. going.letters.items ≡ (asks_go txn asks.old.items participants.items).letters) }
+    ensures left { IfOk result (λ _. asks.new.items ≡ (asks_go txn asks.old.items participants.items).left) }
+    ensures short { AreShort participants.items → IfOk result (λ going. AreShort going.participants.items) }
+    ensures full { result ≡ Err refusals.Full → IsPast (asks_go txn asks.old.items participants.items).participants }
     ensures same { OnErr result (asks.new ≡ asks.old) }
 {
-    let mut counted = copy_all(alloc, participants)?;
+    let mut counted = participants;
     let out = asks_out(alloc, txn, asks.as_slice(), counted.as_mut_slice())?;
     set_numbers(asks.as_mut_slice(), out.numbers.as_slice());
     Ok(SentOut {
@@ -234,23 +234,30 @@ pub(crate) fn asks_step(
 pub(crate) fn writes_step(
     alloc: Global,
     txn: Txn,
-    participants: &[Participant],
+    participants: Vec<Participant>,
     unsent: &mut Vec<Unsent>,
 ) -> Result<SentOut, Refusal>
-    ensures participants { IfOk result (λ going. going.participants.items ≡ (writes_go txn unsent.old.items participants.now).participants) }
-    ensures letters { IfOk result (λ going. going.letters.items ≡ (writes_go txn unsent.old.items participants.now).letters) }
-    ensures left { IfOk result (λ _. unsent.new.items ≡ (writes_go txn unsent.old.items participants.now).left) }
-    ensures short { AreShort participants.now → IfOk result (λ going. AreShort going.participants.items) }
-    ensures full { result ≡ Err refusals.Full → IsPast (writes_go txn unsent.old.items participants.now).participants }
+    ensures participants { IfOk result (λ going. going.participants.items ≡ (writes_go txn unsent.old.items participants.items).participants) }
+    ensures letters { IfOk result (λ going. going.letters.items ≡ (writes_go txn unsent.old.items participants.items).letters) }
+    ensures left { IfOk result (λ _. unsent.new.items ≡ (writes_go txn unsent.old.items participants.items).left) }
+    ensures short { AreShort participants.items → IfOk result (λ going. AreShort going.participants.items) }
+    ensures full { result ≡ Err refusals.Full → IsPast (writes_go txn unsent.old.items participants.items).participants }
     ensures same { OnErr result (unsent.new ≡ unsent.old) }
 {
-    let mut counted = copy_all(alloc, participants)?;
+    let mut counted = participants;
     let letters = writes_out(alloc, txn, unsent.as_slice(), counted.as_mut_slice())?;
-    unsent.retain(|write| ticket_of(participants, &write.site).is_none());
+    keep_waiting(unsent, counted.as_slice());
     Ok(SentOut {
         participants: counted,
         letters,
     })
+}
+
+/// The writes are left whose sites have given no ticket.
+fn keep_waiting(unsent: &mut Vec<Unsent>, participants: &[Participant])
+    ensures { unsent.new.items ≡ filter (waits_in participants.now) unsent.old.items }
+{
+    unsent.retain(|write| ticket_of(participants, &write.site).is_none());
 }
 
 /// The sites of fetches.

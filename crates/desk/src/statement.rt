@@ -8,6 +8,7 @@ ghost use Rattle.desk.specs.declared.refusal.Refusal.TheVariants as refusals;
 ghost use Rattle.desk.specs.declared.transaction.TxnState.TheVariants as standings;
 ghost use Rattle.desk.specs.declared.transaction.Stage.TheVariants as stages;
 ghost use Rattle.desk.specs.Database.{Database, language};
+ghost use Rattle.desk.specs.Fetches.{brought};
 ghost use Rattle.desk.specs.Frame.{SendsOrStays};
 ghost use Rattle.desk.specs.Opening.{HaveParticipants, opens, visits};
 ghost use Rattle.desk.specs.Planned.{AreUnsentBy, AreUnsentFrom, IsOfPlan, unsent_by, unsent_from};
@@ -43,13 +44,14 @@ ghost use Rattle.answers.specs.Writes.{writes_between};
 ghost use Rattle.meaning.specs.declared.statement.Statement.{Statement};
 ghost use Rattle.desk.specs.declared.transaction.Unsent.{Unsent as UnsentNow};
 
-use crate::fetches::{Ask, brought, unsent_by, unsent_of};
+use crate::fetches::{Ask, unsent_by, unsent_of};
 use crate::participant::{Participant, with_ticket};
 use crate::refusal::Refusal;
 use crate::reply::Reply;
 use crate::send;
 use crate::send::{SentOut, asks_step, writes_step};
 use crate::transaction::{Planned, Reading, Stage, Undecided, Unsent, Writing};
+use answers::finish::Outcome;
 use answers::table::{FetchRows, are_all_parts};
 use answers::work;
 use answers::work::work;
@@ -93,7 +95,7 @@ fn asks_begin(
     let sites = send::ask_sites(alloc, asks.as_slice())?;
     let letters = send::opens(alloc, txn, participants, sites.as_slice())?;
     let visited = send::visited(alloc, participants, sites.as_slice())?;
-    let going = asks_step(alloc, txn, visited.as_slice(), asks)?;
+    let going = asks_step(alloc, txn, visited, asks)?;
     Ok(SentOut {
         participants: going.participants,
         letters: joined(letters, going.letters)?,
@@ -191,16 +193,16 @@ fn idles(undecided: &mut Undecided)
 fn writing_goes(
     alloc: Global,
     txn: Txn,
-    participants: &[Participant],
+    participants: Vec<Participant>,
     writing: &mut Writing,
 ) -> Result<Written, Refusal>
-    ensures participants { IfOk result (λ written. written.going.participants.items ≡ (writes_go txn writing.old.unsent.items participants.now).participants) }
-    ensures letters { IfOk result (λ written. written.going.letters.items ≡ (writes_go txn writing.old.unsent.items participants.now).letters) }
-    ensures left { IfOk result (λ _. writing.new.unsent.items ≡ (writes_go txn writing.old.unsent.items participants.now).left) }
+    ensures participants { IfOk result (λ written. written.going.participants.items ≡ (writes_go txn writing.old.unsent.items participants.items).participants) }
+    ensures letters { IfOk result (λ written. written.going.letters.items ≡ (writes_go txn writing.old.unsent.items participants.items).letters) }
+    ensures left { IfOk result (λ _. writing.new.unsent.items ≡ (writes_go txn writing.old.unsent.items participants.items).left) }
     ensures answer { OnOk result (writing.new.answer ≡ writing.old.answer) }
     ensures done { IfOk result (λ written. written.answer ≡ (if nat_eq (length writing.new.unsent.items) 0 then Some writing.old.answer else None)) }
-    ensures short { AreShort participants.now → IfOk result (λ written. AreShort written.going.participants.items) }
-    ensures full { result ≡ Err refusals.Full → IsPast (writes_go txn writing.old.unsent.items participants.now).participants }
+    ensures short { AreShort participants.items → IfOk result (λ written. AreShort written.going.participants.items) }
+    ensures full { result ≡ Err refusals.Full → IsPast (writes_go txn writing.old.unsent.items participants.items).participants }
     ensures same { OnErr result (writing.new ≡ writing.old) }
 {
     let answer = writing.answer.copy()?;
@@ -263,7 +265,7 @@ pub(crate) fn ticket_goes(
             Ok(no_progress(alloc))
         }
         Stage::Reading(reading) => {
-            let going = asks_step(alloc, txn, participants.as_slice(), &mut reading.asks)?;
+            let going = asks_step(alloc, txn, participants, &mut reading.asks)?;
             set_participants(undecided, going.participants);
             Ok(Progress {
                 letters: going.letters,
@@ -271,7 +273,7 @@ pub(crate) fn ticket_goes(
             })
         }
         Stage::Writing(writing) => {
-            let written = writing_goes(alloc, txn, participants.as_slice(), writing)?;
+            let written = writing_goes(alloc, txn, participants, writing)?;
             Ok(wrote(undecided, written))
         }
     }
@@ -284,24 +286,22 @@ pub(crate) struct Worked {
     pub(crate) unsent: Vec<Unsent>,
 }
 
-/// A statement is evaluated, by its plan and by the rows that its fetches brought. `next` is the catalogue that comes next, if one does.
+/// A statement is evaluated, by its plan and by what its fetches brought. `next` is the catalogue that comes next, if one does.
 pub(crate) fn evaluate(
     alloc: Global,
     catalog: &Catalog,
     next: Option<&Catalog>,
     statement: &Statement,
     plan: &Planned,
-    asks: &[Ask],
+    fetched: &[FetchRows],
 ) -> Result<Worked, Memory>
     ensures home { (db : Database) (n : ℕ) → IsOfCatalogue db → InForce db n catalog.now → IsNextOf db n (option_copied next.entry) → IfOk result (λ worked. UnsentAtHome db worked.unsent.items) }
     ensures participants { (db : Database) (n : ℕ) (participants : List Participant) → IsOfCatalogue db → InForce db n catalog.now → IsNextOf db n (option_copied next.entry) → sites_of participants ≡ db.sites → IfOk result (λ worked. HaveParticipants participants (write_sites worked.unsent.items)) }
-    ensures explained { (db : Database) (n : ℕ) (t : Name) → IsOfCatalogue db → InForce db n catalog.now → IsNextOf db n (option_copied next.entry) → IsOfPlan db n statement.now plan.now asks.now
-        → IfOk result (λ worked. Explained {L = language db} (WorkedDeed t (n, statement.now) (map (ask_of db) asks.now) (worked.answer, map write_of worked.unsent.items))) }
+    ensures explained { (db : Database) (n : ℕ) (t : Name) (asks : List AskNow) → fetched.now ≡ brought asks → IsOfCatalogue db → InForce db n catalog.now → IsNextOf db n (option_copied next.entry) → IsOfPlan db n statement.now plan.now asks
+        → IfOk result (λ worked. Explained {L = language db} (WorkedDeed t (n, statement.now) (map (ask_of db) asks) (worked.answer, map write_of worked.unsent.items))) }
 {
     leaf_names_are_unique();
-    let fetched = brought(alloc, asks)?;
     let fetches = plan.fetches();
-    let fetched = fetched.as_slice();
     // Each list of rows was looked at as it came, so nothing is turned away here.
     if !are_all_parts(fetches, fetched) {
         return Err(Memory);
@@ -337,11 +337,9 @@ fn outcome_of(
     ensures leaves { IfOk result (λ worked. AreUnsentFrom (catalogue_of catalog.now) worked.unsent.items) }
 {
     let outcome = work(alloc, catalog, statement, plan, fetches, fetched)?;
-    let unsent = unsent_of(alloc, catalog, outcome.writes.as_slice())?;
-    Ok(Worked {
-        answer: outcome.answer,
-        unsent,
-    })
+    let Outcome { answer, writes } = outcome;
+    let unsent = unsent_of(alloc, catalog, writes.into_vec())?;
+    Ok(Worked { answer, unsent })
 }
 
 /// So a REFRAGMENT: its writes are the moves to the next catalogue's split.
@@ -388,7 +386,7 @@ fn writes_begin(
     let sites = send::write_sites(alloc, unsent.as_slice())?;
     let letters = send::opens(alloc, txn, participants, sites.as_slice())?;
     let visited = send::visited(alloc, participants, sites.as_slice())?;
-    let going = writes_step(alloc, txn, visited.as_slice(), unsent)?;
+    let going = writes_step(alloc, txn, visited, unsent)?;
     Ok(SentOut {
         participants: going.participants,
         letters: joined(letters, going.letters)?,

@@ -17,10 +17,9 @@ use catalog::catalogue::Catalog;
 use meaning::answer::Answer;
 use meaning::statement::Statement;
 use plan::fetch::Fetch;
-use plan::localize::localize;
+use plan::nodes::{ReducedNodes, reduced_nodes};
 use plan::plan::Plan;
-use plan::postfix::{Node, plan_of, postfix};
-use plan::reduce::{Reduced, reduce};
+use plan::postfix::{Node, plan_of};
 use std::alloc::Global;
 use std::collections::BTreeMap;
 use std::marker::Model;
@@ -109,10 +108,8 @@ impl Planned {
         ensures fetches { IfOk result (λ plan. AreFetchesOf (catalogue_of catalog.now) statement.now plan.fetches) }
         ensures finds { IfOk result (λ plan. FindsAll (catalogue_of catalog.now) statement.now plan.fetches (plan_in plan)) }
     {
-        let plan = localize(alloc, catalog, statement)?;
-        let reduced = reduce(alloc, catalog, statement, plan)?;
-        let Reduced { plan, fetches } = reduced;
-        let nodes = postfix(alloc, plan)?;
+        let reduced = reduced_nodes(alloc, catalog, statement)?;
+        let ReducedNodes { nodes, fetches } = reduced;
         Ok(Planned { nodes, fetches })
     }
 

@@ -109,6 +109,12 @@ fetches_for catalogue needs = fetches_from catalogue needs 0 needs.relations
 abbrev pub fetches_by : Catalogue → Statement → List Fetch
 fetches_by catalogue statement = fetches_for catalogue (needs statement)
 
+-- these are the needs of a statement of a catalogue's schema
+pub record AreNeedsOf (catalogue : Catalogue) (needed : Needs) : Type 0 where
+  pub statement : Statement
+  pub are : needed ≡ needs statement
+  pub of_schemas : IsStatementOf (schemas_of catalogue) statement
+
 -- of a catalogue that was read, and a statement of its schema, these are the fetches
 abbrev pub FetchesAreTold : Type 0
 FetchesAreTold = (catalogue : Catalogue) (statement : Statement) → IsFormed catalogue → IsValidCatalogue catalogue → IsStatementOf (schemas_of catalogue) statement → AreFetchesOf catalogue statement (fetches_by catalogue statement)

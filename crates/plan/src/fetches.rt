@@ -3,10 +3,12 @@
 ghost use Rattle.std.specs.Prelude.{◌≡◌, ◌++◌, ◌+◌, ◌<◌, IfOk, IfSome, map, option_map};
 ghost use Rattle.std.specs.List.{AllByRecursion};
 ghost use Rattle.terms.specs.Cond.{IsCondOf};
+ghost use Rattle.meaning.specs.declared.statement.Statement.{Statement as StatementNow};
 ghost use Rattle.meaning.specs.Statement.{IsStatementOf};
 ghost use Rattle.catalog.specs.FragmentLeaf.{schemas_of};
 ghost use Rattle.catalog.specs.Relation.{catalogue_of};
-ghost use Rattle.plan.specs.Picked.{TieFits, own_trial, picked, put_on, tie_trial, trials_of};
+ghost use Rattle.plan.specs.Need as needed;
+ghost use Rattle.plan.specs.Picked.{AreNeedsOf, TieFits, own_trial, picked, put_on, tie_trial, trials_of};
 ghost use Rattle.plan.specs.Stated.{AreFetchesOf, ByColumn, ByKey, kinds_in, leaves_of, tie_of, ties_of};
 
 use crate::fetch::Fetch;
@@ -34,12 +36,25 @@ pub fn statement_fetches(
     requires { IsStatementOf (schemas_of (catalogue_of catalog.now)) statement.now }
     ensures { IfOk result (λ fetches. AreFetchesOf (catalogue_of catalog.now) statement.now fetches.items) }
 {
+    let needs = statement_needs(alloc, statement)?;
+    needed_fetches(alloc, catalog, &needs)
+}
+
+/// So by the needs of a statement.
+pub(crate) fn needed_fetches(
+    alloc: Global,
+    catalog: &Catalog,
+    needs: &Needs,
+) -> Result<Vec<Fetch>, Memory>
+    requires { AreNeedsOf (catalogue_of catalog.now) needs.now }
+    ensures { (statement : StatementNow) → needs.now ≡ needed.needs statement → IsStatementOf (schemas_of (catalogue_of catalog.now)) statement
+        → IfOk result (λ fetches. AreFetchesOf (catalogue_of catalog.now) statement fetches.items) }
+{
     some_leaf_serves();
     let _relations = catalog.relations();
-    let needs = statement_needs(alloc, statement)?;
     let mut fetches = Vec::new(alloc);
     for (number, need) in needs.relations.as_slice().iter().enumerate() {
-        let mut found = need_fetches(alloc, catalog, &needs, number, need)?;
+        let mut found = need_fetches(alloc, catalog, needs, number, need)?;
         fetches.append(&mut found)?;
     }
     Ok(fetches)

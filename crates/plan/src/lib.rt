@@ -1,9 +1,9 @@
 //! Plans of statements over fragments: which leaves a statement reads, with which conditions, and how its
 //! rows are put together from their parts.
 //!
-//! It stands on `terms`, `meaning` and `catalog`. The contract that the layers above use is that of
-//! `reduce`: the fetches are exactly those that the statement may need, and over what they bring the
-//! plan has the rows that the statement is to find.
+//! It stands on `terms`, `meaning` and `catalog`. The contracts that the layers above use are those of
+//! `reduce` and `reduced_nodes`: the fetches are exactly those that the statement may need, and over what they
+//! bring the plan has the rows that the statement is to find.
 #![tactic(auto)]
 
 pub mod fetch;
@@ -12,6 +12,7 @@ pub mod laws;
 pub mod link;
 pub mod localize;
 pub mod need;
+pub mod nodes;
 pub mod plan;
 pub mod postfix;
 pub mod reduce;

@@ -8,6 +8,7 @@ ghost use Rattle.plan.specs.Fetch as spec;
 ghost use Rattle.plan.specs.Found.{asked};
 ghost use Rattle.plan.specs.Located.{IsByColumns, IsLocated, IsOfJoined, IsOfNeed, IsOfNeeds, covers, once, reaches, united};
 ghost use Rattle.plan.specs.Located as located;
+ghost use Rattle.plan.specs.Need as needed;
 ghost use Rattle.plan.specs.PlanOf.{IsPlanOf};
 ghost use Rattle.plan.specs.Shape.{Fetch, Project, shape};
 
@@ -34,20 +35,39 @@ pub fn localize(alloc: Global, catalog: &Catalog, statement: &Statement) -> Resu
     // Over what its fetches bring it finds what the statement is to find.
     ensures { IfOk result (λ plan. IsPlanOf (catalogue_of catalog.now) statement.now (shape plan)) }
 {
+    let needs = statement_needs(alloc, statement)?;
+    localize_needs(alloc, catalog, statement, &needs)
+}
+
+/// So where these are the needs of the statement.
+pub(crate) fn localize_needs(
+    alloc: Global,
+    catalog: &Catalog,
+    statement: &Statement,
+    needs: &Needs,
+) -> Result<Plan, Memory>
+    requires { needs.now ≡ needed.needs statement.now }
+    ensures { IfOk result (λ plan. IsPlanOf (catalogue_of catalog.now) statement.now (shape plan)) }
+{
     some_leaf_serves();
     one_leaf_serves();
     leaf_names_are_unique();
     let _relations = catalog.relations();
-    located(alloc, catalog, statement)
+    located(alloc, catalog, statement, needs)
 }
 
 /// The rows of a statement's needs that meet its conditions.
-fn located(alloc: Global, catalog: &Catalog, statement: &Statement) -> Result<Plan, Memory>
+fn located(
+    alloc: Global,
+    catalog: &Catalog,
+    statement: &Statement,
+    needs: &Needs,
+) -> Result<Plan, Memory>
+    requires { needs.now ≡ needed.needs statement.now }
     ensures { IfOk result (λ plan. IsLocated (catalogue_of catalog.now) statement.now (shape plan)) }
 {
     let conds = conds_asked(alloc, statement)?;
-    let needs = statement_needs(alloc, statement)?;
-    let below = joined(alloc, catalog, &needs)?;
+    let below = joined(alloc, catalog, needs)?;
     Ok(Plan::Filter(conds, Box::new(alloc, below)?))
 }
 

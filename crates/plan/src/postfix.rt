@@ -2,10 +2,12 @@
 
 ghost use Rattle.std.specs.Prelude.{◌≡◌, ◌++◌, IfOk, OnOk};
 ghost use Rattle.plan.specs.Postfix.{after, plan_of, postfix, seen, top, under};
+ghost use Rattle.plan.specs.Reduced.{is_fetched, reduced};
 ghost use Rattle.plan.specs.Shape.{shape};
 
 use crate::fetch::Fetch;
 use crate::plan::Plan;
+use crate::reduce::is_fetched;
 use std::alloc::Global;
 use terms::cond::Conds;
 use terms::copy::TryCopy;
@@ -31,12 +33,16 @@ pub enum Node {
     Lookup { col: usize, width: usize },
 }
 
-/// The nodes of a plan, each behind those that it is made of.
-pub fn postfix(alloc: Global, plan: Plan) -> Result<Vec<Node>, Memory>
-    ensures { IfOk result (λ nodes. nodes.items ≡ postfix (shape plan)) }
+/// The nodes of a plan without the reads of other leaves than those that are fetched, each behind those that it is made of.
+pub(crate) fn reduced_postfix(
+    alloc: Global,
+    plan: Plan,
+    fetches: &[Fetch],
+) -> Result<Vec<Node>, Memory>
+    ensures { IfOk result (λ nodes. nodes.items ≡ postfix (reduced (is_fetched fetches.now) (shape plan))) }
 {
     let mut nodes = Vec::new(alloc);
-    put_nodes(plan, &mut nodes)?;
+    put_nodes(plan, fetches, &mut nodes)?;
     Ok(nodes)
 }
 
@@ -51,30 +57,36 @@ pub fn plan_of(alloc: Global, nodes: &[Node]) -> Result<Plan, Memory>
     Ok(pop(&mut stack))
 }
 
-/// Puts the nodes of a plan behind others.
+/// Puts the nodes of a plan without the reads of other leaves behind others.
 #[cycle(put_nodes)]
-fn put_nodes(plan: Plan, nodes: &mut Vec<Node>) -> Result<(), Memory>
-    ensures { OnOk result (nodes.new.items ≡ nodes.old.items ++ postfix (shape plan)) }
+fn put_nodes(plan: Plan, fetches: &[Fetch], nodes: &mut Vec<Node>) -> Result<(), Memory>
+    ensures { OnOk result (nodes.new.items ≡ nodes.old.items ++ postfix (reduced (is_fetched fetches.now) (shape plan))) }
 {
     match plan {
         Plan::Empty => Ok(nodes.push(Node::Empty)?),
-        Plan::Fetch(read) => Ok(nodes.push(Node::Fetch(read))?),
+        Plan::Fetch(read) => {
+            if is_fetched(fetches, &read.leaf) {
+                Ok(nodes.push(Node::Fetch(read))?)
+            } else {
+                Ok(nodes.push(Node::Empty)?)
+            }
+        }
         Plan::Filter(conds, below) => {
-            put_below(below, nodes)?;
+            put_below(below, fetches, nodes)?;
             Ok(nodes.push(Node::Filter(conds))?)
         }
         Plan::Project(columns, below) => {
-            put_below(below, nodes)?;
+            put_below(below, fetches, nodes)?;
             Ok(nodes.push(Node::Project(columns))?)
         }
         Plan::Union(one, other) => {
-            put_below(one, nodes)?;
-            put_below(other, nodes)?;
+            put_below(one, fetches, nodes)?;
+            put_below(other, fetches, nodes)?;
             Ok(nodes.push(Node::Union)?)
         }
         Plan::KeyJoin(one, other) => {
-            put_below(one, nodes)?;
-            put_below(other, nodes)?;
+            put_below(one, fetches, nodes)?;
+            put_below(other, fetches, nodes)?;
             Ok(nodes.push(Node::KeyJoin)?)
         }
         Plan::Lookup {
@@ -83,18 +95,18 @@ fn put_nodes(plan: Plan, nodes: &mut Vec<Node>) -> Result<(), Memory>
             left,
             right,
         } => {
-            put_below(left, nodes)?;
-            put_below(right, nodes)?;
+            put_below(left, fetches, nodes)?;
+            put_below(right, fetches, nodes)?;
             Ok(nodes.push(Node::Lookup { col, width })?)
         }
     }
 }
 
 #[cycle(put_nodes)]
-fn put_below(plan: Box<Plan>, nodes: &mut Vec<Node>) -> Result<(), Memory>
-    ensures { OnOk result (nodes.new.items ≡ nodes.old.items ++ postfix (shape plan.value)) }
+fn put_below(plan: Box<Plan>, fetches: &[Fetch], nodes: &mut Vec<Node>) -> Result<(), Memory>
+    ensures { OnOk result (nodes.new.items ≡ nodes.old.items ++ postfix (reduced (is_fetched fetches.now) (shape plan.value))) }
 {
-    put_nodes(Box::into_inner(plan), nodes)
+    put_nodes(Box::into_inner(plan), fetches, nodes)
 }
 
 /// Makes the plan of a node of those on top of the stack, and puts it there in their place.

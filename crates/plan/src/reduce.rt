@@ -108,7 +108,7 @@ fn below_pruned(alloc: Global, plan: Box<Plan>, fetches: &[Fetch]) -> Result<Box
 }
 
 /// Whether some of the fetches reads a leaf.
-fn is_fetched(fetches: &[Fetch], leaf: &Leaf) -> bool
+pub(crate) fn is_fetched(fetches: &[Fetch], leaf: &Leaf) -> bool
     ensures { result ≡ is_fetched fetches.now leaf.now }
 {
     fetches.iter().any(|read| read.leaf == *leaf)

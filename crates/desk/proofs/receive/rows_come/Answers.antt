@@ -4,7 +4,7 @@ use Rattle.catalog.specs.Relation.{catalogue_of}
 use Rattle.protocol.specs.Letters.{txn_name}
 use Rattle.desk.specs.declared.transaction.Stage.TheVariants as stages
 use Rattle.desk.specs.Commit.{is_first}
-use Rattle.desk.specs.Fetches.{are_in, are_in_with, with_rows}
+use Rattle.desk.specs.Fetches.{are_in_with, brought, with_rows}
 use Rattle.desk.specs.Participants.{participant_in}
 use Rattle.desk.specs.Transaction.{ask_of}
 use Rattle.desk.proofs.Arriving.{in_with}
@@ -47,16 +47,16 @@ returns-clause-does c = λ db n of same next are known.
     let worked = c.in_ok-worked.worked in
     let here : u.stage ≡ stages.Reading reading = search rules in
     let first : is_first c.args.rows.now.ticket (participant_in c.args.site.now u.participants).ticket ≡ true = search rules in
-    let list : c.in_ok-asks.asks.items ≡ map (with_rows (catalogue_of c.args.catalog.now) c.args.site.now c.args.rows.now.op c.args.rows.now.parts) reading.asks.items = search rules in
+    let list = map (with_rows (catalogue_of c.args.catalog.now) c.args.site.now c.args.rows.now.op c.args.rows.now.parts) reading.asks.items in
+    let rows : c.as_slice-4.result.now ≡ brought list = search rules in
     let full_in : are_in_with (catalogue_of c.args.catalog.now) c.args.site.now c.args.rows.now.op c.args.rows.now.parts reading.asks.items ≡ true = search rules in
-    let all = ap are_in list ∙ sym (in_with (catalogue_of c.args.catalog.now) c.args.site.now c.args.rows.now.op c.args.rows.now.parts reading.asks.items) ∙ full_in in
-    let here_list = list ∙ ap (λ cat. map (with_rows cat c.args.site.now c.args.rows.now.op c.args.rows.now.parts) reading.asks.items) (sym same) in
-    let slice = c.as_slice-4.ensures.value ∙ here_list in
+    let all = sym (in_with (catalogue_of c.args.catalog.now) c.args.site.now c.args.rows.now.op c.args.rows.now.parts reading.asks.items) ∙ full_in in
+    let same_list = ap (λ cat. map (with_rows cat c.args.site.now c.args.rows.now.op c.args.rows.now.parts) reading.asks.items) (sym same) in
     let home = c.in_ok-worked.ensures.home db n of same next in
     let have = c.in_ok-worked.ensures.participants db n u.participants of same next are.sites in
-    let planned = planned_given_by db n c.args.txn u c.args.site.now c.args.rows.now of c.leaf_names_are_unique.ensures reading here first known c.as_slice-4.result.now slice in
-    works_rows db n c.args.txn u c.works.new.undecided c.args.site.now c.args.rows.now of c.leaf_names_are_unique.ensures reading here first known c.as_slice-4.result.now slice (ap are_in c.as_slice-4.ensures.value ∙ all) worked.answer worked.unsent.items home
-    (c.in_ok-worked.ensures.explained db n (txn_name c.args.txn) of same next planned) c.works.result (c.works.ensures.step db (n, reading.statement) _ are have) (c.works.ensures.within db n are.sites home)
+    let planned = planned_given_by db n c.args.txn u c.args.site.now c.args.rows.now of c.leaf_names_are_unique.ensures reading here first known list same_list in
+    works_rows db n c.args.txn u c.works.new.undecided c.args.site.now c.args.rows.now of c.leaf_names_are_unique.ensures reading here first known list same_list all worked.answer worked.unsent.items home
+    (c.in_ok-worked.ensures.explained db n (txn_name c.args.txn) list rows of same next planned) c.works.result (c.works.ensures.step db (n, reading.statement) _ are have) (c.works.ensures.within db n are.sites home)
 
 pub returns-clause-full : goal.returns-clause-full
 returns-clause-full c = λ db n of same next are known full.
@@ -65,12 +65,12 @@ returns-clause-full c = λ db n of same next are known full.
     let worked = c.in_ok-worked.worked in
     let here : u.stage ≡ stages.Reading reading = search rules in
     let first : is_first c.args.rows.now.ticket (participant_in c.args.site.now u.participants).ticket ≡ true = search rules in
-    let list : c.in_ok-asks.asks.items ≡ map (with_rows (catalogue_of c.args.catalog.now) c.args.site.now c.args.rows.now.op c.args.rows.now.parts) reading.asks.items = search rules in
+    let list = map (with_rows (catalogue_of c.args.catalog.now) c.args.site.now c.args.rows.now.op c.args.rows.now.parts) reading.asks.items in
+    let rows : c.as_slice-4.result.now ≡ brought list = search rules in
     let full_in : are_in_with (catalogue_of c.args.catalog.now) c.args.site.now c.args.rows.now.op c.args.rows.now.parts reading.asks.items ≡ true = search rules in
-    let all = ap are_in list ∙ sym (in_with (catalogue_of c.args.catalog.now) c.args.site.now c.args.rows.now.op c.args.rows.now.parts reading.asks.items) ∙ full_in in
-    let here_list = list ∙ ap (λ cat. map (with_rows cat c.args.site.now c.args.rows.now.op c.args.rows.now.parts) reading.asks.items) (sym same) in
-    let slice = c.as_slice-4.ensures.value ∙ here_list in
-    let planned = planned_given_by db n c.args.txn u c.args.site.now c.args.rows.now of c.leaf_names_are_unique.ensures reading here first known c.as_slice-4.result.now slice in
-    rows_long db n c.args.txn u c.args.site.now c.args.rows.now of c.leaf_names_are_unique.ensures reading here first known c.as_slice-4.result.now slice (ap are_in c.as_slice-4.ensures.value ∙ all) worked.answer worked.unsent.items
-    (c.in_ok-worked.ensures.explained db n (txn_name c.args.txn) of same next planned)
-    (writes_past db c.args.txn u are.sites (write_sites worked.unsent.items) (n, reading.statement) (map (ask_of db) c.as_slice-4.result.now) worked.answer worked.unsent.items (c.works.ensures.sends.full full))
+    let all = sym (in_with (catalogue_of c.args.catalog.now) c.args.site.now c.args.rows.now.op c.args.rows.now.parts reading.asks.items) ∙ full_in in
+    let same_list = ap (λ cat. map (with_rows cat c.args.site.now c.args.rows.now.op c.args.rows.now.parts) reading.asks.items) (sym same) in
+    let planned = planned_given_by db n c.args.txn u c.args.site.now c.args.rows.now of c.leaf_names_are_unique.ensures reading here first known list same_list in
+    rows_long db n c.args.txn u c.args.site.now c.args.rows.now of c.leaf_names_are_unique.ensures reading here first known list same_list all worked.answer worked.unsent.items
+    (c.in_ok-worked.ensures.explained db n (txn_name c.args.txn) list rows of same next planned)
+    (writes_past db c.args.txn u are.sites (write_sites worked.unsent.items) (n, reading.statement) (map (ask_of db) list) worked.answer worked.unsent.items (c.works.ensures.sends.full full))

@@ -9,10 +9,9 @@ use Rattle.desk.proofs.request.start_reading.Goals as goal
 
 pub returns-then-is_empty-clause-does : goal.returns-then-is_empty-clause-does
 returns-then-is_empty-clause-does c = λ db of same are idle planned list.
-    let there = c.as_slice-none.ensures.value in
     let zero : nat_eq (length c.args.asks.items) 0 ≡ true = search rules in
     let none : c.args.asks.items ≡ [] = empty_is c.args.asks.items zero in
-    c.run_at_once.ensures.does db c.args.version of same are idle (subst (IsOfPlan db c.args.version c.args.statement c.args.plan) (sym there) planned) (there ∙ list) (there ∙ none)
+    c.run_at_once.ensures.does db c.args.version of same are idle (subst (IsOfPlan db c.args.version c.args.statement c.args.plan) none planned) (sym none ∙ list)
 
 pub returns-clause-does : goal.returns-clause-does
 returns-clause-does c = λ db of same are idle planned list.
@@ -25,10 +24,9 @@ returns-clause-does c = λ db of same are idle planned list.
 
 pub returns-then-is_empty-clause-full : goal.returns-then-is_empty-clause-full
 returns-then-is_empty-clause-full c = λ db of same are idle planned list full.
-    let there = c.as_slice-none.ensures.value in
     let zero : nat_eq (length c.args.asks.items) 0 ≡ true = search rules in
     let none : c.args.asks.items ≡ [] = empty_is c.args.asks.items zero in
-    c.run_at_once.ensures.full db c.args.version of same are idle (subst (IsOfPlan db c.args.version c.args.statement c.args.plan) (sym there) planned) (there ∙ list) (there ∙ none) full
+    c.run_at_once.ensures.full db c.args.version of same are idle (subst (IsOfPlan db c.args.version c.args.statement c.args.plan) none planned) (sym none ∙ list) full
 
 pub returns-clause-full : goal.returns-clause-full
 returns-clause-full c = λ db of same are idle planned list full.

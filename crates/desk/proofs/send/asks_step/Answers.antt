@@ -11,4 +11,4 @@ returns-clause-left c =
     let numbers = c.in_ok-out.ensures.numbers in
     let size : c.args.asks.now.len ≡ length items = search rules in
     let is : new ≡ with_numbers items c.in_ok-out.out.numbers.items = search rules in
-    ap (λ n. take n (new ++ drop (length new) items)) size ∙ numbered_back c.args.txn items c.args.participants.now c.in_ok-out.out.numbers.items new (search rules) is
+    ap (λ n. take n (new ++ drop (length new) items)) size ∙ numbered_back c.args.txn items c.args.participants.items c.in_ok-out.out.numbers.items new (search rules) is

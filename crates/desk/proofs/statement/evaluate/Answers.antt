@@ -7,7 +7,6 @@ use Rattle.plan.specs.declared.fetch.Fetch.{Fetch}
 use Rattle.plan.specs.Shape.{shape}
 use Rattle.plan.specs.Uniform.{EachRead}
 use Rattle.meaning.specs.declared.statement.Statement.TheVariants as statements
-use Rattle.desk.specs.Fetches.{brought}
 use Rattle.desk.specs.OfCatalogue.{InForce, IsNextOf}
 use Rattle.desk.proofs.AtHomes.{by_home, by_participants, from_home, from_participants}
 use Rattle.desk.proofs.Explaining.{moved_ok, worked_ok}
@@ -22,9 +21,8 @@ returns-then-not-is_refragment-clause-participants c = λ db n participants of s
     if_ok c.outcome_of.result (λ w from. from_participants db of n (catalogue_of c.args.catalog.now) same participants those w.unsent.items from) c.outcome_of.ensures.leaves
 
 pub returns-then-not-is_refragment-clause-explained : goal.returns-then-not-is_refragment-clause-explained
-returns-then-not-is_refragment-clause-explained c = λ db n t of same next planned.
-    let rows : c.as_slice-fetched.result.now ≡ brought c.args.asks.now = c.as_slice-fetched.ensures.value ∙ c.in_ok-fetched.ensures in
-    worked_ok db of n c.leaf_names_are_unique.ensures c.args.statement.now c.args.plan.now c.args.asks.now planned t (catalogue_of c.args.catalog.now) same c.as_slice-fetched.result.now rows c.outcome_of.result
+returns-then-not-is_refragment-clause-explained c = λ db n t asks rows of same next planned.
+    worked_ok db of n c.leaf_names_are_unique.ensures c.args.statement.now c.args.plan.now asks planned t (catalogue_of c.args.catalog.now) same c.args.fetched.now rows c.outcome_of.result
     c.fetches-fetches.result.now c.fetches-fetches.ensures (shape c.in_ok-plan.plan) c.in_ok-plan.ensures.same (sym c.is_refragment.ensures ∙ c.if-not-is_refragment.true) c.outcome_of.ensures.answer c.outcome_of.ensures.writes
 
 pub outcome_of-requires-clause-fetched : goal.outcome_of-requires-clause-fetched
@@ -48,10 +46,9 @@ returns-clause-participants c = λ db n participants of same next those.
     if_ok c.moves_of.result (λ w by. by_participants db of n (catalogue_of c.args.catalog.now) (catalogue_of c.in-Refragment-Some.next.now) same coming w.unsent.items by participants those) c.moves_of.ensures.leaves
 
 pub returns-clause-explained : goal.returns-clause-explained
-returns-clause-explained c = λ db n t of same next planned.
-    let rows : c.as_slice-fetched.result.now ≡ brought c.args.asks.now = c.as_slice-fetched.ensures.value ∙ c.in_ok-fetched.ensures in
+returns-clause-explained c = λ db n t asks rows of same next planned.
     let there : option_copied c.args.next ≡ Some c.in-Refragment-Some.next.now = search rules in
     let coming : InForce db (suc n) c.in-Refragment-Some.next.now = subst (IsNextOf db n) there next in
     let is : c.args.statement.now ≡ statements.Refragment c.in-Refragment-Some.refragment = search rules in
-    moved_ok db of n c.leaf_names_are_unique.ensures c.args.statement.now c.args.plan.now c.args.asks.now planned t (catalogue_of c.args.catalog.now) same c.as_slice-fetched.result.now rows c.moves_of.result
+    moved_ok db of n c.leaf_names_are_unique.ensures c.args.statement.now c.args.plan.now asks planned t (catalogue_of c.args.catalog.now) same c.args.fetched.now rows c.moves_of.result
     c.fetches-fetches.result.now c.fetches-fetches.ensures (shape c.in_ok-plan.plan) c.in_ok-plan.ensures.same c.in-Refragment-Some.refragment is (catalogue_of c.in-Refragment-Some.next.now) coming c.moves_of.ensures.answer c.moves_of.ensures.moves

@@ -1,49 +1,8 @@
 -- Why `fetches::statement_fetches` meets its contract.
-use Rattle.std.proofs.Common.{◌≡◌, ℕ, ◌<◌, ◌≤◌, Some, List, ◌++◌, drop, get_or, length, refl, ap, sym, ◌∙◌, subst, append-nil}
-use Rattle.std.proofs.lemmas.List.{drop_all}
-use Rattle.std.proofs.lemmas.Option.{slice_get_read}
-use Rattle.std.specs.List.{AllByRecursion, slice_get}
-use Rattle.catalog.specs.Catalogue.{Catalogue}
-use Rattle.catalog.specs.Relation.{catalogue_of}
-use Rattle.plan.specs.declared.fetch.Fetch.{Fetch}
-use Rattle.plan.specs.declared.need.Need.{Need}
-use Rattle.plan.specs.declared.need.Needs.{Needs}
-use Rattle.plan.specs.Need.{needs}
-use Rattle.plan.specs.Picked.{TieFits, fetches_by, fetches_for, fetches_from}
-use Rattle.plan.specs.Stated.{AreFetchesOf, ties_of}
-use Rattle.plan.proofs.Joining.{all_at, all_more}
-use Rattle.plan.proofs.PickedStated.{fetches_are, IsTie, need_fit, ties_fit}
-use Rattle.plan.proofs.StatementFits.{IsNeedOf, needs_fit}
 use Rattle.plan.proofs.fetches.statement_fetches.Goals as goal
 
--- the need of a round
-needed_at : (needed list : List Need) (number : ℕ) (need : Need) → list ≡ needed → number < length list → need ≡ get_or list number need → slice_get needed number ≡ Some need
-needed_at needed list number need same within is = ap (λ (all : List Need). slice_get all number) (sym same) ∙ slice_get_read list (length list) number need refl within is
-
--- behind the last need nothing is left
-found_all : (catalogue : Catalogue) (needed : Needs) (list : List Need) (number : ℕ) (found : List Fetch) → list ≡ needed.relations → length list ≤ number → found ++ fetches_from catalogue needed number (drop number needed.relations) ≡ fetches_for catalogue needed →
-    found ≡ fetches_for catalogue needed
-found_all catalogue needed list number found same past all =
-    let past_all : length needed.relations ≤ number = subst (λ (ns : List Need). length ns ≤ number) same past in
-    sym (append-nil found) ∙ ap (λ (rest : List Need). found ++ fetches_from catalogue needed number rest) (sym (drop_all number needed.relations past_all)) ∙ all
-
-pub need_fetches-requires-clause-need : goal.need_fetches-requires-clause-need
-need_fetches-requires-clause-need c =
-    let catalogue = catalogue_of c.args.catalog.now in
-    let here : slice_get (needs c.args.statement.now).relations c.loop-number.number ≡ Some c.need-item.result = needed_at (needs c.args.statement.now).relations c.as_slice-need-items.result.now c.loop-number.number c.need-item.result (c.as_slice-need-items.ensures ∙ ap (λ (ns : Needs). ns.relations) c.in_ok-needs.ensures) c.loop-number-test.true c.need-item.is in
-    need_fit catalogue c.need-item.result (all_at (IsNeedOf catalogue) (needs c.args.statement.now).relations c.loop-number.number c.need-item.result (needs_fit catalogue c.args.statement.now c.relations-relations.ensures.formed c.relations-relations.ensures.valid c.requires) here)
-
-pub need_fetches-requires-clause-ties : goal.need_fetches-requires-clause-ties
-need_fetches-requires-clause-ties c =
-    let catalogue = catalogue_of c.args.catalog.now in
-    let here : slice_get (needs c.args.statement.now).relations c.loop-number.number ≡ Some c.need-item.result = needed_at (needs c.args.statement.now).relations c.as_slice-need-items.result.now c.loop-number.number c.need-item.result (c.as_slice-need-items.ensures ∙ ap (λ (ns : Needs). ns.relations) c.in_ok-needs.ensures) c.loop-number-test.true c.need-item.is in
-    let fit = ties_fit catalogue c.args.statement.now c.loop-number.number c.need-item.result c.relations-relations.ensures.formed c.relations-relations.ensures.valid c.requires here in
-    let Fit : Needs → Type 0 = λ ns. AllByRecursion (TieFits catalogue c.need-item.result) (ties_of ns c.loop-number.number) in
-    subst Fit (sym c.in_ok-needs.ensures) (all_more (IsTie catalogue c.need-item.result) (TieFits catalogue c.need-item.result) (ties_of (needs c.args.statement.now) c.loop-number.number) (λ tie is. is.fits) fit)
+pub needed_fetches-requires : goal.needed_fetches-requires
+needed_fetches-requires c = record { statement = c.args.statement.now; are = c.in_ok-needs.ensures; of_schemas = c.requires }
 
 pub returns : goal.returns
-returns c =
-    let catalogue = catalogue_of c.args.catalog.now in
-    let found : c.loop-number.fetches.items ≡ fetches_by catalogue c.args.statement.now =
-    found_all catalogue (needs c.args.statement.now) c.as_slice-need-items.result.now c.loop-number.number c.loop-number.fetches.items (c.as_slice-need-items.ensures ∙ ap (λ (ns : Needs). ns.relations) c.in_ok-needs.ensures) c.loop-number-test.false c.loop-number.invariant in
-    subst (AreFetchesOf catalogue c.args.statement.now) (sym found) (fetches_are c.some_leaf_serves.ensures.whole catalogue c.args.statement.now c.relations-relations.ensures.formed c.relations-relations.ensures.valid c.requires)
+returns c = c.needed_fetches.ensures c.args.statement.now c.in_ok-needs.ensures c.requires

@@ -1,7 +1,7 @@
--- Why `localize::localize` meets its contract.
+-- Why `localize::localize_needs` meets its contract.
 use Rattle.catalog.specs.Relation.{catalogue_of}
 use Rattle.plan.proofs.Planned.{planned}
-use Rattle.plan.proofs.localize.localize.Goals as goal
+use Rattle.plan.proofs.localize.localize_needs.Goals as goal
 
 pub returns : goal.returns
 returns c =
