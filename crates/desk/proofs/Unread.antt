@@ -5,7 +5,7 @@ use Rattle.meaning.specs.declared.schema.RelationSchema.{RelationSchema}
 use Rattle.meaning.specs.declared.statement.Refragment.{Refragment}
 use Rattle.meaning.specs.declared.statement.Statement.{Statement}
 use Rattle.meaning.specs.declared.statement.Statement.TheVariants as statement
-use Rattle.meaning.specs.Statement.{IsStatementOf}
+use Rattle.meaning.specs.Statement.{IsStatementOf, is_refragment}
 use Rattle.reader.specs.declared.command.Command.{Command}
 use Rattle.reader.specs.declared.command.Command.TheVariants as command
 use Rattle.reader.specs.declared.fault.Rule.TheVariants as rules
@@ -15,9 +15,14 @@ use Rattle.reader.specs.Fault.{Fault}
 use Rattle.desk.specs.declared.refusal.Refusal.{Refusal}
 use Rattle.desk.specs.declared.refusal.Refusal.TheVariants as refusal
 use Rattle.protocol.specs.Desk as protocol
-use Rattle.desk.specs.Does.{IsNoStatement}
+use Rattle.desk.specs.Does.{IsNoStatement, IsReadAs}
 use Rattle.desk.specs.Refragmented.{IsNoRefragment, is_refragment_command}
 use Rattle.desk.specs.Request.{refused_as}
+
+-- a statement of a text, which fits the schema and is no REFRAGMENT, is what the text is read as
+pub read_as : (schema : List RelationSchema) (text : List ℕ) (result : Result Statement Refusal) → IfOk result (λ stated. IsTextOf schema text (command.Run stated)) → IfOk result (IsStatementOf schema) → IfOk result (λ stated. is_refragment stated ≡ false) → IfOk result (IsReadAs schema text)
+read_as schema text (Ok stated) spelled fits ordinary = record { spelled = spelled; fits = fits; ordinary = ordinary }
+read_as schema text (Err told) spelled fits ordinary = tt
 
 module _ (there schema : List RelationSchema) (same : there ≡ schema) where
   pub spelled_by : (text : List ℕ) (given : Command) (result : Result Statement Refusal) → IsTextOf there text given → IfOk result (λ stated. given ≡ command.Run stated) → IfOk result (λ stated. IsTextOf schema text (command.Run stated))

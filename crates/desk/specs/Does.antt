@@ -72,6 +72,12 @@ pub record IsRefragment (schema : List RelationSchema) (text : List ℕ) (told :
   pub spelled : IsTextOf schema text (command.Run (statements.Refragment refragment))
   pub is : told ≡ refusal.Busy
 
+-- what the reader has of a text is this statement, which a transaction may state
+pub record IsReadAs (schema : List RelationSchema) (text : List ℕ) (statement : Statement) : Type 0 where
+  pub spelled : IsTextOf schema text (command.Run statement)
+  pub fits : IsStatementOf schema statement
+  pub ordinary : is_refragment statement ≡ false
+
 -- a text that no transaction states
 abbrev pub IsNoStatement : List RelationSchema → List ℕ → refusals.Refusal → Type 0
 IsNoStatement schema text told = IsUnread schema text told ⊎ IsRefragment schema text told

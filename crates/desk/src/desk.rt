@@ -1,6 +1,6 @@
 //! The coordinator's machine.
 
-ghost use Rattle.std.specs.Prelude.{◌≡◌, ◌≢◌, ◌⊎◌, ◌+◌, ◌≤◌, ◌^◌, ◌==◌, ◌∷◌, [], List, map, None, Some, true, false, Err, IfOk, IfErr, OnOk, if◌then◌else◌};
+ghost use Rattle.std.specs.Prelude.{◌≡◌, ◌≢◌, ◌⊎◌, ◌+◌, ◌≤◌, ◌^◌, ◌==◌, ◌∷◌, [], List, map, None, Some, true, false, Err, IfOk, IfErr, IfSome, OnOk, if◌then◌else◌};
 ghost use Rattle.std.specs.BTreeMap.{IsOrdered};
 ghost use Rattle.std.specs.Option.{option_copied, option_map};
 ghost use Rattle.meaning.specs.declared.statement.Statement.{Statement as StatementNow};
@@ -19,7 +19,7 @@ ghost use Rattle.store.specs.declared.reply.Reply.{Reply};
 ghost use Rattle.desk.specs.declared.refusal.Refusal.TheVariants as refusals;
 ghost use Rattle.desk.specs.Request.{IsOver, WhyNotStated, refused_as, txn_in};
 ghost use Rattle.desk.specs.Database.{Database, language};
-ghost use Rattle.desk.specs.Does.{IsNoStatement, Runs, RunsPastLimits, States, StatesPastLimits};
+ghost use Rattle.desk.specs.Does.{IsNoStatement, IsReadAs, Runs, RunsPastLimits, States, StatesPastLimits};
 ghost use Rattle.desk.specs.Frame.{RefragmentsDesk, RestartsDesk, StatesPlainly, StepsPlainly, TakesLetter, TakesUnder};
 ghost use Rattle.desk.specs.OfCatalogue.{InForce, IsOfCatalogue, first_in, follow, from_number};
 ghost use Rattle.desk.specs.Recovery.{IsStrange, Rises};
@@ -197,7 +197,21 @@ impl<S: DeskStore> Desk<S> {
         ensures full { (db : Database) → IsOfCatalogue db → InForce db self.old.volatile.version self.old.catalog → Fits db (S.kept self.old.store) (volatile_of self.old.volatile) → result ≡ Err refusals.Full
             → StatesPastLimits db (volatile_of self.old.volatile) txn text.now }
     {
-        call_statement(&mut self.volatile, &self.catalog, txn, text)
+        self.state(txn, text, None)
+    }
+
+    /// So where it may be known what the text was read as before under this catalogue's schema: then it isn't read again.
+    pub fn state(&mut self, txn: Txn, text: &str, known: Option<Statement>) -> Result<Out, Refusal>
+        requires { IfSome known (IsReadAs (schemas_of (catalogue_of self.old.catalog)) text.now) }
+        ensures ok { (db : Database) → IsOfCatalogue db → InForce db self.old.volatile.version self.old.catalog → Fits db (S.kept self.old.store) (volatile_of self.old.volatile)
+            → IfOk result (λ out. States db (volatile_of self.old.volatile) (S.kept self.new.store) (volatile_of self.new.volatile) txn text.now out.letters out.replies) }
+        ensures states { StatesPlainly self.old self.new txn result }
+        ensures told { (db : Database) (statement : StatementNow) → IfErr result (λ told. (told ≡ refusals.Memory) ⊎ WhyNotStated db (volatile_of self.old.volatile) txn statement told
+            ⊎ ((refusal (State (self.old.volatile.version, statement)) (txn_in db (volatile_of self.old.volatile) txn) ≡ None) × (IsNoStatement (schemas_of (catalogue_of self.old.catalog)) text.now told ⊎ (told ≡ refusals.Full)))) }
+        ensures full { (db : Database) → IsOfCatalogue db → InForce db self.old.volatile.version self.old.catalog → Fits db (S.kept self.old.store) (volatile_of self.old.volatile) → result ≡ Err refusals.Full
+            → StatesPastLimits db (volatile_of self.old.volatile) txn text.now }
+    {
+        call_statement(&mut self.volatile, &self.catalog, txn, text, known)
     }
 
     /// A statement of a transaction, as the reader has it under the catalogue's schema. After a refusal nothing has changed.

@@ -1,6 +1,6 @@
 //! What clients ask: a transaction begins, states a statement, and ends.
 
-ghost use Rattle.std.specs.Prelude.{◌≡◌, ℕ, ◌<◌, ◌⊎◌, [], vec_len, false, None, Some, true, IfOk, IfErr, OnOk, OnErr, ◌≢◌, Err, map};
+ghost use Rattle.std.specs.Prelude.{◌≡◌, ℕ, ◌<◌, ◌⊎◌, [], vec_len, false, None, Some, true, IfOk, IfErr, IfSome, OnOk, OnErr, ◌≢◌, Err, map};
 ghost use Rattle.std.specs.Vec.{vec_capacity};
 ghost use Rattle.std.specs.Option.{option_copied, option_map};
 ghost use Rattle.reader.specs.Printable.{AreDistinct};
@@ -29,7 +29,7 @@ ghost use Rattle.store.specs.Name.{txn_cmp};
 ghost use Rattle.desk.specs.declared.transaction.TxnState.TheVariants as standings;
 ghost use Rattle.desk.specs.declared.transaction.Stage.TheVariants as stages;
 ghost use Rattle.desk.specs.declared.transaction.Undecided.{Undecided as UndecidedNow};
-ghost use Rattle.desk.specs.Does.{Does, DoesIn, GoesOn, IsLong, IsNoStatement, IsShort, Runs, RunsPastLimits, States, StatesPastLimits};
+ghost use Rattle.desk.specs.Does.{Does, DoesIn, GoesOn, IsLong, IsNoStatement, IsReadAs, IsShort, Runs, RunsPastLimits, States, StatesPastLimits};
 ghost use Rattle.desk.specs.OfCatalogue.{InForce, IsOfCatalogue};
 ghost use Rattle.desk.specs.Planned.{IsOfPlan, ask_from};
 ghost use Rattle.desk.specs.Transaction.{undecided_of};
@@ -377,6 +377,23 @@ fn statement_of(alloc: Global, catalog: &Catalog, text: &str) -> Result<Statemen
     }
 }
 
+/// The statement of a text, under the catalogue's schema. One that it was read as before isn't read again.
+fn statement_or_read(
+    alloc: Global,
+    catalog: &Catalog,
+    text: &str,
+    known: Option<Statement>,
+) -> Result<Statement, Refusal>
+    requires { IfSome known (IsReadAs (schemas_of (catalogue_of catalog.now)) text.now) }
+    ensures read { IfOk result (IsReadAs (schemas_of (catalogue_of catalog.now)) text.now) }
+    ensures told { IfErr result (λ told. (told ≡ refusals.Memory) ⊎ IsNoStatement (schemas_of (catalogue_of catalog.now)) text.now told) }
+{
+    match known {
+        Some(statement) => Ok(statement),
+        None => statement_of(alloc, catalog, text),
+    }
+}
+
 /// Why a step of a statement could not be made: a limit is reached, or memory ran out.
 pub(crate) fn limit_or_memory(refusal: Refusal) -> Refusal
     ensures own { (result ≡ refusals.Memory) ⊎ (result ≡ refusals.Full) }
@@ -432,13 +449,16 @@ pub(crate) fn call_run(
     }
 }
 
-/// A statement of a transaction, by its text, which is read only where the transaction may state something.
+/// A statement of a transaction, by its text, which is read only where the transaction may state something, and only where it isn't
+/// known what it was read as before.
 pub(crate) fn call_statement(
     volatile: &mut Volatile,
     catalog: &Catalog,
     txn: Txn,
     text: &str,
+    known: Option<Statement>,
 ) -> Result<Out, Refusal>
+    requires { IfSome known (IsReadAs (schemas_of (catalogue_of catalog.now)) text.now) }
     ensures ok { (db : Database) (kept : DeskContent) → IsOfCatalogue db → InForce db volatile.old.version catalog.now → Fits db kept (volatile_of volatile.old)
         → IfOk result (λ out. States db (volatile_of volatile.old) kept (volatile_of volatile.new) txn text.now out.letters out.replies) }
     ensures states { StatesInMemory volatile.old volatile.new txn result }
@@ -448,6 +468,6 @@ pub(crate) fn call_statement(
         → StatesPastLimits db (volatile_of volatile.old) txn text.now }
 {
     may_state(volatile, &txn)?;
-    let statement = statement_of(volatile.alloc, catalog, text)?;
+    let statement = statement_or_read(volatile.alloc, catalog, text, known)?;
     call_run(volatile, catalog, txn, statement)
 }

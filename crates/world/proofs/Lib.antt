@@ -46,6 +46,7 @@ pub mod Fragments
 pub mod Spared
 pub mod Deliveries
 pub mod Reaching
+pub mod ReadOnce
 pub mod Beginning
 pub mod Smoothly
 pub mod DatabaseIsHoused

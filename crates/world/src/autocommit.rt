@@ -1,6 +1,9 @@
 //! A statement that is a transaction of its own.
 
-ghost use Rattle.std.specs.Prelude.{◌≡◌, ◌++◌, false, filter, IfErr, IfOk, OnOk};
+ghost use Rattle.std.specs.Prelude.{◌≡◌, ◌++◌, false, filter, IfErr, IfOk, IfSome, OnOk, length};
+ghost use Rattle.catalog.specs.FragmentLeaf.{schemas_of};
+ghost use Rattle.catalog.specs.Relation.{catalogue_of};
+ghost use Rattle.desk.specs.Does.{IsReadAs};
 ghost use Rattle.desk.specs.declared.refusal.Refusal.TheVariants as refusals;
 ghost use Rattle.world.specs.Client.{autocommit_reply, is_answer, is_commit, is_end, tells};
 ghost use Rattle.world.specs.Commands.{IsDecided, IsLone, IsStated, TakesBack, heard_in};
@@ -12,6 +15,7 @@ use crate::client::{Begun, begin, commit, roll_back, state};
 use crate::machines::Machines;
 use desk::refusal::Refusal;
 use desk::reply::{Notice, Reply};
+use meaning::statement::Statement;
 use store::desk_store::DeskStore;
 use store::name::Txn;
 use store::site_store::SiteStore;
@@ -180,12 +184,14 @@ fn run_begun<D: DeskStore, S: SiteStore>(
     machines: &mut Machines<D, S>,
     begun: Begun,
     text: &str,
+    known: Option<Statement>,
 ) -> Result<Vec<Notice>, Refusal>
+    requires { IfSome known (IsReadAs (schemas_of (catalogue_of machines.old.desk.catalog)) text.now) }
     ensures { ComesTo (OfStores D.is_clean S.is_clean) (OfStores D.is_sound S.is_sound) (counted D.kept S.kept D.refused S.refused) machines.old machines.new result
         (λ db done moves. IsStated text.now begun.txn begun.heard.items moves (heard_in (λ heard. heard.items) done)) }
 {
     let Begun { txn, heard } = begun;
-    match state(machines, txn, text) {
+    match state(machines, txn, text, known) {
         Ok(answered) => go_on(machines, txn, heard, answered),
         Err(refusal) => {
             if is_stop(&refusal) {
@@ -196,17 +202,38 @@ fn run_begun<D: DeskStore, S: SiteStore>(
     }
 }
 
-/// A statement is a transaction of its own, by its text: its commit is asked for, unless it has ended by itself. Its client hears the
+/// What a text was read as, while the same number of catalogues come later: then the same one is in force.
+fn still_read<D: DeskStore, S: SiteStore>(
+    machines: &Machines<D, S>,
+    later: usize,
+    statement: Statement,
+) -> Option<Statement>
+    ensures { IfSome result (λ known. (known ≡ statement) × (length machines.now.desk.later.items ≡ later)) }
+{
+    if machines.desk.later().len() == later {
+        Some(statement)
+    } else {
+        None
+    }
+}
+
+/// A statement is a transaction of its own, by its text and what that was read as: its commit is asked for, unless it has ended by itself. Its client hears the
 /// answer where it was committed, and else why not.
 pub(crate) fn run_autocommit<D: DeskStore, S: SiteStore>(
     machines: &mut Machines<D, S>,
     text: &str,
+    statement: Statement,
 ) -> Result<Vec<Notice>, Refusal>
+    requires { IsReadAs (schemas_of (catalogue_of machines.old.desk.catalog)) text.now statement }
     ensures { ComesTo (OfStores D.is_clean S.is_clean) (OfStores D.is_sound S.is_sound) (counted D.kept S.kept D.refused S.refused) machines.old machines.new result
         (λ db done moves. IsLone text.now moves (heard_in (λ heard. heard.items) done)) }
 {
+    let later = machines.desk.later().len();
     match begin(machines) {
-        Ok(begun) => run_begun(machines, begun, text),
+        Ok(begun) => {
+            let known = still_read(machines, later, statement);
+            run_begun(machines, begun, text, known)
+        }
         Err(refusal) => Err(refusal),
     }
 }

@@ -104,7 +104,7 @@ fn state_all<D: DeskStore, S: SiteStore>(
     let mut came = Vec::new(machines.alloc);
     for text in texts {
         make_room(&mut came)?;
-        let one = told(state(machines, txn, text.as_str()))?;
+        let one = told(state(machines, txn, text.as_str(), None))?;
         let ended = has_ended(&one);
         came.push_reserved(one);
         if ended {

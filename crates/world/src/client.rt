@@ -1,7 +1,10 @@
 //! Calls of one client, each with all letters that it brings about.
 
-ghost use Rattle.std.specs.Prelude.{◌≡◌, ◌≢◌, [], Some, slice_get, IfErr, IfOk, OnErr};
+ghost use Rattle.std.specs.Prelude.{◌≡◌, ◌≢◌, [], Some, slice_get, IfErr, IfOk, IfSome, OnErr};
 ghost use Rattle.std.specs.Option.{option_map};
+ghost use Rattle.catalog.specs.FragmentLeaf.{schemas_of};
+ghost use Rattle.catalog.specs.Relation.{catalogue_of};
+ghost use Rattle.desk.specs.Does.{IsReadAs};
 ghost use Rattle.desk.specs.declared.refusal.Refusal.TheVariants as refusals;
 ghost use Rattle.world.specs.declared.event.Call.TheVariants as call;
 ghost use Rattle.world.specs.Counted.{counts};
@@ -15,6 +18,7 @@ use crate::machines::Machines;
 use crate::mailbox::deliver_all;
 use desk::refusal::Refusal;
 use desk::reply::Notice;
+use meaning::statement::Statement;
 use store::desk_store::DeskStore;
 use store::name::Txn;
 use store::site_store::SiteStore;
@@ -72,15 +76,17 @@ pub(crate) fn begin<D: DeskStore, S: SiteStore>(
     }
 }
 
-/// A statement of a transaction is stated, by its text.
+/// A statement of a transaction is stated, by its text. One that it is known to be read as isn't read again.
 pub(crate) fn state<D: DeskStore, S: SiteStore>(
     machines: &mut Machines<D, S>,
     txn: Txn,
     text: &str,
+    known: Option<Statement>,
 ) -> Result<Vec<Notice>, Refusal>
+    requires { IfSome known (IsReadAs (schemas_of (catalogue_of machines.old.desk.catalog)) text.now) }
     ensures { ComesTo (OfStores D.is_clean S.is_clean) (OfStores D.is_sound S.is_sound) (counted D.kept S.kept D.refused S.refused) machines.old machines.new result (λ db. IsOne (λ heard. States txn text.now heard.items) (call.State txn text.now)) }
 {
-    match machines.statement(txn, text) {
+    match machines.statement(txn, text, known) {
         Ok(out) => deliver_all(machines, out),
         Err(refusal) => Err(refusal),
     }

@@ -1,9 +1,10 @@
 //! The command of a text, and what is open or has stopped after it.
 
-ghost use Rattle.std.specs.Prelude.{◌≡◌, ◌≢◌, ◌⊎◌, IfErr, IfOk, Some};
+ghost use Rattle.std.specs.Prelude.{◌≡◌, ◌≢◌, ◌⊎◌, false, IfErr, IfOk, IfSome, Some};
 ghost use Rattle.catalog.specs.FragmentLeaf.{schemas_of};
 ghost use Rattle.catalog.specs.Relation.{catalogue_of};
-ghost use Rattle.reader.specs.Command.{IsTextOf};
+ghost use Rattle.meaning.specs.Statement.{is_refragment};
+ghost use Rattle.reader.specs.Command.{IsCommandOf, IsTextOf};
 ghost use Rattle.desk.specs.declared.refusal.Refusal.TheVariants as refusals;
 ghost use Rattle.world.specs.Client.{still_open};
 ghost use Rattle.world.specs.Commands.{IsUnreadable};
@@ -13,6 +14,7 @@ use crate::autocommit::{is_stop, tells_end};
 use catalog::catalogue::Catalog;
 use desk::refusal::Refusal;
 use desk::reply::Notice;
+use meaning::statement::Statement;
 use reader::command::Command;
 use reader::fault::{ReadFault, Rule};
 use reader::read::read;
@@ -33,11 +35,23 @@ fn reader_refusal(fault: ReadFault) -> Refusal
 /// The command of a text, under the catalogue's schema.
 pub fn command_of(alloc: Global, catalog: &Catalog, text: &str) -> Result<Command, Refusal>
     ensures read { IfOk result (λ command. IsTextOf (schemas_of (catalogue_of catalog.now)) text.now command) }
+    ensures fits { IfOk result (IsCommandOf (schemas_of (catalogue_of catalog.now))) }
     ensures reader_refusal { IfErr result (IsUnreadable (schemas_of (catalogue_of catalog.now)) text.now) }
 {
     match read(alloc, text, catalog.schema()) {
         Ok(command) => Ok(command),
         Err(fault) => Err(reader_refusal(fault)),
+    }
+}
+
+/// A statement, unless it is a REFRAGMENT.
+pub(crate) fn ordinary(statement: Statement) -> Option<Statement>
+    ensures { IfSome result (λ same. (same ≡ statement) × (is_refragment statement ≡ false)) }
+{
+    if statement.is_refragment() {
+        None
+    } else {
+        Some(statement)
     }
 }
 

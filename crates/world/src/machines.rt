@@ -1,14 +1,16 @@
 //! The machines of a database, its coordinator and its sites, and what an event does to them.
 
-ghost use Rattle.std.specs.Prelude.{◌≡◌, [], not, ◌≢◌, ◌⊎◌, ◌++◌, ◌∷◌, false, true, List, Err, IfOk, IfErr, OnErr, nat_eq};
+ghost use Rattle.std.specs.Prelude.{◌≡◌, [], not, ◌≢◌, ◌⊎◌, ◌++◌, ◌∷◌, false, true, List, Err, IfOk, IfErr, IfSome, OnErr, nat_eq};
 ghost use Rattle.protocol.specs.Letters.{kept_in};
 ghost use Rattle.world.specs.Machines.{is_order, is_letter};
 ghost use Rattle.std.specs.Cmp.Lexicographic.{pointwise};
 ghost use Rattle.std.specs.List.{list_any};
 ghost use Rattle.meaning.specs.Whole.{Relations};
+ghost use Rattle.catalog.specs.FragmentLeaf.{schemas_of};
 ghost use Rattle.catalog.specs.Relation.{catalogue_of};
 ghost use Rattle.protocol.specs.Desk.{Deed};
 ghost use Rattle.desk.specs.Database.{Database, language};
+ghost use Rattle.desk.specs.Does.{IsReadAs};
 ghost use Rattle.desk.specs.OfCatalogue.{InForce, IsOfCatalogue};
 ghost use Rattle.world.specs.Frame.{CallsNoStore, LeavesDatabase, LeavesMachines, StaysInForce, StaysOnErr, StaysOrFollows};
 ghost use Rattle.world.specs.Listed.{FitsList, StandsIn};
@@ -35,6 +37,7 @@ use catalog::catalogue::Catalog;
 use desk::desk::Desk;
 use desk::refusal::Refusal;
 use desk::reply::Out;
+use meaning::statement::Statement;
 use site::fault::SiteFault;
 use site::site::Site;
 use std::alloc::Global;
@@ -167,8 +170,14 @@ impl<D: DeskStore, S: SiteStore> Machines<D, S> {
         self.desk.restart_kept(kept)
     }
 
-    /// A statement of a transaction, by its text.
-    pub(crate) fn statement(&mut self, txn: Txn, text: &str) -> Result<Out, Refusal>
+    /// A statement of a transaction, by its text. One that it is known to be read as isn't read again.
+    pub(crate) fn statement(
+        &mut self,
+        txn: Txn,
+        text: &str,
+        known: Option<Statement>,
+    ) -> Result<Out, Refusal>
+        requires { IfSome known (IsReadAs (schemas_of (catalogue_of self.old.desk.catalog)) text.now) }
         ensures leaves { LeavesMachines D.is_clean S.is_clean D.is_sound S.is_sound D.refused S.refused self.old self.new }
         ensures ok { (db : Database) → IsOfCatalogue db → InForce db self.old.desk.volatile.version self.old.desk.catalog → AreFit db (held D.kept S.kept self.old)
             → IfOk result (λ out. Stated db txn text.now (held D.kept S.kept self.old) (held D.kept S.kept self.new) out.letters out.replies) }
@@ -180,7 +189,7 @@ impl<D: DeskStore, S: SiteStore> Machines<D, S> {
         ensures blames { IfErr result (StopsFor (counts D.refused S.refused self.old) (counts D.refused S.refused self.new)) }
         ensures err { OnErr result (held D.kept S.kept self.new ≡ held D.kept S.kept self.old) }
     {
-        self.desk.statement(txn, text)
+        self.desk.state(txn, text, known)
     }
 
     /// A relation gets the split of the next catalogue, by the text of the REFRAGMENT: a transaction of its own begins and states that.
@@ -393,7 +402,7 @@ fn call<D: DeskStore, S: SiteStore>(
 {
     match call {
         Call::Begin => machines.begin(),
-        Call::State(txn, text) => machines.statement(*txn, text.as_str()),
+        Call::State(txn, text) => machines.statement(*txn, text.as_str(), None),
         Call::Commit(txn) => machines.commit(*txn),
         Call::Rollback(txn) => machines.rollback(*txn),
         Call::GiveUp(txn) => machines.give_up(*txn),

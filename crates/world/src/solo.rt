@@ -3,7 +3,7 @@
 ghost use Rattle.std.specs.Prelude.{◌≡◌, ◌≢◌, ◌⊎◌, ◌∷◌, ℕ, true, List, [], None, Some, Err, IfErr, IfOk, OnErr, OnOk, ◌++◌, is_some, if◌then◌else◌, length, map};
 ghost use Rattle.std.specs.Option.{option_map};
 ghost use Rattle.meaning.specs.declared.statement.Statement.{Statement as StatementNow};
-ghost use Rattle.meaning.specs.Statement.{is_refragment};
+ghost use Rattle.meaning.specs.Statement.{IsStatementOf, is_refragment};
 ghost use Rattle.meaning.specs.Whole.{FitsSchema, Relations};
 ghost use Rattle.catalog.specs.Catalogue.{Catalogue};
 ghost use Rattle.catalog.specs.FragmentLeaf.{schemas_of};
@@ -12,7 +12,7 @@ ghost use Rattle.reader.specs.declared.command.Command.TheVariants.{Begin, Commi
 ghost use Rattle.reader.specs.declared.command.Command.{Command as CommandNow};
 ghost use Rattle.store.specs.declared.name.Txn.{Txn as TxnNow};
 ghost use Rattle.world.specs.Commands.{Executes, IsCommand, IsNoCommand, IsUnreadable, UnlessStopped, heard_in};
-ghost use Rattle.reader.specs.Command.{IsTextOf};
+ghost use Rattle.reader.specs.Command.{IsCommandOf, IsTextOf};
 ghost use Rattle.protocol.specs.Desk.{Deed};
 ghost use Rattle.store.specs.PlainDesk.{kept_of as desk_kept};
 ghost use Rattle.store.specs.PlainSite.{IsSound, kept_of};
@@ -47,7 +47,7 @@ use crate::autocommit::run_autocommit;
 use crate::batch::run_all;
 use crate::chain::first_of;
 use crate::client::{begin, commit, roll_back, state};
-use crate::command::{command_of, still_open, stopped_by};
+use crate::command::{command_of, ordinary, still_open, stopped_by};
 use crate::fault::Fault;
 use crate::laws::{
     begins_anew, chain_is_listed, commands_follow, database_is_of_catalogue, grows_quiet,
@@ -279,19 +279,21 @@ impl<D: DeskStore, S: SiteStore> Solo<D, S> {
     }
 
     /// A statement: of the open transaction, or a transaction of its own.
-    fn states(&mut self, statement: &Statement, text: &str) -> Result<Vec<Notice>, Refusal>
+    fn states(&mut self, statement: Statement, text: &str) -> Result<Vec<Notice>, Refusal>
+        requires spelled { IsTextOf (schemas_of (catalogue_of self.old.machines.desk.catalog)) text.now (Run statement) }
+        requires fits { IsStatementOf (schemas_of (catalogue_of self.old.machines.desk.catalog)) statement }
         ensures comes { ComesTo (OfStores D.is_clean S.is_clean) (OfStores D.is_sound S.is_sound) (counted D.kept S.kept D.refused S.refused) self.old.machines self.new.machines result
-            (λ db done moves. IsTextOf db.schemas text.now (Run statement.now) → IsCommand db.schemas text.now self.old.current self.new.current moves (heard_in (λ heard. heard.items) done)) }
-        ensures finds_none { self.old.current ≡ None → is_refragment statement.now ≡ true → FindsNone (OfStores D.is_clean S.is_clean) (OfStores D.is_sound S.is_sound) (counted D.kept S.kept D.refused S.refused) self.old.machines self.new.machines result text.now }
+            (λ db done moves. IsTextOf db.schemas text.now (Run statement) → IsCommand db.schemas text.now self.old.current self.new.current moves (heard_in (λ heard. heard.items) done)) }
+        ensures finds_none { self.old.current ≡ None → is_refragment statement ≡ true → FindsNone (OfStores D.is_clean S.is_clean) (OfStores D.is_sound S.is_sound) (counted D.kept S.kept D.refused S.refused) self.old.machines self.new.machines result text.now }
         ensures still { OnErr result (self.new.current ≡ self.old.current) }
     {
         let Some(txn) = self.current else {
             if statement.is_refragment() {
                 return run_refragment(&mut self.machines, text);
             }
-            return run_autocommit(&mut self.machines, text);
+            return run_autocommit(&mut self.machines, text, statement);
         };
-        match state(&mut self.machines, txn, text) {
+        match state(&mut self.machines, txn, text, ordinary(statement)) {
             Ok(heard) => {
                 self.current = still_open(txn, heard.as_slice());
                 Ok(heard)
@@ -301,12 +303,14 @@ impl<D: DeskStore, S: SiteStore> Solo<D, S> {
     }
 
     /// This is the command of the text.
-    fn obey(&mut self, command: &Command, text: &str) -> Result<Vec<Notice>, Refusal>
+    fn obey(&mut self, command: Command, text: &str) -> Result<Vec<Notice>, Refusal>
+        requires spelled { IsTextOf (schemas_of (catalogue_of self.old.machines.desk.catalog)) text.now command }
+        requires fits { IsCommandOf (schemas_of (catalogue_of self.old.machines.desk.catalog)) command }
         ensures comes { ComesTo (OfStores D.is_clean S.is_clean) (OfStores D.is_sound S.is_sound) (counted D.kept S.kept D.refused S.refused) self.old.machines self.new.machines result
-            (λ db done moves. IsTextOf db.schemas text.now command.now → IsCommand db.schemas text.now self.old.current self.new.current moves (heard_in (λ heard. heard.items) done)) }
-        ensures inside { (txn : TxnNow) → self.old.current ≡ Some txn → command.now ≡ Begin → result ≡ Err refusals.Busy }
-        ensures outside { self.old.current ≡ None → (command.now ≡ Commit) ⊎ (command.now ≡ Rollback) → result ≡ Err refusals.NoTransaction }
-        ensures finds_none { (statement : StatementNow) → self.old.current ≡ None → command.now ≡ Run statement → is_refragment statement ≡ true → FindsNone (OfStores D.is_clean S.is_clean) (OfStores D.is_sound S.is_sound) (counted D.kept S.kept D.refused S.refused) self.old.machines self.new.machines result text.now }
+            (λ db done moves. IsTextOf db.schemas text.now command → IsCommand db.schemas text.now self.old.current self.new.current moves (heard_in (λ heard. heard.items) done)) }
+        ensures inside { (txn : TxnNow) → self.old.current ≡ Some txn → command ≡ Begin → result ≡ Err refusals.Busy }
+        ensures outside { self.old.current ≡ None → (command ≡ Commit) ⊎ (command ≡ Rollback) → result ≡ Err refusals.NoTransaction }
+        ensures finds_none { (statement : StatementNow) → self.old.current ≡ None → command ≡ Run statement → is_refragment statement ≡ true → FindsNone (OfStores D.is_clean S.is_clean) (OfStores D.is_sound S.is_sound) (counted D.kept S.kept D.refused S.refused) self.old.machines self.new.machines result text.now }
         ensures still { OnErr result (self.new.current ≡ self.old.current) }
     {
         match command {
@@ -329,7 +333,7 @@ impl<D: DeskStore, S: SiteStore> Solo<D, S> {
     {
         one_command();
         match command_of(self.machines.alloc, self.machines.desk.catalog(), text) {
-            Ok(command) => self.obey(&command, text),
+            Ok(command) => self.obey(command, text),
             Err(refusal) => Err(refusal),
         }
     }

@@ -14,14 +14,14 @@ returns-clause-ok c = λ db kept of same fits.
     let schemas = of.schemas c.args.volatile.now.version ∙ ap schemas_of same in
     if_ok c.call_run.result (λ out runs. record {
       statement = statement;
-      spelled = subst (λ (ss : List RelationSchema). IsTextOf ss c.args.text.now (Run statement)) (sym schemas) c.in_ok-statement.ensures.spelled;
-      fits = subst (λ (ss : List RelationSchema). IsStatementOf ss statement) (sym schemas) c.in_ok-statement.ensures.fits;
+      spelled = subst (λ (ss : List RelationSchema). IsTextOf ss c.args.text.now (Run statement)) (sym schemas) c.in_ok-statement.ensures.read.spelled;
+      fits = subst (λ (ss : List RelationSchema). IsStatementOf ss statement) (sym schemas) c.in_ok-statement.ensures.read.fits;
       runs = runs;
     }) (c.call_run.ensures.ok db kept of same fits)
 
 pub returns-clause-told : goal.returns-clause-told
 returns-clause-told c = λ db other.
-    ran_told c.call_run.result _ _ _ _ _ _ _ _ (c.in_ok-may_state.ensures.accepted db c.in_ok-statement.statement) (c.in_ok-may_state.ensures.accepted db other) c.in_ok-statement.ensures.ordinary (c.call_run.ensures.told db)
+    ran_told c.call_run.result _ _ _ _ _ _ _ _ (c.in_ok-may_state.ensures.accepted db c.in_ok-statement.statement) (c.in_ok-may_state.ensures.accepted db other) c.in_ok-statement.ensures.read.ordinary (c.call_run.ensures.told db)
 
 pub returns-in_err-may_state-clause-told : goal.returns-in_err-may_state-clause-told
 returns-in_err-may_state-clause-told c = λ db statement.
@@ -34,8 +34,8 @@ returns-clause-full c = λ db kept of same fits full.
     let schemas = of.schemas c.args.volatile.now.version ∙ ap schemas_of same in
     record {
       statement = statement;
-      spelled = subst (λ (ss : List RelationSchema). IsTextOf ss c.args.text.now (Run statement)) (sym schemas) c.in_ok-statement.ensures.spelled;
-      fits = subst (λ (ss : List RelationSchema). IsStatementOf ss statement) (sym schemas) c.in_ok-statement.ensures.fits;
+      spelled = subst (λ (ss : List RelationSchema). IsTextOf ss c.args.text.now (Run statement)) (sym schemas) c.in_ok-statement.ensures.read.spelled;
+      fits = subst (λ (ss : List RelationSchema). IsStatementOf ss statement) (sym schemas) c.in_ok-statement.ensures.read.fits;
       past = c.call_run.ensures.full db kept of same fits full;
     }
 

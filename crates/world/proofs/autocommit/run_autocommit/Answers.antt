@@ -1,6 +1,7 @@
 -- Why `run_autocommit` meets its contract.
-use Rattle.std.proofs.Common.{refl, sym, subst, inr, Err, ◌++◌}
+use Rattle.std.proofs.Common.{refl, sym, ap, subst, inr, Err, ◌∙◌, ◌++◌, length}
 use Rattle.world.proofs.Calls.{as_kind, then_too}
+use Rattle.world.proofs.ReadOnce.{known_still, same_in_force}
 use Rattle.world.specs.Commands.{IsLone, heard_in}
 use Rattle.world.specs.Contents.{OfStores, counted}
 use Rattle.world.specs.Course.{Begins, IsOne}
@@ -30,3 +31,6 @@ returns-in-Err g c =
     let first = subst (λ r. ComesTo clean sound view old new r (λ db. IsOne (λ begun. Begins begun.txn begun.heard.items) (call.Begin))) c.in-Err.is c.begin.ensures in
     as_kind clean sound view old new _ _ (λ blamed. blamed) (λ stop. stop)
     (λ db of n is moves k. inr (subst (λ ms. IsLone c.args.text.now ms (Err c.in-Err.refusal)) (sym k) refl)) first
+
+pub run_begun-requires : goal.run_begun-requires
+run_begun-requires g c = known_still c.args.machines.now.desk.catalog c.begin.new.machines.desk.catalog c.args.text.now c.args.statement c.still_read.result _ _ (λ long. same_in_force c.begin.ensures.catalogs (long ∙ c.len.ensures ∙ ap length c.later.ensures)) c.requires c.still_read.ensures

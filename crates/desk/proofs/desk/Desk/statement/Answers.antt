@@ -2,4 +2,4 @@
 use Rattle.desk.proofs.desk.Desk.statement.Goals as goal
 
 pub returns-clause-full : goal.returns-clause-full
-returns-clause-full g c = λ db of same fits full. c.call_statement.ensures.full db (g.S.DeskStore.kept c.args.self.now.store) of same fits full
+returns-clause-full g c = λ db of same fits full. c.state.ensures.full db of same fits full

@@ -7,7 +7,7 @@ use Rattle.world.specs.Contents.{OfStores}
 use Rattle.world.proofs.Calls.{narrowed_of, unread}
 use Rattle.world.proofs.Denials.{only_memory}
 use Rattle.meaning.specs.declared.schema.RelationSchema.{RelationSchema}
-use Rattle.reader.specs.Command.{IsTextOf}
+use Rattle.reader.specs.Command.{IsCommandOf, IsTextOf}
 use Rattle.catalog.specs.declared.relation.SplitRelation.{SplitRelation}
 use Rattle.catalog.specs.FragmentLeaf.{schemas_of}
 use Rattle.catalog.specs.Relation.{catalogue_of}
@@ -76,3 +76,9 @@ returns-in-Err-clause-finds_none g c = λ statement none spelled moves db whole 
     let schemas = schemas_of (catalogue_of c.args.self.now.machines.desk.catalog) in
     let memory = only_memory schemas c.args.text.now c.in-Err.refusal (subst (λ (schemas : List RelationSchema). IsUnreadable schemas c.args.text.now c.in-Err.refusal) (ap (λ (x : List (List ℕ) × List SplitRelation). schemas_of (catalogue_of x)) c.catalog.ensures) c.in-Err.ensures.reader_refusal) (Run statement) spelled in
     ((λ next. (let e : Memory ≡ NoNext = sym memory ∙ err_is c.in-Err.refusal NoNext next in absurd (cc))), stands)
+
+pub obey-requires-clause-spelled : goal.obey-requires-clause-spelled
+obey-requires-clause-spelled g c = subst (λ (schemas : List RelationSchema). IsTextOf schemas c.args.text.now c.in-Ok.command) (ap (λ (x : List (List ℕ) × List SplitRelation). schemas_of (catalogue_of x)) c.catalog.ensures) c.in-Ok.ensures.read
+
+pub obey-requires-clause-fits : goal.obey-requires-clause-fits
+obey-requires-clause-fits g c = subst (λ (schemas : List RelationSchema). IsCommandOf schemas c.in-Ok.command) (ap (λ (x : List (List ℕ) × List SplitRelation). schemas_of (catalogue_of x)) c.catalog.ensures) c.in-Ok.ensures.fits

@@ -1,5 +1,7 @@
 -- Why `obey` meets its contract.
-use Rattle.reader.specs.Command.{IsTextOf}
+use Rattle.catalog.specs.FragmentLeaf.{schemas_of}
+use Rattle.catalog.specs.Relation.{catalogue_of}
+use Rattle.reader.specs.Command.{IsCommandOf, IsTextOf}
 use Rattle.std.proofs.Common.{◌≡◌, ◌∙◌, sym, subst, true}
 use Rattle.world.proofs.Calls.{narrowed}
 use Rattle.world.specs.Contents.{OfStores, counted}
@@ -51,3 +53,9 @@ returns-in-Rollback-clause-finds_none g c = λ statement none is. (let e : Rollb
 
 pub returns-in-Run-clause-finds_none : goal.returns-in-Run-clause-finds_none
 returns-in-Run-clause-finds_none g c = λ statement none is moves. c.states.ensures.finds_none none (subst (λ (s : Statement). is_refragment s ≡ true) (let e : Run statement ≡ Run c.in-Run.statement = sym is ∙ c.in-Run.is in cc) moves)
+
+pub states-requires-clause-spelled : goal.states-requires-clause-spelled
+states-requires-clause-spelled g c = subst (IsTextOf (schemas_of (catalogue_of c.args.self.now.machines.desk.catalog)) c.args.text.now) c.in-Run.is c.requires.spelled
+
+pub states-requires-clause-fits : goal.states-requires-clause-fits
+states-requires-clause-fits g c = subst (IsCommandOf (schemas_of (catalogue_of c.args.self.now.machines.desk.catalog))) c.in-Run.is c.requires.fits
