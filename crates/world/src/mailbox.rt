@@ -142,6 +142,9 @@ impl Post {
         if self.waiting.append(&mut letters).is_err() {
             return Err(Refusal::Memory);
         }
+        if out.replies.as_slice().is_empty() {
+            return Ok(());
+        }
         if self.heard.append(&mut out.replies.into_vec()).is_err() {
             return Err(Refusal::Memory);
         }
