@@ -1,5 +1,5 @@
 -- Why `fetches::needed_fetches` meets its contract.
-use Rattle.std.proofs.Common.{◌≡◌, ℕ, ◌<◌, ◌≤◌, Some, List, ◌++◌, drop, get_or, length, refl, ap, sym, ◌∙◌, subst, append-nil}
+use Rattle.std.proofs.Common.{arith, rules, ◌≡◌, ℕ, suc, ◌+◌, ◌<◌, ◌≤◌, Some, List, ◌++◌, ◌∷◌, append_assoc, drop, drop-cons, get_or, length, refl, ap, sym, ◌∙◌, subst, append-nil}
 use Rattle.std.proofs.lemmas.List.{drop_all}
 use Rattle.std.proofs.lemmas.Option.{slice_get_read}
 use Rattle.std.specs.List.{AllByRecursion, slice_get}
@@ -9,8 +9,8 @@ use Rattle.plan.specs.declared.fetch.Fetch.{Fetch}
 use Rattle.plan.specs.declared.need.Need.{Need}
 use Rattle.plan.specs.declared.need.Needs.{Needs}
 use Rattle.plan.specs.Need.{needs}
-use Rattle.plan.specs.Picked.{TieFits, fetches_for, fetches_from}
-use Rattle.plan.specs.Stated.{AreFetchesOf, ties_of}
+use Rattle.plan.specs.Picked.{TieFits, fetches_for, fetches_from, picked, trials_of}
+use Rattle.plan.specs.Stated.{AreFetchesOf, leaves_of, ties_of}
 use Rattle.plan.proofs.Joining.{all_at, all_more}
 use Rattle.plan.proofs.PickedStated.{fetches_are, IsTie, need_fit, ties_fit}
 use Rattle.plan.proofs.StatementFits.{IsNeedOf, needs_fit}
@@ -26,6 +26,29 @@ found_all : (catalogue : Catalogue) (needed : Needs) (list : List Need) (number 
 found_all catalogue needed list number found same past all =
     let past_all : length needed.relations ≤ number = subst (λ (ns : List Need). length ns ≤ number) same past in
     sym (append-nil found) ∙ ap (λ (rest : List Need). found ++ fetches_from catalogue needed number rest) (sym (drop_all number needed.relations past_all)) ∙ all
+
+-- a round puts out the fetches of one need
+abbrev fetched : Catalogue → Needs → ℕ → Need → List Fetch
+fetched catalogue needed number need = picked (trials_of catalogue need (ties_of needed number)) need (leaves_of catalogue need.relation)
+
+one_more : (catalogue : Catalogue) (needed : Needs) (list : List Need) (number : ℕ) (need : Need) (found : List Fetch) → list ≡ needed.relations → number < length list → need ≡ get_or list number need → found ++ fetches_from catalogue needed number (drop number needed.relations) ≡ fetches_for catalogue needed →
+    (found ++ fetched catalogue needed number need) ++ fetches_from catalogue needed (number + 1) (drop (number + 1) needed.relations) ≡ fetches_for catalogue needed
+one_more catalogue needed list number need found same within is all =
+    let split : drop number list ≡ need ∷ drop (suc number) list = drop-cons list number need within ∙ ap (λ (first : Need). first ∷ drop (suc number) list) (sym is) in
+    let there : drop number needed.relations ≡ need ∷ drop (suc number) needed.relations = subst (λ (ns : List Need). drop number ns ≡ need ∷ drop (suc number) ns) same split in
+    let next : suc number ≡ number + 1 = omega arith in
+    subst (λ (k : ℕ). (found ++ fetched catalogue needed number need) ++ fetches_from catalogue needed k (drop k needed.relations) ≡ fetches_for catalogue needed) next
+    (append_assoc found (fetched catalogue needed number need) (fetches_from catalogue needed (suc number) (drop (suc number) needed.relations))
+    ∙ ap (λ (rest : List Need). found ++ fetches_from catalogue needed number rest) (sym there) ∙ all)
+
+pub loop-number-preserved : goal.loop-number-preserved
+loop-number-preserved c =
+    let catalogue = catalogue_of c.args.catalog.now in
+    let needed = c.args.needs.now in
+    let number = c.loop-number.number in
+    let put : c.append.new.self.items ≡ c.loop-number.fetches.items ++ fetched catalogue needed number c.need-item.result = search rules in
+    ap (λ (found : List Fetch). found ++ fetches_from catalogue needed (number + 1) (drop (number + 1) needed.relations)) put
+    ∙ one_more catalogue needed c.as_slice-need-items.result.now number c.need-item.result c.loop-number.fetches.items c.as_slice-need-items.ensures c.loop-number-test.true c.need-item.is c.loop-number.invariant
 
 pub need_fetches-requires-clause-need : goal.need_fetches-requires-clause-need
 need_fetches-requires-clause-need c =
