@@ -33,4 +33,4 @@ returns-in-Err g c =
     (λ db of n is moves k. inr (subst (λ ms. IsLone c.args.text.now ms (Err c.in-Err.refusal)) (sym k) refl)) first
 
 pub run_begun-requires : goal.run_begun-requires
-run_begun-requires g c = known_still c.args.machines.now.desk.catalog c.begin.new.machines.desk.catalog c.args.text.now c.args.statement c.still_read.result _ _ (λ long. same_in_force c.begin.ensures.catalogs (long ∙ c.len.ensures ∙ ap length c.later.ensures)) c.requires c.still_read.ensures
+run_begun-requires g c = known_still c.args.machines.now.desk.catalog c.begin.new.machines.desk.catalog c.args.text.now c.args.statement c.still_read-known.result _ _ (λ long. same_in_force c.begin.ensures.catalogs (long ∙ ap length c.later-later.ensures)) c.requires c.still_read-known.ensures
