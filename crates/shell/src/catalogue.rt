@@ -6,7 +6,7 @@ ghost use Rattle.toml.specs.Parse.{parse_document};
 ghost use Rattle.shell.specs.Lines.{EndsPointed};
 ghost use Rattle.shell.specs.Told.{Tells, relation_front, sentence};
 
-use crate::place::place_of;
+use crate::place::put_place;
 use crate::window::{line_at, put_line, split_at};
 use catalog::fault::{CatFault, Rule};
 use std::alloc::{AllocError, Global};
@@ -22,12 +22,8 @@ pub fn explain(alloc: Global, text: &str, fault: &CatFault) -> Result<String, Al
 {
     match toml::table_from_str(alloc, text) {
         Ok(table) => of_document(alloc, &Value::Table(table), fault),
-        Err(error) => {
-            if error.is_memory() {
-                return Err(AllocError);
-            }
-            no_toml(alloc, text, &error)
-        }
+        Err(error) if error.is_memory() => Err(AllocError),
+        Err(error) => no_toml(alloc, text, &error),
     }
 }
 
@@ -37,21 +33,11 @@ fn no_toml(alloc: Global, text: &str, error: &toml::de::Error) -> Result<String,
 {
     let mut out = String::new(alloc);
     write!(out, "{error}")?;
-    let offset = match error.span() {
-        Some(span) => span.start,
-        None => 0,
-    };
-    let (before, _) = split_at(text, offset);
-    let column = match before.rsplit_once('\n') {
-        Some((_, last)) => last.len(),
-        None => before.len(),
-    };
-    let (_, line) = split_at(text, before.len().saturating_sub(column));
-    let line = match line.split_once('\n') {
-        Some((first, _)) => first,
-        None => line,
-    };
-    let (line, column) = line_at(alloc, line, column)?;
+    let (front, rest) = split_at(text, error.span().map_or(0, |span| span.start));
+    let front = front.rsplit('\n').next().unwrap_or("");
+    let rest = rest.split('\n').next().unwrap_or("");
+    let line = format!(in alloc; "{front}{rest}")?;
+    let (line, column) = line_at(alloc, line.as_str(), front.len())?;
     put_line(&mut out, line.as_str(), column)?;
     Ok(out)
 }
@@ -60,8 +46,8 @@ fn no_toml(alloc: Global, text: &str, error: &toml::de::Error) -> Result<String,
 fn of_document(alloc: Global, root: &Value, fault: &CatFault) -> Result<String, AllocError>
     ensures { IfOk result (λ lines. Tells fault.now (string_bytes lines)) }
 {
-    let place = place_of(alloc, root, fault)?;
-    let mut out = String::new(alloc);
+    let (mut out, mut place) = (String::new(alloc), String::new(alloc));
+    put_place(&mut place, root, fault)?;
     put_relation(&mut out, fault.relation())?;
     put_sentence(&mut out, fault.rule())?;
     out.push('\n')?;

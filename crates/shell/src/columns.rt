@@ -3,7 +3,7 @@
 ghost use Rattle.std.specs.Prelude.{◌≡◌, ◌<◌, ◌++◌, IfOk, OnOk, replicate, slice_get, string_bytes};
 ghost use Rattle.std.specs.List.{flat_map};
 ghost use Rattle.shell.specs.Columns as spec;
-ghost use Rattle.shell.specs.Columns.{aligned, at_left, at_right, field, filling, gap, line_of, names_line, row_line, rule_line, shown_character, shown_text, table, widths_from};
+ghost use Rattle.shell.specs.Columns.{aligned, at_left, field, gap, line_of, names_line, row_line, rule_line, shown_character, shown_text, widths_from};
 
 use std::alloc::{AllocError, Global};
 use terms::row::Row;
@@ -15,8 +15,14 @@ use unicode_width::{UnicodeWidthChar, UnicodeWidthStr};
 pub fn put_columns(out: &mut String, names: &[Text], rows: &[Row]) -> Result<(), AllocError>
     ensures { OnOk result (string_bytes out.new ≡ string_bytes out.old ++ spec.columns names.now rows.now) }
 {
-    let widths = widths(*out.allocator(), names, rows)?;
-    put_table(out, widths.as_slice(), names, rows)
+    let made = widths(*out.allocator(), names, rows)?;
+    let widths = made.as_slice();
+    put_names(out, widths, names)?;
+    put_rule(out, widths)?;
+    for row in rows {
+        put_row(out, widths, row.values())?;
+    }
+    Ok(())
 }
 
 /// The width of each column.
@@ -46,29 +52,9 @@ fn field_width(alloc: Global, values: &[Value], place: usize) -> Result<usize, A
     ensures { IfOk result (λ width. width ≡ spec.field_width (slice_get values.now place)) }
 {
     match values.get(place) {
-        Some(value) => {
-            let text = field_of(alloc, value)?;
-            Ok(text.as_str().width())
-        }
+        Some(value) => Ok(field_of(alloc, value)?.as_str().width()),
         None => Ok(0),
     }
-}
-
-/// The lines of a table whose columns have these widths.
-fn put_table(
-    out: &mut String,
-    widths: &[usize],
-    names: &[Text],
-    rows: &[Row],
-) -> Result<(), AllocError>
-    ensures { OnOk result (string_bytes out.new ≡ string_bytes out.old ++ table widths.now names.now rows.now) }
-{
-    put_names(out, widths, names)?;
-    put_rule(out, widths)?;
-    for row in rows {
-        put_row(out, widths, row.values())?;
-    }
-    Ok(())
 }
 
 fn put_names(out: &mut String, widths: &[usize], names: &[Text]) -> Result<(), AllocError>
@@ -116,7 +102,11 @@ fn put_aligned(out: &mut String, width: usize, value: &Value) -> Result<(), Allo
 {
     let text = field_of(*out.allocator(), value)?;
     match value {
-        Value::Int(_) => put_right(out, width, text.as_str()),
+        Value::Int(_) => {
+            put_repeated(out, width.saturating_sub(text.as_str().width()), ' ')?;
+            out.push_str(text.as_str())?;
+            out.push_str("  ")
+        }
         Value::Text(_) => put_left(out, width, text.as_str()),
     }
 }
@@ -125,23 +115,8 @@ fn put_left(out: &mut String, width: usize, text: &str) -> Result<(), AllocError
     ensures { OnOk result (string_bytes out.new ≡ string_bytes out.old ++ at_left width text.now) }
 {
     out.push_str(text)?;
-    put_filling(out, width, text)?;
+    put_repeated(out, width.saturating_sub(text.width()), ' ')?;
     out.push_str("  ")
-}
-
-fn put_right(out: &mut String, width: usize, text: &str) -> Result<(), AllocError>
-    ensures { OnOk result (string_bytes out.new ≡ string_bytes out.old ++ at_right width text.now) }
-{
-    put_filling(out, width, text)?;
-    out.push_str(text)?;
-    out.push_str("  ")
-}
-
-/// Puts the spaces that fill a column beside a text.
-fn put_filling(out: &mut String, width: usize, text: &str) -> Result<(), AllocError>
-    ensures { OnOk result (string_bytes out.new ≡ string_bytes out.old ++ filling width text.now) }
-{
-    put_repeated(out, width.saturating_sub(text.width()), ' ')
 }
 
 /// Puts a character of ASCII so many times.

@@ -1,11 +1,11 @@
 //! Rows as comma-separated values.
 
-ghost use Rattle.std.specs.Prelude.{◌≡◌, ◌++◌, OnOk, chars, string_bytes};
+ghost use Rattle.std.specs.Prelude.{◌≡◌, ◌++◌, ◌∷◌, [], ℕ, List, OnOk, chars, string_bytes};
 ghost use Rattle.std.specs.List.{flat_map, list_any};
 ghost use Rattle.shell.specs.Csv as spec;
-ghost use Rattle.shell.specs.Csv.{csv, csv_header, csv_line, csv_row, csv_text, csv_value, doubled};
+ghost use Rattle.shell.specs.Csv.{csv, csv_line, csv_text, csv_value, doubled};
+ghost use Rattle.shell.specs.Separated.{separated};
 
-use crate::separated::{Printer, put_separated};
 use std::alloc::AllocError;
 use terms::row::Row;
 use terms::text::Text;
@@ -15,9 +15,9 @@ use terms::value::Value;
 pub fn put_csv(out: &mut String, header: &[Text], rows: &[Row]) -> Result<(), AllocError>
     ensures { OnOk result (string_bytes out.new ≡ string_bytes out.old ++ csv header.now rows.now) }
 {
-    put_header(out, header)?;
+    put_fields(out, header)?;
     for row in rows {
-        put_row(out, row.values())?;
+        put_fields(out, row.values())?;
     }
     Ok(())
 }
@@ -30,44 +30,45 @@ pub fn put_csv_line(out: &mut String, text: &str) -> Result<(), AllocError>
     out.push('\n')
 }
 
-/// The names of columns.
-#[derive(Clone, Copy)]
-struct Names;
+/// How a field is put at the end of a line.
+trait Field {
+    ghost bytes: { Self → List ℕ };
 
-impl Printer<Text> for Names {
-    ghost bytes = { λ _ name. csv_text name };
+    fn put(&self, out: &mut String) -> Result<(), AllocError>
+        ensures { OnOk result (string_bytes out.new ≡ string_bytes out.old ++ bytes self.now) };
+}
 
-    fn put(&self, out: &mut String, name: &Text) -> Result<(), AllocError> {
-        put_text(out, name.as_str())
+impl Field for Text {
+    ghost bytes = { λ name. csv_text name };
+
+    fn put(&self, out: &mut String) -> Result<(), AllocError> {
+        put_text(out, self.as_str())
     }
 }
 
-/// The values of a row.
-#[derive(Clone, Copy)]
-struct Fields;
+impl Field for Value {
+    ghost bytes = { λ value. csv_value value };
 
-impl Printer<Value> for Fields {
-    ghost bytes = { λ _ value. csv_value value };
-
-    fn put(&self, out: &mut String, value: &Value) -> Result<(), AllocError> {
-        match value {
+    fn put(&self, out: &mut String) -> Result<(), AllocError> {
+        match self {
             Value::Int(number) => write!(out, "{number}"),
             Value::Text(text) => put_text(out, text.as_str()),
         }
     }
 }
 
-fn put_header(out: &mut String, names: &[Text]) -> Result<(), AllocError>
-    ensures { OnOk result (string_bytes out.new ≡ string_bytes out.old ++ csv_header names.now) }
+/// Puts the fields in a line, with a comma between each two.
+fn put_fields<T: Field>(out: &mut String, fields: &[T]) -> Result<(), AllocError>
+    ensures { OnOk result (string_bytes out.new ≡ string_bytes out.old ++ separated (λ field. T.bytes field) 44 fields.now ++ 10 ∷ []) }
 {
-    put_separated(out, &Names, names)?;
-    out.push('\n')
-}
-
-fn put_row(out: &mut String, values: &[Value]) -> Result<(), AllocError>
-    ensures { OnOk result (string_bytes out.new ≡ string_bytes out.old ++ csv_row values.now) }
-{
-    put_separated(out, &Fields, values)?;
+    let Some((first, others)) = fields.split_first() else {
+        return out.push('\n');
+    };
+    first.put(out)?;
+    for field in others {
+        out.push(',')?;
+        field.put(out)?;
+    }
     out.push('\n')
 }
 

@@ -17,21 +17,13 @@ use std::alloc::AllocError;
 /// What was made, unless memory ran out.
 pub(crate) type Made<T> = Result<T, AllocError>;
 
-/// A text that is told, empty where there is nothing to tell.
-pub(crate) type Told = Made<String>;
-
-mod around;
 pub mod catalogue;
 pub mod columns;
 pub mod csv;
-mod document;
 pub mod json;
 pub mod mode;
-mod names;
 pub mod nearest;
 mod place;
 pub mod sentence;
-mod separated;
 mod told;
-mod wanted;
 mod window;

@@ -1,6 +1,6 @@
 //! How answers are shown.
 
-ghost use Rattle.std.specs.Prelude.{◌≡◌, ◌∷◌, ◌++◌, [], IfOk, OnOk, string_bytes};
+ghost use Rattle.std.specs.Prelude.{◌≡◌, ◌++◌, IfOk, OnOk, string_bytes};
 ghost use Rattle.reader.specs.PrintAnswer.{answer_text};
 ghost use Rattle.shell.specs.Mode.{answer_in, line_in};
 
@@ -30,7 +30,10 @@ pub fn put_line(out: &mut String, mode: Mode, text: &str) -> Result<(), Memory>
     ensures { OnOk result (string_bytes out.new ≡ string_bytes out.old ++ line_in mode text.now) }
 {
     match mode {
-        Mode::Tabs | Mode::Columns => put_plain(out, text)?,
+        Mode::Tabs | Mode::Columns => {
+            out.push_str(text)?;
+            out.push('\n')?;
+        }
         Mode::Csv => put_csv_line(out, text)?,
         Mode::Json => put_json_line(out, text)?,
     }
@@ -44,14 +47,6 @@ pub fn show_line(alloc: Global, mode: Mode, text: &str) -> Result<String, Memory
     let mut line = String::new(alloc);
     put_line(&mut line, mode, text)?;
     Ok(line)
-}
-
-fn put_plain(out: &mut String, text: &str) -> Result<(), Memory>
-    ensures { OnOk result (string_bytes out.new ≡ string_bytes out.old ++ text.now ++ 10 ∷ []) }
-{
-    out.push_str(text)?;
-    out.push('\n')?;
-    Ok(())
 }
 
 /// An answer, with a line feed at its end.
@@ -70,19 +65,17 @@ pub fn put_answer(out: &mut String, mode: Mode, answer: &Answer) -> Result<(), M
     match (mode, answer) {
         (Mode::Columns, Answer::Rows(header, rows)) => {
             put_columns(out, header.as_slice(), rows.as_slice())?;
-            Ok(())
         }
         (Mode::Csv, Answer::Rows(header, rows)) => {
             put_csv(out, header.as_slice(), rows.as_slice())?;
-            Ok(())
         }
         (Mode::Json, Answer::Rows(header, rows)) => {
             put_json(out, header.as_slice(), rows.as_slice())?;
-            Ok(())
         }
         (mode, answer) => {
             let text = print_answer(*out.allocator(), answer)?;
-            put_line(out, mode, text.as_str())
+            put_line(out, mode, text.as_str())?;
         }
     }
+    Ok(())
 }

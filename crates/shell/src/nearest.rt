@@ -1,8 +1,9 @@
-//! The name that a word was likely meant to be.
+//! The name that a word was likely meant to be, and names in a sentence.
 
 ghost use Rattle.std.specs.Prelude.{IfOk};
 ghost use Rattle.shell.specs.Nearest.{IsLikely};
 
+use crate::Made;
 use std::alloc::{AllocError, Global};
 use strsim::levenshtein;
 
@@ -25,4 +26,26 @@ pub fn nearest<'a>(
         }
     }
     Ok(found)
+}
+
+/// Names with commas between.
+pub(crate) fn listed(alloc: Global, names: &[&str]) -> Made<String> {
+    match names {
+        [] => String::from_str(alloc, "none"),
+        _ => names.join(alloc, ", "),
+    }
+}
+
+/// Puts which of these names a word was likely meant to be, between marks, if it was one.
+pub(crate) fn put_meant(out: &mut String, mark: &str, word: &str, names: &[&str]) -> Made<()> {
+    match nearest(*out.allocator(), word, names)? {
+        Some(near) => write!(out, "; did you mean {mark}{near}{mark}?"),
+        None => Ok(()),
+    }
+}
+
+/// Puts the names that there are, and which of them a word was likely meant to be.
+pub(crate) fn put_choices(out: &mut String, word: &str, names: &[&str]) -> Made<()> {
+    out.push_str(listed(*out.allocator(), names)?.as_str())?;
+    put_meant(out, "`", word, names)
 }

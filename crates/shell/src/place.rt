@@ -1,276 +1,358 @@
 //! Where a catalogue's document breaks a rule, and what could stand there.
 
-use crate::Told;
-use crate::document::{
-    DOCUMENT, Node, RELATION, columns_around, items_at, meets, name_and_kind, nodes, texts_at,
-    where_of,
-};
-use crate::names::{listed, meant, position};
-use crate::sentence::explain_over;
+use crate::Made;
+use crate::nearest::{listed, put_choices};
+use crate::sentence::{explain_over, unless_memory};
+use crate::told::names_of;
 use catalog::fault::{CatFault, Cell, Rule};
-use meaning::schema::RelationSchema;
+use meaning::schema::{Column, RelationSchema};
 use reader::fault;
 use reader::print_constant::PrintedConstant;
 use reader::read_conds::read_conds;
 use reader::word::is_name;
 use std::alloc::{AllocError, Global};
+use terms::seq::Seq;
+use terms::text::Text;
+use terms::value::Kind;
 use toml::Value;
 
-/// What a place is looked for in.
+/// The most nodes that are looked at.
+const NODES: usize = 65_536;
+
+/// The keys of a table of the document: one that it has, and those of which it has one besides.
+const DOCUMENT: [&str; 2] = ["sites", "relations"];
+
+const RELATION: [&str; 4] = ["columns", "site", "rows", "cols"];
+
+const BRANCH: [&str; 4] = ["where", "site", "rows", "cols"];
+
+const GROUP: [&str; 4] = ["of", "site", "rows", "cols"];
+
+/// A table of the document, how it is reached from the root, and the group around it, if it is in one.
+#[derive(Drop)]
+struct Node<'a> {
+    path: String,
+    value: &'a Value,
+    group: Option<&'a Value>,
+    keys: &'static [&'static str],
+}
+
+/// What a place is looked for in: the document, or a relation of it with these columns, and the rule that is broken.
 #[derive(Drop)]
 struct Around<'a> {
     alloc: Global,
     root: &'a Value,
-    /// The relation, or the document where the fault is in none, and the columns there.
     top: &'a Value,
     table: &'a RelationSchema,
     rule: &'a Rule,
 }
 
-/// The first place that breaks the fault's rule, in lines; nothing where none is found.
-pub(crate) fn place_of(alloc: Global, root: &Value, fault: &CatFault) -> Told {
-    let name = match fault.relation() {
-        Some(name) => name.as_str(),
-        None => "",
-    };
-    let mut first = Node {
-        path: String::from_str(alloc, "the document")?,
-        value: root,
-        group: None,
-        keys: &DOCUMENT,
-    };
-    if let Some(Value::Table(relations)) = root.get("relations") {
-        if let Some(relation) = relations.get(name) {
-            first.path = format!(in alloc; "relations.{name}")?;
-            first.value = relation;
-            first.keys = &RELATION;
-        }
+/// Puts into an empty text the first place that breaks the fault's rule, in lines; nothing where none is found.
+pub(crate) fn put_place(out: &mut String, root: &Value, fault: &CatFault) -> Made<()> {
+    let alloc = *out.allocator();
+    let name = fault.relation().map_or("", |name| name.as_str());
+    let relations = root.get("relations");
+    let relation = relations.and_then(|relations| relations.get(name));
+    let (mut path, mut keys) = (format!(in alloc; "the document")?, DOCUMENT.as_slice());
+    if relation.is_some() {
+        (path, keys) = (format!(in alloc; "relations.{name}")?, RELATION.as_slice());
     }
-    let table = columns_around(alloc, name, first.value, None)?;
+    let top = relation.unwrap_or(root);
     let around = Around {
         alloc,
         root,
-        top: first.value,
-        table: &table,
+        top,
+        table: &columns_around(alloc, name, top, None)?,
         rule: fault.rule(),
     };
-    let nodes = nodes(alloc, first, table.columns.as_slice(), fault.rule())?;
-    for node in nodes.as_slice() {
-        let told = told_of(&around, node)?;
-        if !told.is_empty() {
-            return Ok(told);
-        }
-    }
-    Ok(String::new(alloc))
+    let first = Node {
+        path,
+        value: top,
+        group: None,
+        keys,
+    };
+    put_first(out, &around, first)
 }
 
-/// What of a node breaks the rule.
-fn told_of(around: &Around<'_>, node: &Node<'_>) -> Told {
+/// Puts what of a node and those below it breaks the rule first, each before those below itself; where the rule has a
+/// cell, of those that its row comes to.
+fn put_first<'a>(out: &mut String, around: &Around<'a>, first: Node<'a>) -> Made<()> {
+    let mut waiting = Vec::new(around.alloc);
+    waiting.push(first)?;
+    for _ in 0..NODES {
+        let Some(node) = waiting.pop() else {
+            break;
+        };
+        match around.rule {
+            Rule::Gap(cell) | Rule::Overlap(cell) if !meets(around, node.value, cell)? => continue,
+            _ => {}
+        }
+        put_told(out, around, &node)?;
+        if !out.is_empty() {
+            break;
+        }
+        for (split, keys) in [("cols", &GROUP), ("rows", &BRANCH)] {
+            for (index, value) in items_at(node.value, split).iter().enumerate().rev() {
+                let is_group = value.get("of").is_some();
+                waiting.push(Node {
+                    path: format!(in around.alloc; "{}.{split}[{index}]", node.path)?,
+                    value,
+                    group: if is_group { Some(value) } else { node.group },
+                    keys,
+                })?;
+            }
+        }
+    }
+    Ok(())
+}
+
+/// The place of a name among others.
+fn position(names: &[&str], name: &str) -> Option<usize> {
+    names.iter().position(|other| *other == name)
+}
+
+/// The items of an array at a key.
+fn items_at<'a>(value: &'a Value, key: &str) -> &'a [Value] {
+    match value.get(key) {
+        Some(Value::Array(items)) => items.as_slice(),
+        _ => &[],
+    }
+}
+
+/// The text at a key, or the texts of the array there.
+fn texts_at<'a>(alloc: Global, value: &'a Value, key: &str) -> Made<Vec<&'a str>> {
+    let items = items_at(value, key).iter();
+    match value.get(key).and_then(|value| value.as_str()) {
+        Some(text) => Ok(vec![in alloc; text]?),
+        None => items.filter_map(|item| item.as_str()).collect(alloc),
+    }
+}
+
+/// The text of a branch's conditions.
+fn where_of(node: &Value) -> Option<&str> {
+    node.get("where")?.as_str()
+}
+
+/// The name that a column's text begins with, and its type, if it says one.
+fn name_and_kind(text: &str) -> (&str, Option<Kind>) {
+    match text.split_once(' ') {
+        Some((name, "int")) => (name, Some(Kind::Int)),
+        Some((name, "text")) => (name, Some(Kind::Text)),
+        Some((name, _)) => (name, None),
+        None => (text, None),
+    }
+}
+
+/// A relation's key and the columns of the group around a node, as far as their texts say them.
+fn columns_around(
+    alloc: Global,
+    name: &str,
+    relation: &Value,
+    group: Option<&Value>,
+) -> Made<RelationSchema> {
+    let mut columns = Vec::new(alloc);
+    let within = texts_at(alloc, group.unwrap_or(relation), "of")?;
+    for text in texts_at(alloc, relation, "columns")?.as_slice() {
+        if let (name, Some(kind)) = name_and_kind(text) {
+            if columns.is_empty() || group.is_none() || within.contains(&name) {
+                let name = Text::copy_of(alloc, name).map_err(|_| AllocError)?;
+                columns.push(Column { name, kind })?;
+            }
+        }
+    }
+    let name = Text::copy_of(alloc, name).map_err(|_| AllocError)?;
+    let columns = Seq::new(columns);
+    Ok(RelationSchema { name, columns })
+}
+
+/// Whether a cell's row meets the conditions of a node, which has them if it is a branch.
+fn meets(around: &Around<'_>, node: &Value, cell: &Cell) -> Made<bool> {
+    let Some(text) = where_of(node) else {
+        return Ok(true);
+    };
+    let read = read_conds(around.alloc, text, around.table.columns.as_slice());
+    Ok(unless_memory(read)?.is_ok_and(|conds| conds.hold(&cell.row)))
+}
+
+/// Puts what of a node breaks the rule.
+fn put_told(out: &mut String, around: &Around<'_>, node: &Node<'_>) -> Made<()> {
     let alloc = around.alloc;
     match around.rule {
-        Rule::Name | Rule::Twice | Rule::KeyType => misnamed(around, node),
-        Rule::Field => {
-            let told = either(misnamed(around, node)?, wrong_key(around, node)?);
-            Ok(either(told, conditions(around, node)?))
-        }
+        Rule::Name | Rule::Twice | Rule::KeyType | Rule::Field => put_misnamed(out, around, node)?,
         Rule::NoSite => {
             let sites = texts_at(alloc, around.root, "sites")?;
-            unknown(alloc, node, "site", sites.as_slice())
+            put_unknown(out, node, "site", sites.as_slice())?;
         }
-        Rule::ColumnAbsent => {
-            let mut columns = Vec::new(alloc);
-            for column in around.table.columns.as_slice().iter().skip(1) {
-                columns.push(column.name.as_str())?;
-            }
-            let told = conditions(around, node)?;
-            Ok(either(told, unknown(alloc, node, "of", columns.as_slice())?))
-        }
-        Rule::WrongType | Rule::Limit => conditions(around, node),
-        Rule::ColumnTwice | Rule::ColumnLost => groups(around, node),
-        Rule::Gap(cell) | Rule::Overlap(cell) => branches(around, node, cell),
-        Rule::Toml | Rule::Memory => Ok(String::new(alloc)),
+        Rule::ColumnTwice | Rule::ColumnLost => put_groups(out, around, node)?,
+        Rule::Gap(cell) | Rule::Overlap(cell) => put_branches(out, around, node, cell)?,
+        _ => {}
     }
-}
-
-fn either(first: String, second: String) -> String {
-    if first.is_empty() { second } else { first }
+    if out.is_empty() && matches!(around.rule, Rule::Field) {
+        put_wrong_key(out, node)?;
+    }
+    if out.is_empty() {
+        put_conditions(out, around, node)?;
+    }
+    if out.is_empty() && matches!(around.rule, Rule::ColumnAbsent) {
+        let columns = names_of(alloc, around.table, 1)?;
+        put_unknown(out, node, "of", columns.as_slice())?;
+    }
+    Ok(())
 }
 
 /// The first of the sites, or of a relation's columns, that has no name, one that stands before, or no form.
-fn misnamed(around: &Around<'_>, node: &Node<'_>) -> Told {
-    let alloc = around.alloc;
-    let (key, front) = match node.keys {
-        ["sites", ..] => ("sites", String::from_str(alloc, "sites")?),
-        ["columns", ..] => ("columns", format!(in alloc; "{}.columns", node.path)?),
-        _ => return Ok(String::new(alloc)),
+fn put_misnamed(out: &mut String, around: &Around<'_>, node: &Node<'_>) -> Made<()> {
+    let (alloc, path) = (around.alloc, &node.path);
+    let (key, front, is_site) = match node.keys {
+        ["sites", ..] => ("sites", format!(in alloc; "sites")?, true),
+        ["columns", ..] => ("columns", format!(in alloc; "{path}.columns")?, false),
+        _ => return Ok(()),
     };
-    let is_site = key == "sites";
     let mut names = Vec::new(alloc);
     for (index, item) in items_at(node.value, key).iter().enumerate() {
         let Some(text) = item.as_str() else {
-            return format!(in alloc; "{front}[{index}] has no text\n");
+            return write!(out, "{front}[{index}] has no text\n");
         };
-        let name = if is_site { text } else { name_and_kind(text).0 };
-        let told = told_of_name(around, is_site, text, position(names.as_slice(), name))?;
-        if !told.is_empty() {
-            return format!(in alloc; "{front}[{index}] has `{text}`{told}");
-        }
-        names.push(name)?;
+        let (word, kind) = name_and_kind(text);
+        let name = if is_site { text } else { word };
+        let before = position(names.as_slice(), name);
+        let told = match (around.rule, before) {
+            (Rule::Name, _) if is_site && name == "desk" => {
+                format!(in alloc; ", the coordinator's name")?
+            }
+            (Rule::Name, _) if !is_name(name.as_bytes()) => String::new(alloc),
+            (Rule::KeyType, _) => format!(in alloc; "; expected `{name} int`")?,
+            (Rule::Twice, Some(at)) if is_site => format!(in alloc; ", as sites[{at}] has")?,
+            (Rule::Twice, Some(at)) => format!(in alloc; "; columns[{at}] has this name")?,
+            (Rule::Field, _) if !is_site && kind.is_none() => {
+                format!(in alloc; "; a column is a name, one blank, and int or text")?
+            }
+            _ => {
+                names.push(name)?;
+                continue;
+            }
+        };
+        return write!(out, "{front}[{index}] has `{text}`{told}\n");
     }
-    Ok(String::new(alloc))
-}
-
-/// What is told of a site's or a column's text, with the place where its name stands before, if it breaks the rule.
-fn told_of_name(around: &Around<'_>, is_site: bool, text: &str, before: Option<usize>) -> Told {
-    let alloc = around.alloc;
-    let (word, kind) = name_and_kind(text);
-    let name = if is_site { text } else { word };
-    match (around.rule, before) {
-        (Rule::Name, _) if is_site && name == "desk" => {
-            format!(in alloc; ", the coordinator's name\n")
-        }
-        (Rule::Name, _) if !is_name(name.as_bytes()) => format!(in alloc; "\n"),
-        (Rule::KeyType, _) => format!(in alloc; "; expected `{name} int`\n"),
-        (Rule::Twice, Some(at)) if is_site => format!(in alloc; ", as sites[{at}] has\n"),
-        (Rule::Twice, Some(at)) => format!(in alloc; "; columns[{at}] has this name\n"),
-        (Rule::Field, _) if !is_site && kind.is_none() => {
-            format!(in alloc; "; a column is a name, one blank, and int or text\n")
-        }
-        _ => Ok(String::new(alloc)),
-    }
+    Ok(())
 }
 
 /// The first key of a node that is unknown, missing, or one too many.
-fn wrong_key(around: &Around<'_>, node: &Node<'_>) -> Told {
-    let (alloc, path) = (around.alloc, &node.path);
+fn put_wrong_key(out: &mut String, node: &Node<'_>) -> Made<()> {
+    let (alloc, path) = (*out.allocator(), &node.path);
     let (Value::Table(table), [own, others @ ..]) = (node.value, node.keys) else {
-        return format!(in alloc; "{path} is no table\n");
+        return write!(out, "{path} is no table\n");
     };
     for (key, _) in table.iter() {
-        let key = key.as_str();
-        if position(node.keys, key).is_none() {
-            let list = listed(alloc, node.keys, ", ", ", ")?;
-            let near = meant(alloc, "`", key, node.keys)?;
-            return format!(in alloc;
-                "{path} has the unknown key `{key}`; there can be {list}{near}\n"
-            );
+        if !node.keys.contains(&key.as_str()) {
+            write!(out, "{path} has the unknown key `{key}`; there can be ")?;
+            put_choices(out, key.as_str(), node.keys)?;
+            return out.push('\n');
         }
     }
-    let mut had = Vec::new(alloc);
-    for key in others {
-        if table.get(*key).is_some() {
-            had.push(*key)?;
+    let had = others
+        .iter()
+        .copied()
+        .filter(|key| table.get(*key).is_some());
+    let had: Vec<&str> = had.collect(alloc)?;
+    match (had.as_slice(), others) {
+        _ if table.get(*own).is_none() => write!(out, "{path} has no key `{own}`\n"),
+        ([], [other]) => write!(out, "{path} has no key `{other}`\n"),
+        ([], _) => write!(out, "{path} has none of {}\n", listed(alloc, others)?),
+        ([first, second, ..], _) => {
+            write!(
+                out,
+                "{path} has both `{first}` and `{second}`; it has one of them\n"
+            )
         }
-    }
-    let list = listed(alloc, others, ", ", ", ")?;
-    match had.as_slice() {
-        _ if table.get(*own).is_none() => format!(in alloc; "{path} has no key `{own}`\n"),
-        [] if others.len() == 1 => format!(in alloc; "{path} has no key `{list}`\n"),
-        [] => format!(in alloc; "{path} has none of {list}\n"),
-        [_] => Ok(String::new(alloc)),
-        [first, second, ..] => {
-            format!(in alloc; "{path} has both `{first}` and `{second}`; it has one of them\n")
-        }
+        _ => Ok(()),
     }
 }
 
 /// The first text at a key that is none of those known.
-fn unknown(alloc: Global, node: &Node<'_>, key: &str, known: &[&str]) -> Told {
-    let path = &node.path;
-    for text in texts_at(alloc, node.value, key)?.as_slice() {
+fn put_unknown(out: &mut String, node: &Node<'_>, key: &str, known: &[&str]) -> Made<()> {
+    for text in texts_at(*out.allocator(), node.value, key)?.as_slice() {
         if !known.contains(text) {
-            let list = listed(alloc, known, ", ", ", ")?;
-            let near = meant(alloc, "`", text, known)?;
-            return format!(in alloc; "{path}.{key} has `{text}`; there are {list}{near}\n");
+            write!(out, "{}.{key} has `{text}`; there are ", node.path)?;
+            put_choices(out, text, known)?;
+            return out.push('\n');
         }
     }
-    Ok(String::new(alloc))
+    Ok(())
 }
 
 /// The fault of a branch's conditions, where the rule stands for it.
-fn conditions(around: &Around<'_>, node: &Node<'_>) -> Told {
-    let (alloc, path) = (around.alloc, &node.path);
-    let name = around.table.name.as_str();
+fn put_conditions(out: &mut String, around: &Around<'_>, node: &Node<'_>) -> Made<()> {
+    let (alloc, name) = (around.alloc, around.table.name.as_str());
     let tables = [columns_around(alloc, name, around.top, node.group)?];
     let text = where_of(node.value).unwrap_or("");
-    let Err(fault) = read_conds(alloc, text, tables[0].columns.as_slice()) else {
-        return Ok(String::new(alloc));
+    let Err(fault) = unless_memory(read_conds(alloc, text, tables[0].columns.as_slice()))? else {
+        return Ok(());
     };
     let stands = match fault.rule() {
-        fault::Rule::Memory => return Err(AllocError),
         fault::Rule::NoColumn => matches!(around.rule, Rule::ColumnAbsent),
         fault::Rule::WrongType => matches!(around.rule, Rule::WrongType),
         fault::Rule::Limit => matches!(around.rule, Rule::Limit),
         _ => matches!(around.rule, Rule::Field),
     };
     if !stands || where_of(node.value).is_none() {
-        return Ok(String::new(alloc));
+        return Ok(());
     }
-    let told = explain_over(alloc, &tables, name, text, &fault)?;
-    format!(in alloc; "{path}.where\n{told}")
+    let told = explain_over(alloc, &tables, false, text, &fault)?;
+    write!(out, "{}.where\n{told}", node.path)
 }
 
 /// The first column that stands twice in the groups of a split, or in none of them.
-fn groups(around: &Around<'_>, node: &Node<'_>) -> Told {
+fn put_groups(out: &mut String, around: &Around<'_>, node: &Node<'_>) -> Made<()> {
     let (alloc, path) = (around.alloc, &node.path);
     let is_twice = matches!(around.rule, Rule::ColumnTwice);
-    let mut grouped = Vec::new(alloc);
-    let mut places = Vec::new(alloc);
+    let (mut grouped, mut places) = (Vec::new(alloc), Vec::new(alloc));
     for (index, group) in items_at(node.value, "cols").iter().enumerate() {
-        let texts = texts_at(alloc, group, "of")?;
-        for text in texts.as_slice() {
-            if let Some(at) = position(grouped.as_slice(), text) {
-                if is_twice {
-                    let first = places.get(at).copied().unwrap_or(index);
-                    return format!(in alloc;
-                        "{path}.cols[{index}].of has `{text}`, as cols[{first}].of has\n"
-                    );
-                }
+        for text in texts_at(alloc, group, "of")?.as_slice() {
+            let before = position(grouped.as_slice(), text);
+            if is_twice && before.is_some() {
+                let first = places.get(before.unwrap_or(0)).copied().unwrap_or(index);
+                write!(out, "{path}.cols[{index}].of has `{text}`, ")?;
+                return write!(out, "as cols[{first}].of has\n");
             }
             grouped.push(*text)?;
             places.push(index)?;
         }
     }
     let table = columns_around(alloc, around.table.name.as_str(), around.top, node.group)?;
-    for column in table.columns.as_slice().iter().skip(1) {
-        let name = column.name.as_str();
-        if !is_twice && !grouped.is_empty() && position(grouped.as_slice(), name).is_none() {
-            return format!(in alloc;
-                "{path}.cols: no group has `{name}`; add it to the `of` of one of them\n"
-            );
+    for name in names_of(alloc, &table, 1)?.as_slice() {
+        if !is_twice && !grouped.is_empty() && !grouped.contains(name) {
+            write!(out, "{path}.cols: no group has `{name}`; ")?;
+            return out.push_str("add it to the `of` of one of them\n");
         }
     }
-    Ok(String::new(alloc))
+    Ok(())
 }
 
 /// The branches of a split, where the cell's row meets none of them or several, and what to do.
-fn branches(around: &Around<'_>, node: &Node<'_>, cell: &Cell) -> Told {
-    let alloc = around.alloc;
-    let mut lines = String::new(alloc);
+fn put_branches(out: &mut String, around: &Around<'_>, node: &Node<'_>, cell: &Cell) -> Made<()> {
+    let mut lines = String::new(around.alloc);
     let mut takers: usize = 0;
     for branch in items_at(node.value, "rows") {
         let text = where_of(branch).unwrap_or("");
-        let takes = meets(alloc, around.table.columns.as_slice(), branch, cell)?;
+        let takes = meets(around, branch, cell)?;
         let told = if takes { "takes it" } else { "does not" };
         takers = takers.saturating_add(usize::from(takes));
         write!(lines, "  where = \"{text}\" {told}\n")?;
     }
-    match (around.rule, cell.shown.as_slice()) {
-        _ if lines.is_empty() || takers == 1 => Ok(String::new(alloc)),
-        (Rule::Overlap(_), [first, ..]) => {
-            let (column, value) = (&first.column, PrintedConstant(&first.value));
-            format!(in alloc;
-                "{lines}to leave it to one of them, add to the others: AND {column} <> {value}\n"
-            )
-        }
-        (_, shown) => {
-            let mut between = "to take it, add a branch: where = \"";
-            for shown in shown {
-                write!(lines, "{between}{shown}")?;
-                between = " AND ";
-            }
-            lines.push_str("\"\n")?;
-            Ok(lines)
-        }
+    if lines.is_empty() || takers == 1 {
+        return Ok(());
     }
+    out.push_str(lines.as_str())?;
+    if let (Rule::Overlap(_), [first, ..]) = (around.rule, cell.shown.as_slice()) {
+        let (column, value) = (&first.column, PrintedConstant(&first.value));
+        out.push_str("to leave it to one of them, add to the others: ")?;
+        return write!(out, "AND {column} <> {value}\n");
+    }
+    let mut between = "to take it, add a branch: where = \"";
+    for shown in cell.shown.as_slice() {
+        write!(out, "{between}{shown}")?;
+        between = " AND ";
+    }
+    out.push_str("\"\n")
 }

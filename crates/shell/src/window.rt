@@ -35,12 +35,11 @@ pub(crate) fn line_at(alloc: Global, text: &str, offset: usize) -> Made<(String,
     }
     let room = if text.width() <= WHOLE { WHOLE } else { HALF };
     let (before, behind) = split_at(text, offset);
-    let mut before: Vec<char> = before.chars().collect(alloc)?;
-    before.reverse();
-    let (mut near, column) = front_within(alloc, before.as_slice(), room)?;
-    near.reverse();
+    let before: Vec<char> = before.chars().rev().collect(alloc)?;
     let behind: Vec<char> = behind.chars().collect(alloc)?;
+    let (mut near, column) = front_within(alloc, before.as_slice(), room)?;
     let (front, _) = front_within(alloc, behind.as_slice(), room)?;
+    near.reverse();
     near.extend_from_slice(front.as_slice())?;
     Ok((near.iter().copied().collect(alloc)?, column))
 }
