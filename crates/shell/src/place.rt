@@ -183,7 +183,9 @@ fn put_told(out: &mut String, around: &Around<'_>, node: &Node<'_>) -> Made<()> 
             let sites = texts_at(alloc, around.root, "sites")?;
             put_unknown(out, node, "site", sites.as_slice())?;
         }
-        Rule::ColumnTwice | Rule::ColumnLost => put_groups(out, around, node)?,
+        Rule::ColumnTwice | Rule::ColumnLost => out.push_str(told_of_groups(
+            around, node,
+        )?.as_str())?,
         Rule::Gap(cell) | Rule::Overlap(cell) => put_branches(out, around, node, cell)?,
         _ => {}
     }
@@ -302,31 +304,37 @@ fn put_conditions(out: &mut String, around: &Around<'_>, node: &Node<'_>) -> Mad
     write!(out, "{}.where\n{told}", node.path)
 }
 
-/// The first column that stands twice in the groups of a split, or in none of them.
-fn put_groups(out: &mut String, around: &Around<'_>, node: &Node<'_>) -> Made<()> {
+/// What is told of the first column that stands twice in the groups of a split, or in none of them.
+fn told_of_groups(around: &Around<'_>, node: &Node<'_>) -> Made<String> {
     let (alloc, path) = (around.alloc, &node.path);
     let is_twice = matches!(around.rule, Rule::ColumnTwice);
-    let (mut grouped, mut places) = (Vec::new(alloc), Vec::new(alloc));
+    let mut grouped = Vec::new(alloc);
+    let mut places = Vec::new(alloc);
     for (index, group) in items_at(node.value, "cols").iter().enumerate() {
-        for text in texts_at(alloc, group, "of")?.as_slice() {
-            let before = position(grouped.as_slice(), text);
-            if is_twice && before.is_some() {
-                let first = places.get(before.unwrap_or(0)).copied().unwrap_or(index);
-                write!(out, "{path}.cols[{index}].of has `{text}`, ")?;
-                return write!(out, "as cols[{first}].of has\n");
+        let texts = texts_at(alloc, group, "of")?;
+        for text in texts.as_slice() {
+            if let Some(at) = position(grouped.as_slice(), text) {
+                if is_twice {
+                    let first = places.get(at).copied().unwrap_or(index);
+                    return format!(in alloc;
+                        "{path}.cols[{index}].of has `{text}`, as cols[{first}].of has\n"
+                    );
+                }
             }
             grouped.push(*text)?;
             places.push(index)?;
         }
     }
     let table = columns_around(alloc, around.table.name.as_str(), around.top, node.group)?;
-    for name in names_of(alloc, &table, 1)?.as_slice() {
-        if !is_twice && !grouped.is_empty() && !grouped.contains(name) {
-            write!(out, "{path}.cols: no group has `{name}`; ")?;
-            return out.push_str("add it to the `of` of one of them\n");
+    for column in table.columns.as_slice().iter().skip(1) {
+        let name = column.name.as_str();
+        if !is_twice && !grouped.is_empty() && position(grouped.as_slice(), name).is_none() {
+            return format!(in alloc;
+                "{path}.cols: no group has `{name}`; add it to the `of` of one of them\n"
+            );
         }
     }
-    Ok(())
+    Ok(String::new(alloc))
 }
 
 /// The branches of a split, where the cell's row meets none of them or several, and what to do.

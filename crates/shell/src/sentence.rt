@@ -76,11 +76,11 @@ fn words(alloc: Global, text: &str) -> Made<Vec<&str>> {
     let Ok(tokens) = unless_memory(tokens(alloc, text.as_bytes()))? else {
         return Ok(words);
     };
-    let mut rest = text;
+    let mut end = text.len();
     for placed in tokens.iter().rev() {
-        let (before, word) = split_at(rest, placed.offset);
+        let (_, word) = split_at(split_at(text, end).0, placed.offset);
         words.push(word.trim_ascii_end())?;
-        rest = before;
+        end = placed.offset;
     }
     words.reverse();
     Ok(words)
