@@ -3,6 +3,7 @@ pub mod Columns
 pub mod InCatalogue
 pub mod LeafByLeaf
 pub mod Meeting
+pub mod MetColumns
 pub mod NeedsFit
 pub mod Places
 pub mod Joining
@@ -34,7 +35,8 @@ pub mod CutColumns
 pub mod TestRows
 pub mod PutOn
 pub mod PickedStated
-pub mod LeavesFit
 pub mod ContentParts
 pub mod Postfixed
+pub mod Putting
 pub mod Grouped
+pub mod GroupedColumns

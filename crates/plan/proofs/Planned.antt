@@ -15,7 +15,7 @@ use Rattle.plan.proofs.Among.{are_among}
 use Rattle.plan.proofs.PlanFound.{plan_finds}
 use Rattle.plan.proofs.UniformPlan.{plan_reads, plan_uniform}
 
-plan_of : (catalogue : Catalogue) (statement : Statement) (plan : Shape) → SomeServes → OneServes → LeafNamesAreUnique → IsFormed catalogue → IsValidCatalogue catalogue → IsLocated catalogue statement plan → IsPlanOf catalogue statement plan
+pub plan_of : (catalogue : Catalogue) (statement : Statement) (plan : Shape) → SomeServes → OneServes → LeafNamesAreUnique → IsFormed catalogue → IsValidCatalogue catalogue → IsLocated catalogue statement plan → IsPlanOf catalogue statement plan
 plan_of catalogue statement plan cover one unique formed valid is = λ fetches of are. record {
   finds = plan_finds catalogue statement fetches plan cover one formed valid of are is;
   fetched = plan_reads catalogue statement fetches plan (are_among catalogue statement fetches unique formed of are) is;

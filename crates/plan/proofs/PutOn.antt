@@ -1,5 +1,5 @@
 -- Conditions of a joined relation, put on the columns of both: they hold of a row of both exactly where they hold of the joined row.
-use Rattle.std.proofs.Common.{◌≡◌, ℕ, zero, suc, ℤ, ◌+◌, ◌-◌, ◌<◌, ◌≤◌, ◌==◌, ◌&&◌, Bool, false, if◌then◌else◌, List, [], ◌∷◌, ◌++◌, length, Some, refl, ap, ap₂, sym, ◌∙◌, subst, arith}
+use Rattle.std.proofs.Common.{◌≡◌, ℕ, zero, suc, ℤ, ◌+◌, ◌-◌, ◌==◌, ◌&&◌, Bool, false, if◌then◌else◌, List, [], ◌∷◌, ◌++◌, length, Some, refl, ap, ap₂, sym, ◌∙◌, subst, arith}
 use Rattle.std.proofs.lemmas.Bool.Decides.{nat_tests}
 use Rattle.std.proofs.lemmas.Option.{slice_get_within}
 use Rattle.std.specs.List.{AllByRecursion, slice_get}
@@ -13,7 +13,7 @@ use Rattle.terms.specs.Row.{FitsKinds, key_of}
 use Rattle.terms.specs.Value.{kind_of}
 use Rattle.plan.specs.declared.stated.Places.{Places}
 use Rattle.plan.specs.Need.{on_column}
-use Rattle.plan.specs.Picked.{AreJoined, IsPutOn, joined_places, own_places, place_of, put_on}
+use Rattle.plan.specs.Picked.{AreJoined, joined_places, own_places, place_of, put_on}
 use Rattle.plan.proofs.Columns.{fits_at, fits_set}
 use Rattle.plan.proofs.JoinFound.{fits_long}
 use Rattle.plan.proofs.Meeting.{first_of, integer, rest_of}
@@ -63,18 +63,6 @@ front_holds types row other (c ∷ conds) long fit =
     let within = slice_get_within types c.col (kind_of c.value) fit.0.column in
     ap₂ (λ one all. one && all) (ap (holds_of c) (get_front row other c.col (omega (arith, within, long)))) (front_holds types row other conds long fit.1)
 
--- the places are numbers of 64 bits
-within_some : (types : List Kind) (past : ℕ) (conds : List Cond) → past + length types ≤ 32 → AllByRecursion (IsCondOf types) conds → AllByRecursion (λ c. past + c.col < 18446744073709551616) conds
-within_some types past [] few fit = tt
-within_some types past (c ∷ conds) few fit =
-    let within = slice_get_within types c.col (kind_of c.value) fit.0.column in
-    (omega (arith, within, few), within_some types past conds few fit.1)
-
-pub own_is_put : (types others : List Kind) (conds : List Cond) → length types ≤ 16 → AllByRecursion (IsCondOf types) conds → IsPutOn (types ++ others) own_places conds
-own_is_put types others conds few fit =
-    let Fit : List Cond → Type 0 = λ cs. AllByRecursion (IsCondOf (types ++ others)) cs in
-    record { fit = subst Fit (sym (put_own conds)) (front_fit types others conds fit); within = within_some types 0 conds (omega (arith, few)) fit }
-
 -- a joined relation's columns are of the same types on their places
 kinds_placed : (types others : List Kind) (col : ℕ) → AreJoined types others col → (place : ℕ) → slice_get (types ++ others) (place_of (joined_places col (length types)) place) ≡ slice_get others place
 kinds_placed types others col joined place =
@@ -87,12 +75,6 @@ kinds_placed types others col joined place =
 
 pub joined_put : (types others : List Kind) (col : ℕ) (conds : List Cond) → AreJoined types others col → AllByRecursion (IsCondOf others) conds → AllByRecursion (IsCondOf (types ++ others)) (put_on (joined_places col (length types)) conds)
 joined_put types others col conds joined fit = placed_fit (types ++ others) others (joined_places col (length types)) (kinds_placed types others col joined) conds fit
-
-joined_within : (types others : List Kind) (conds : List Cond) → length types ≤ 16 → length others ≤ 16 → AllByRecursion (IsCondOf others) conds → AllByRecursion (λ c. length types + c.col < 18446744073709551616) conds
-joined_within types others conds few few_others fit = within_some others (length types) conds (omega (arith, few, few_others)) fit
-
-pub joined_is_put : (types others : List Kind) (col : ℕ) (conds : List Cond) → AreJoined types others col → length types ≤ 16 → length others ≤ 16 → AllByRecursion (IsCondOf others) conds → IsPutOn (types ++ others) (joined_places col (length types)) conds
-joined_is_put types others col conds joined few few_others fit = record { fit = joined_put types others col conds joined fit; within = joined_within types others conds few few_others fit }
 
 -- a row of both relations, which tells of conditions what a row of each tells, where their columns of ON agree
 pub record IsPair (types others : List Kind) (col : ℕ) (pair row other : List Value) : Type 0 where

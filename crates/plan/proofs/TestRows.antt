@@ -1,7 +1,7 @@
 -- Whether some row meets conditions is decided column by column, by the test values.
-use Rattle.std.proofs.Common.{◌≡◌, ℕ, zero, suc, ◌+◌, ◌<◌, ◌==◌, ◌||◌, not, Bool, true, false, List, [], ◌∷◌, length, Option, Some, None, is_some, IfSome, IfNone, Contains, inl, inr, refl, ap, sym, ◌∙◌, subst, arith, slice_index_or}
+use Rattle.std.proofs.Common.{◌≡◌, ℕ, zero, suc, ◌+◌, ◌<◌, ◌==◌, ◌||◌, not, Bool, true, List, [], ◌∷◌, length, Some, Contains, inl, inr, refl, ap, ◌∙◌, subst, arith, slice_index_or}
 use Rattle.std.specs.List.{AllByRecursion, list_any, slice_get}
-use Rattle.std.proofs.lemmas.Bool.{and_from, and_parts, both_ways, eq-eqb, false_from_ne_true, not_from_true, or_cases, or_left, or_right}
+use Rattle.std.proofs.lemmas.Bool.{and_from, and_parts, both_ways, eq-eqb, not_from_true, or_cases, or_left, or_right}
 use Rattle.std.proofs.lemmas.List.Elements.{All-contains, All-contains_itself, recursion_from_All}
 use Rattle.std.proofs.lemmas.List.Sums.{AllPass-from_list_all}
 use Rattle.terms.specs.declared.cond.Cond.{Cond}
@@ -113,18 +113,3 @@ row_meets kinds conds fit met =
     let same = here_is i at is in
     let there = subst (λ (k : ℕ). slice_get tests k ≡ Some value) same in_row in
     ((stand.1).are_tests at kind value (subst (λ (k : ℕ). slice_get kinds k ≡ Some kind) same in_kinds) there, column_from_row conds tests at value there holds))
-
-pub none_meets : (kinds : List Kind) (conds : List Cond) → AllByRecursion (IsCondOf kinds) conds → ((row : List Value) → FitsKinds kinds row → conds_hold conds row ≡ true → ⊥) → can_be_met kinds conds ≡ false
-none_meets kinds conds fit none = false_from_ne_true (can_be_met kinds conds) (λ met. let found = met_by_row kinds conds fit met in none found.row found.fits found.holds)
-
--- whether a row was found tells it
-found_tells : (kinds : List Kind) (conds : List Cond) (found : Option (List Value)) → AllByRecursion (IsCondOf kinds) conds → IfSome found (λ row. FitsKinds kinds row) → IfSome found (λ row. conds_hold conds row ≡ true) →
-    IfNone found ((row : List Value) → FitsKinds kinds row → conds_hold conds row ≡ true → ⊥) → is_some found ≡ can_be_met kinds conds
-found_tells kinds conds None fit fits holds none = sym (none_meets kinds conds fit none)
-found_tells kinds conds (Some row) fit fits holds none = sym (row_meets kinds conds fit (record { row = row; fits = fits; holds = holds }))
-
-pub same_found_tells : (kinds : List Kind) (conds own : List Cond) (found : Option (List Value)) → own ≡ conds → AllByRecursion (IsCondOf kinds) conds → IfSome found (λ row. FitsKinds kinds row) → IfSome found (λ row. conds_hold own row ≡ true) →
-    IfNone found ((row : List Value) → FitsKinds kinds row → conds_hold own row ≡ true → ⊥) → is_some found ≡ can_be_met kinds conds
-same_found_tells kinds conds own found same fit fits holds none =
-    let Fit : List Cond → Type 0 = λ all. AllByRecursion (IsCondOf kinds) all in
-    found_tells kinds own found (subst Fit (sym same) fit) fits holds none ∙ ap (can_be_met kinds) same

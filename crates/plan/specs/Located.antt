@@ -7,11 +7,15 @@ use Rattle.catalog.specs.declared.fragment_leaf.FragmentLeaf.{FragmentLeaf}
 use Rattle.catalog.specs.Catalogue.{Catalogue}
 use Rattle.catalog.specs.Counts.{has}
 use Rattle.catalog.specs.Path.{wanted}
+use Rattle.plan.specs.declared.fetch.Fetch as fetch
 use Rattle.plan.specs.declared.link.Link.{Link}
 use Rattle.plan.specs.declared.need.Need.{Need}
+use Rattle.plan.specs.declared.postfix.Node.{Node}
 use Rattle.plan.specs.Fetch.{fetch_of}
 use Rattle.plan.specs.Found.{asked}
 use Rattle.plan.specs.Need.{needs}
+use Rattle.plan.specs.Postfix.{postfix}
+use Rattle.plan.specs.Reduced.{is_fetched, reduced}
 use Rattle.plan.specs.Rows.{is_seen}
 use Rattle.plan.specs.Shape.{Shape, Empty, Fetch, Filter, Project, Union, KeyJoin, Lookup}
 use Rattle.plan.specs.Stated.{leaves_of}
@@ -23,6 +27,10 @@ reaches need columns leaf = wanted need.columns leaf.steps && list_all (has leaf
 -- the reads of those leaves, each cut to these columns
 abbrev pub covers : Need → List ℕ → List FragmentLeaf → List Shape
 covers need columns leaves = map (λ leaf. Project columns (Fetch (fetch_of need leaf))) (filter (reaches need columns) leaves)
+
+-- the read of one leaf, cut to these columns
+abbrev pub cut_read : Need → List ℕ → FragmentLeaf → Shape
+cut_read need columns leaf = Project columns (Fetch (fetch_of need leaf))
 
 -- what a union puts together, in order, whatever its tree
 abbrev pub united : Shape → List Shape
@@ -88,3 +96,9 @@ IsOfNeeds catalogue links (need ∷ needs) plan = (left : Shape) × IsOfNeed cat
 -- of the rows of its needs those that meet its conditions
 abbrev pub IsLocated : Catalogue → Statement → Shape → Type 0
 IsLocated catalogue statement plan = (below : Shape) × (plan ≡ Filter (asked statement) below) × IsOfNeeds catalogue (needs statement).links (needs statement).relations below
+
+-- behind other nodes stand those of some such plan, without the reads of leaves that are not fetched
+pub record PutsPlan (IsSuch : Shape → Type 0) (fetches : List fetch.Fetch) (before nodes : List Node) : Type 0 where
+  pub plan : Shape
+  pub is : IsSuch plan
+  pub put : nodes ≡ before ++ postfix (reduced (is_fetched fetches) plan)

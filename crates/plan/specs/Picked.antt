@@ -1,5 +1,5 @@
 -- The fetches of a statement as a function: those of the leaves that tests pick. For an ON it is a test over the rows of both relations, in which its two columns are one.
-use Rattle.std.specs.Prelude.{◌≡◌, ℕ, suc, ◌+◌, ◌<◌, ◌==◌, ◌&&◌, Bool, true, if◌then◌else◌, List, [], ◌∷◌, ◌++◌, Some, map, filter, length}
+use Rattle.std.specs.Prelude.{◌≡◌, ℕ, suc, ◌+◌, ◌==◌, ◌&&◌, Bool, true, not, if◌then◌else◌, List, [], ◌∷◌, ◌++◌, Some, map, filter, length}
 use Rattle.std.specs.List.{AllByRecursion, list_all, list_any, slice_get}
 use Rattle.terms.specs.declared.cond.Cond.{Cond}
 use Rattle.terms.specs.declared.value.Kind.{Kind}
@@ -27,6 +27,10 @@ abbrev pub columns_met : List Cond → ℕ → List Kind → Bool
 columns_met conds col [] = true
 columns_met conds col (kind ∷ kinds) = list_any (column_holds conds col) (test_values kind (constants conds col)) && columns_met conds (suc col) kinds
 
+-- whether no condition is on a column
+abbrev pub is_free : List Cond → ℕ → Bool
+is_free conds col = list_all (λ cond. not (cond.col == col)) conds
+
 -- whether some row of these types meets conditions that fit them
 abbrev pub can_be_met : List Kind → List Cond → Bool
 can_be_met kinds conds = columns_met conds 0 kinds
@@ -47,11 +51,6 @@ place_of places col = if col == 0 then places.key else places.past + col
 abbrev pub put_on : Places → List Cond → List Cond
 put_on places conds = map (λ cond. on_column (place_of places cond.col) cond) conds
 
--- on these places conditions fit rows of these types, and the places are numbers of 64 bits
-pub record IsPutOn (kinds : List Kind) (places : Places) (conds : List Cond) : Type 0 where
-  pub fit : AllByRecursion (IsCondOf kinds) (put_on places conds)
-  pub within : AllByRecursion (λ cond. places.past + cond.col < 18446744073709551616) conds
-
 -- two relations are joined by an integer column of the one and the key of the other
 pub record AreJoined (kinds others : List Kind) (col : ℕ) : Type 0 where
   pub column : slice_get kinds col ≡ Some Int
@@ -61,6 +60,10 @@ pub record AreJoined (kinds others : List Kind) (col : ℕ) : Type 0 where
 abbrev pub TieFits : Catalogue → Need → Tie → Type 0
 TieFits catalogue need (ByColumn col other) = AreJoined (kinds_in catalogue need.relation) (kinds_in catalogue other.relation) col × AllByRecursion (IsCondOf (kinds_in catalogue other.relation)) other.conds
 TieFits catalogue need (ByKey col other) = AreJoined (kinds_in catalogue other.relation) (kinds_in catalogue need.relation) col × AllByRecursion (IsCondOf (kinds_in catalogue other.relation)) other.conds
+
+-- rows that are tried: of these types, with a need's columns on these places, and with all that is asked of them
+abbrev pub trial_of : List Kind → Places → List Cond → Trial
+trial_of kinds places asked = record { kinds = kinds; places = places; asked = asked }
 
 -- what rows are tried for a need alone, and what pairs of rows for an ON: of these types, with the need's columns on these places, and all that is asked of them beside a leaf's conditions
 abbrev pub own_trial : Catalogue → Need → Trial
@@ -83,11 +86,6 @@ trials_of catalogue need ties = own_trial catalogue need ∷ map (tie_trial cata
 -- whether some row meets a leaf's conditions and all those that are asked
 abbrev pub succeeds : FragmentLeaf → Trial → Bool
 succeeds leaf trial = can_be_met trial.kinds (put_on trial.places leaf.conds ++ trial.asked)
-
--- a leaf may be tried so: what is asked, and its conditions on their places, fit the rows
-pub record IsTriedOn (trial : Trial) (leaf : FragmentLeaf) : Type 0 where
-  pub asked : AllByRecursion (IsCondOf trial.kinds) trial.asked
-  pub leaf_conds : IsPutOn trial.kinds trial.places leaf.conds
 
 -- a leaf is picked where it is wanted, and each trial succeeds
 abbrev pub picks : List Trial → Need → FragmentLeaf → Bool

@@ -1,9 +1,8 @@
 -- Plans as lists of their nodes, each behind those that it is made of.
-use Rattle.std.specs.Prelude.{List, [], ◌∷◌, ◌++◌, map, reverse}
-use Rattle.plan.specs.declared.plan.Plan.{Plan}
+use Rattle.std.specs.Prelude.{List, [], ◌∷◌, ◌++◌}
 use Rattle.plan.specs.declared.postfix.Node.{Node}
 use Rattle.plan.specs.declared.postfix.Node.TheVariants as node
-use Rattle.plan.specs.Shape.{Shape, Empty, Fetch, Filter, Project, Union, KeyJoin, Lookup, shape}
+use Rattle.plan.specs.Shape.{Shape, Empty, Fetch, Filter, Project, Union, KeyJoin, Lookup}
 
 -- the nodes of a plan
 abbrev pub postfix : Shape → List Node
@@ -42,7 +41,3 @@ stack_of (next ∷ nodes) stack = stack_of nodes (after next stack)
 -- the plan that nodes leave on top
 abbrev pub plan_of : List Node → Shape
 plan_of nodes = top (stack_of nodes [])
-
--- a stack whose top stands last
-abbrev pub seen : List Plan → List Shape
-seen plans = reverse (map shape plans)

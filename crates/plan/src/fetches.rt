@@ -1,6 +1,6 @@
 //! The fetches of a statement.
 
-ghost use Rattle.std.specs.Prelude.{◌≡◌, ◌++◌, ◌+◌, ◌<◌, IfOk, IfSome, map, option_map};
+ghost use Rattle.std.specs.Prelude.{◌≡◌, ◌++◌, ◌+◌, ◌<◌, IfOk, IfSome, OnOk, map, option_map};
 ghost use Rattle.std.specs.List.{AllByRecursion};
 ghost use Rattle.terms.specs.Cond.{IsCondOf};
 ghost use Rattle.meaning.specs.declared.statement.Statement.{Statement as StatementNow};
@@ -8,13 +8,13 @@ ghost use Rattle.meaning.specs.Statement.{IsStatementOf};
 ghost use Rattle.catalog.specs.FragmentLeaf.{schemas_of};
 ghost use Rattle.catalog.specs.Relation.{catalogue_of};
 ghost use Rattle.plan.specs.Need as needed;
-ghost use Rattle.plan.specs.Picked.{AreNeedsOf, TieFits, own_trial, picked, put_on, tie_trial, trials_of};
+ghost use Rattle.plan.specs.Picked.{AreNeedsOf, TieFits, picked, put_on, tie_trial, trials_of};
 ghost use Rattle.plan.specs.Stated.{AreFetchesOf, ByColumn, ByKey, kinds_in, leaves_of, tie_of, ties_of};
 
 use crate::fetch::Fetch;
 use crate::link::Link;
 use crate::need::{Need, Needs, statement_needs};
-use crate::stated::{Places, Trial, own_places, picked, put_on};
+use crate::stated::{Places, Trial, own_places, put_on, put_picked};
 use catalog::catalogue::Catalog;
 use catalog::laws::some_leaf_serves;
 use meaning::schema::Column;
@@ -54,33 +54,32 @@ pub(crate) fn needed_fetches(
     let _relations = catalog.relations();
     let mut fetches = Vec::new(alloc);
     for (number, need) in needs.relations.as_slice().iter().enumerate() {
-        let mut found = need_fetches(alloc, catalog, needs, number, need)?;
-        fetches.append(&mut found)?;
+        put_fetches(alloc, catalog, needs, number, need, &mut fetches)?;
     }
     Ok(fetches)
 }
 
-/// The fetches of the need of a number.
-fn need_fetches(
+/// Puts out the fetches of the need of a number.
+fn put_fetches(
     alloc: Global,
     catalog: &Catalog,
     needs: &Needs,
     number: usize,
     need: &Need,
-) -> Result<Vec<Fetch>, Memory>
+    out: &mut Vec<Fetch>,
+) -> Result<(), Memory>
     requires need { AllByRecursion (IsCondOf (kinds_in (catalogue_of catalog.now) need.now.relation)) need.now.conds }
     requires ties { AllByRecursion (TieFits (catalogue_of catalog.now) need.now) (ties_of needs.now number) }
-    ensures { IfOk result (λ fetches. fetches.items ≡ picked (trials_of (catalogue_of catalog.now) need.now (ties_of needs.now number)) need.now (leaves_of (catalogue_of catalog.now) need.now.relation)) }
+    ensures { OnOk result (out.new.items ≡ out.old.items ++ picked (trials_of (catalogue_of catalog.now) need.now (ties_of needs.now number)) need.now (leaves_of (catalogue_of catalog.now) need.now.relation)) }
 {
-    let _relations = catalog.relations();
-    let trials = trials_of(alloc, catalog, needs, number, need)?;
+    let columns = relation_columns(catalog, need.relation.as_str());
+    let ties = tie_trials(alloc, catalog, needs, number, need)?;
     let leaves = catalog.leaves_of(need.relation.as_str());
-    picked(alloc, trials.as_slice(), need, leaves)
+    put_picked(alloc, columns, ties.as_slice(), need, leaves, out)
 }
 
-/// The rows that are tried for the need of a number: of its relation alone, and for each of its ONs those
-/// of both relations.
-fn trials_of(
+/// The rows of both relations that are tried for each of the ONs of the need of a number.
+fn tie_trials(
     alloc: Global,
     catalog: &Catalog,
     needs: &Needs,
@@ -89,10 +88,9 @@ fn trials_of(
 ) -> Result<Vec<Trial>, Memory>
     requires need { AllByRecursion (IsCondOf (kinds_in (catalogue_of catalog.now) need.now.relation)) need.now.conds }
     requires ties { AllByRecursion (TieFits (catalogue_of catalog.now) need.now) (ties_of needs.now number) }
-    ensures { IfOk result (λ trials. trials.items ≡ trials_of (catalogue_of catalog.now) need.now (ties_of needs.now number)) }
+    ensures { IfOk result (λ trials. trials.items ≡ map (tie_trial (catalogue_of catalog.now) need.now) (ties_of needs.now number)) }
 {
     let mut trials = Vec::new(alloc);
-    trials.push(own_trial(alloc, catalog, need)?)?;
     let relations = needs.relations.as_slice();
     for link in needs.links.as_slice() {
         if let Some(trial) = link_trial(alloc, catalog, relations, number, need, link)? {
@@ -128,18 +126,6 @@ fn link_trial(
         return Ok(Some(key_trial(alloc, catalog, link.col, other, need)?));
     }
     Ok(None)
-}
-
-/// The rows of a need's relation.
-fn own_trial(alloc: Global, catalog: &Catalog, need: &Need) -> Result<Trial, Memory>
-    ensures { IfOk result (λ trial. trial ≡ own_trial (catalogue_of catalog.now) need.now) }
-{
-    let kinds = relation_kinds(alloc, catalog, need.relation.as_str())?;
-    Ok(Trial {
-        kinds: Seq::new(kinds),
-        places: own_places(),
-        asked: need.conds.copy()?,
-    })
 }
 
 /// The rows of two relations, of which the second has as its key a column of the first, for leaves of the first.
@@ -206,9 +192,16 @@ fn asked_of_both(alloc: Global, places: Places, need: &Need, other: &Need) -> Re
 fn relation_kinds(alloc: Global, catalog: &Catalog, name: &str) -> Result<Vec<Kind>, Memory>
     ensures { IfOk result (λ kinds. kinds.items ≡ kinds_in (catalogue_of catalog.now) name.now) }
 {
+    column_kinds(alloc, relation_columns(catalog, name))
+}
+
+/// The columns of a relation of the catalogue; none where it is not there.
+fn relation_columns<'a>(catalog: &'a Catalog, name: &str) -> &'a [Column]
+    ensures { map (λ column. column.kind) result.now ≡ kinds_in (catalogue_of catalog.now) name.now }
+{
     match catalog.relation(name) {
-        Some(relation) => column_kinds(alloc, relation.schema.columns.as_slice()),
-        None => Ok(Vec::new(alloc)),
+        Some(relation) => relation.schema.columns.as_slice(),
+        None => &[],
     }
 }
 

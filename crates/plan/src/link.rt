@@ -27,10 +27,14 @@ pub struct Link {
 pub fn links_of(alloc: Global, select: &Select) -> Result<Vec<Link>, Memory>
     ensures { IfOk result (λ links. links.items ≡ spec.links_of select.now) }
 {
+    let joins = select.joins.as_slice();
+    if joins.is_empty() {
+        return Ok(Vec::new(alloc));
+    }
     let width = select.from.columns.as_slice().len();
     let mut widths = Vec::new(alloc);
     widths.push(width)?;
-    links_behind(alloc, widths, width, select.joins.as_slice())
+    links_behind(alloc, widths, width, joins)
 }
 
 /// The ONs of joins behind relations with so many columns each, and so many together.

@@ -35,25 +35,12 @@ pub fn localize(alloc: Global, catalog: &Catalog, statement: &Statement) -> Resu
     // Over what its fetches bring it finds what the statement is to find.
     ensures { IfOk result (λ plan. IsPlanOf (catalogue_of catalog.now) statement.now (shape plan)) }
 {
-    let needs = statement_needs(alloc, statement)?;
-    localize_needs(alloc, catalog, statement, &needs)
-}
-
-/// So where these are the needs of the statement.
-pub(crate) fn localize_needs(
-    alloc: Global,
-    catalog: &Catalog,
-    statement: &Statement,
-    needs: &Needs,
-) -> Result<Plan, Memory>
-    requires { needs.now ≡ needed.needs statement.now }
-    ensures { IfOk result (λ plan. IsPlanOf (catalogue_of catalog.now) statement.now (shape plan)) }
-{
     some_leaf_serves();
     one_leaf_serves();
     leaf_names_are_unique();
     let _relations = catalog.relations();
-    located(alloc, catalog, statement, needs)
+    let needs = statement_needs(alloc, statement)?;
+    located(alloc, catalog, statement, &needs)
 }
 
 /// The rows of a statement's needs that meet its conditions.
@@ -108,7 +95,7 @@ fn looked_up(
 }
 
 /// The conditions of a statement; an INSERT asks for its key, and a REFRAGMENT for every row.
-fn conds_asked(alloc: Global, statement: &Statement) -> Result<Conds, Memory>
+pub(crate) fn conds_asked(alloc: Global, statement: &Statement) -> Result<Conds, Memory>
     ensures { IfOk result (λ conds. conds ≡ asked statement.now) }
 {
     match statement {
@@ -138,7 +125,7 @@ fn side(alloc: Global, catalog: &Catalog, need: &Need) -> Result<Plan, Memory>
 }
 
 /// The columns without the key, each once.
-fn once(alloc: Global, columns: &[usize]) -> Result<Vec<usize>, Memory>
+pub(crate) fn once(alloc: Global, columns: &[usize]) -> Result<Vec<usize>, Memory>
     ensures { IfOk result (λ found. found.items ≡ once columns.now) }
 {
     let mut found = Vec::new(alloc);
@@ -173,7 +160,7 @@ fn by_columns(
 }
 
 /// A column, and those of others that the same leaves have.
-fn with_like(
+pub(crate) fn with_like(
     alloc: Global,
     need: &Need,
     leaves: &[FragmentLeaf],
@@ -193,7 +180,7 @@ fn with_like(
 }
 
 /// Those of columns that not the same leaves have as have the first one.
-fn without_like(
+pub(crate) fn without_like(
     alloc: Global,
     need: &Need,
     leaves: &[FragmentLeaf],
@@ -209,6 +196,18 @@ fn without_like(
         }
     }
     Ok(found)
+}
+
+/// Whether the same leaves have these columns as have the first one.
+pub(crate) fn all_together(
+    need: &Need,
+    leaves: &[FragmentLeaf],
+    first: usize,
+    others: &[usize],
+) -> bool
+    ensures { result ≡ list_all (located.together need.now leaves.now first) others.now }
+{
+    others.iter().all(|col| together(need, leaves, first, *col))
 }
 
 /// Whether each wanted leaf has both of two columns or none.
@@ -274,7 +273,7 @@ fn union_of(alloc: Global, mut plans: Vec<Plan>) -> Result<Plan, Memory>
 }
 
 /// Whether a leaf is wanted for a need and has these columns.
-fn reaches(need: &Need, columns: &[usize], leaf: &FragmentLeaf) -> bool
+pub(crate) fn reaches(need: &Need, columns: &[usize], leaf: &FragmentLeaf) -> bool
     ensures { result ≡ located.reaches need.now columns.now leaf.now }
 {
     wanted(need.columns.as_slice(), leaf.steps.as_slice())

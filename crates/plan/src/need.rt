@@ -2,7 +2,7 @@
 
 ghost use Rattle.std.specs.Prelude.{◌≡◌, ◌++◌, ◌∷◌, [], length, IfOk, OnOk};
 ghost use Rattle.plan.specs.Need as spec;
-ghost use Rattle.plan.specs.Need.{carried, conds_of, key_is, needs_behind, needs_of_select, places_of, places_to};
+ghost use Rattle.plan.specs.Need.{carried, conds_of, key_is, needs_behind, needs_of_select, places_of, places_on, places_to};
 
 use crate::link::{Link, equal_of, is_of, links_of};
 use meaning::statement::{Insert, Join, Select, Source, Statement};
@@ -107,8 +107,7 @@ fn need_of(
     ensures { IfOk result (λ need. need ≡ spec.need_of select.now links.now before source.now) }
 {
     let width = source.columns.as_slice().len();
-    let read = columns_read(alloc, links, select)?;
-    let columns = places_of(alloc, before, width, read.as_slice())?;
+    let columns = columns_read(alloc, links, before, width, select)?;
     let mut conds = conds_of(alloc, before, width, select.conds.as_slice())?;
     put_carried(&mut conds, links, before, width, select.conds.as_slice())?;
     Ok(Need {
@@ -153,45 +152,78 @@ fn need_of_all(alloc: Global, source: &Source, conds: &Conds) -> Result<Need, Me
     })
 }
 
-/// The columns that a SELECT reads: those in ON, those listed, and after them those in WHERE.
-fn columns_read(alloc: Global, links: &[Link], select: &Select) -> Result<Vec<usize>, Memory>
-    ensures { IfOk result (λ columns. columns.items ≡ spec.columns_read links.now select.now) }
+/// Those of the columns that a SELECT reads that are of a relation: those in ON, those listed, and after them
+/// those in WHERE.
+fn columns_read(
+    alloc: Global,
+    links: &[Link],
+    before: usize,
+    width: usize,
+    select: &Select,
+) -> Result<Vec<usize>, Memory>
+    ensures { IfOk result (λ columns. columns.items ≡ places_of before width (spec.columns_read links.now select.now)) }
 {
     let mut columns = Vec::new(alloc);
-    for link in links {
-        columns.push(link.place)?;
-        columns.push(link.key)?;
-    }
-    columns.extend_from_slice(select.columns.as_slice())?;
-    put_columns_of(&mut columns, select.conds.as_slice())?;
+    put_joined(&mut columns, before, width, links)?;
+    put_places(&mut columns, before, width, select.columns.as_slice())?;
+    put_columns_of(&mut columns, before, width, select.conds.as_slice())?;
     Ok(columns)
 }
 
-fn put_columns_of(out: &mut Vec<usize>, conds: &[Cond]) -> Result<(), Memory>
-    ensures { OnOk result (out.new.items ≡ out.old.items ++ spec.columns_of conds.now) }
+/// Puts out those of the places in ON that are of a relation, as its columns.
+fn put_joined(
+    out: &mut Vec<usize>,
+    before: usize,
+    width: usize,
+    links: &[Link],
+) -> Result<(), Memory>
+    ensures { OnOk result (out.new.items ≡ out.old.items ++ places_of before width (places_on links.now)) }
 {
-    for cond in conds {
-        out.push(cond.col)?;
+    for link in links {
+        put_place(out, before, width, link.place)?;
+        put_place(out, before, width, link.key)?;
     }
     Ok(())
 }
 
-/// Those of the places that are of a relation, as its columns.
-fn places_of(
-    alloc: Global,
+/// Puts out those of the places that are of a relation, as its columns.
+fn put_places(
+    out: &mut Vec<usize>,
     before: usize,
     width: usize,
     places: &[usize],
-) -> Result<Vec<usize>, Memory>
-    ensures { IfOk result (λ found. found.items ≡ places_of before width places.now) }
+) -> Result<(), Memory>
+    ensures { OnOk result (out.new.items ≡ out.old.items ++ places_of before width places.now) }
 {
-    let mut found = Vec::new(alloc);
     for place in places {
-        if is_of(before, width, *place) {
-            found.push(*place - before)?;
-        }
+        put_place(out, before, width, *place)?;
     }
-    Ok(found)
+    Ok(())
+}
+
+/// Puts out those of the places of conditions that are of a relation, as its columns.
+fn put_columns_of(
+    out: &mut Vec<usize>,
+    before: usize,
+    width: usize,
+    conds: &[Cond],
+) -> Result<(), Memory>
+    ensures { OnOk result (out.new.items ≡ out.old.items ++ places_of before width (spec.columns_of conds.now)) }
+{
+    for cond in conds {
+        put_place(out, before, width, cond.col)?;
+    }
+    Ok(())
+}
+
+/// Puts out a place, as the column that it is of a relation, if it is of that.
+fn put_place(out: &mut Vec<usize>, before: usize, width: usize, place: usize) -> Result<(), Memory>
+    ensures { OnOk result (out.new.items ≡ out.old.items ++ places_of before width (place ∷ [])) }
+{
+    if is_of(before, width, place) {
+        out.push(place - before)?;
+    }
+    Ok(())
 }
 
 /// Those of the conditions that are on a relation's places, on its columns.

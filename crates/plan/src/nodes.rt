@@ -12,9 +12,9 @@ ghost use Rattle.plan.specs.Uniform.{EachRead, IsUniform};
 
 use crate::fetch::Fetch;
 use crate::fetches::needed_fetches;
-use crate::localize::localize_needs;
 use crate::need::statement_needs;
-use crate::postfix::{Node, reduced_postfix};
+use crate::needed_nodes::put_plan;
+use crate::postfix::Node;
 use catalog::catalogue::Catalog;
 use meaning::statement::Statement;
 use std::alloc::Global;
@@ -46,8 +46,16 @@ pub fn reduced_nodes(
     ensures uniform { IfOk result (λ less. IsUniform (plan_of less.nodes.items)) }
 {
     let needs = statement_needs(alloc, statement)?;
-    let plan = localize_needs(alloc, catalog, statement, &needs)?;
     let fetches = needed_fetches(alloc, catalog, &needs)?;
-    let nodes = reduced_postfix(alloc, plan, fetches.as_slice())?;
+    // Three nodes for each leaf: its read, the cut to columns, and what puts it together with the others.
+    let mut nodes = Vec::with_capacity(alloc, fetches.len().saturating_mul(3))?;
+    put_plan(
+        alloc,
+        catalog,
+        statement,
+        &needs,
+        fetches.as_slice(),
+        &mut nodes,
+    )?;
     Ok(ReducedNodes { nodes, fetches })
 }

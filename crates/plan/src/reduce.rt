@@ -7,7 +7,7 @@ ghost use Rattle.meaning.specs.Statement.{IsStatementOf};
 ghost use Rattle.catalog.specs.FragmentLeaf.{schemas_of};
 ghost use Rattle.catalog.specs.Relation.{catalogue_of};
 ghost use Rattle.plan.specs.PlanOf.{IsPlanOf};
-ghost use Rattle.plan.specs.Reduced.{FindsAll, is_fetched, reduced};
+ghost use Rattle.plan.specs.Reduced.{FindsAll, is_fetched, reduced, same_leaf};
 ghost use Rattle.plan.specs.Shape.{shape};
 ghost use Rattle.plan.specs.Stated.{AreFetchesOf};
 ghost use Rattle.plan.specs.Uniform.{EachRead, IsUniform};
@@ -111,5 +111,12 @@ fn below_pruned(alloc: Global, plan: Box<Plan>, fetches: &[Fetch]) -> Result<Box
 pub(crate) fn is_fetched(fetches: &[Fetch], leaf: &Leaf) -> bool
     ensures { result ≡ is_fetched fetches.now leaf.now }
 {
-    fetches.iter().any(|read| read.leaf == *leaf)
+    fetches.iter().any(|read| is_same(&read.leaf, leaf))
+}
+
+/// Whether two leaves have one name. Their numbers are looked at first: leaves of one relation differ in these.
+fn is_same(one: &Leaf, other: &Leaf) -> bool
+    ensures { result ≡ same_leaf one.now other.now }
+{
+    one.number == other.number && *one == *other
 }

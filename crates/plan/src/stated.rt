@@ -1,18 +1,18 @@
 //! Which leaves a statement fetches.
 
-ghost use Rattle.std.specs.Prelude.{◌≡◌, ◌++◌, ◌+◌, ◌<◌, IfOk, OnOk};
-ghost use Rattle.std.specs.List.{AllByRecursion};
-ghost use Rattle.terms.specs.Cond.{IsCondOf};
-ghost use Rattle.plan.specs.Picked.{IsTriedOn, can_be_met, own_places, picked, picks};
+ghost use Rattle.std.specs.Prelude.{◌≡◌, ◌++◌, ◌∷◌, ◌+◌, ◌<◌, IfOk, OnOk, map};
+ghost use Rattle.std.specs.List.{AllByRecursion, list_all};
+ghost use Rattle.plan.specs.Picked.{own_places, picked, picks, succeeds, trial_of};
 ghost use Rattle.plan.specs.Picked as spec;
 
 use crate::fetch::{Fetch, fetch_of};
+use crate::met::{some_row_meets, some_row_of_meets};
 use crate::need::{Need, on_column};
 use catalog::fragment_leaf::FragmentLeaf;
 use catalog::path::wanted;
+use meaning::schema::Column;
 use std::alloc::Global;
 use terms::cond::{Cond, Conds};
-use terms::copy::TryCopy;
 use terms::memory::Memory;
 use terms::seq::Seq;
 use terms::value::Kind;
@@ -41,14 +41,6 @@ pub fn own_places() -> Places
     Places { key: 0, past: 0 }
 }
 
-/// Whether some row of these types meets all conditions.
-fn can_be_met(kinds: &[Kind], conds: Vec<Cond>) -> Result<bool, Memory>
-    requires { AllByRecursion (IsCondOf kinds.now) conds.items }
-    ensures { IfOk result (λ met. met ≡ can_be_met kinds.now conds.items) }
-{
-    Ok(Conds::new(conds).satisfiable(kinds)?.is_some())
-}
-
 /// Puts out conditions on a relation's columns as conditions on their places.
 pub fn put_on(out: &mut Vec<Cond>, places: Places, conds: &[Cond]) -> Result<(), Memory>
     requires { AllByRecursion (λ cond. places.past + cond.col < 18446744073709551616) conds.now }
@@ -65,58 +57,57 @@ pub fn put_on(out: &mut Vec<Cond>, places: Places, conds: &[Cond]) -> Result<(),
     Ok(())
 }
 
-fn put_conds(out: &mut Vec<Cond>, conds: &[Cond]) -> Result<(), Memory>
-    ensures { OnOk result (out.new.items ≡ out.old.items ++ conds.now) }
+/// Whether each trial of both relations of an ON succeeds: some row meets the leaf's conditions and those asked.
+fn all_succeed(alloc: Global, trials: &[Trial], leaf: &FragmentLeaf) -> Result<bool, Memory>
+    ensures { IfOk result (λ all. all ≡ list_all (succeeds leaf.now) trials.now) }
 {
-    for cond in conds {
-        out.push(cond.copy()?)?;
-    }
-    Ok(())
-}
-
-/// Whether some row meets a leaf's conditions and all those that a trial asks.
-fn succeeds(alloc: Global, trial: &Trial, leaf: &FragmentLeaf) -> Result<bool, Memory>
-    requires { IsTriedOn trial.now leaf.now }
-    ensures { IfOk result (λ met. met ≡ spec.succeeds leaf.now trial.now) }
-{
-    let mut conds = Vec::new(alloc);
-    put_on(&mut conds, trial.places, leaf.conds.as_slice())?;
-    put_conds(&mut conds, trial.asked.as_slice())?;
-    can_be_met(trial.kinds.as_slice(), conds)
-}
-
-/// Whether a leaf is wanted for a need, and each trial succeeds.
-fn picks(alloc: Global, trials: &[Trial], need: &Need, leaf: &FragmentLeaf) -> Result<bool, Memory>
-    requires { AllByRecursion (λ trial. IsTriedOn trial leaf.now) trials.now }
-    ensures { IfOk result (λ picked. picked ≡ picks trials.now need.now leaf.now) }
-{
-    if !wanted(need.columns.as_slice(), leaf.steps.as_slice()) {
-        return Ok(false);
-    }
+    let conds = leaf.conds.as_slice();
     for trial in trials {
-        if !succeeds(alloc, trial, leaf)? {
+        let asked = trial.asked.as_slice();
+        if !some_row_meets(alloc, trial.kinds.as_slice(), trial.places, conds, asked)? {
             return Ok(false);
         }
     }
     Ok(true)
 }
 
-/// The fetches of those of the leaves that are wanted for a need and of which each trial succeeds.
-pub fn picked(
+/// Whether a leaf is wanted for a need, and each trial succeeds: that of rows of its relation alone, and
+/// those of both relations of an ON.
+fn picks(
     alloc: Global,
-    trials: &[Trial],
+    columns: &[Column],
+    ties: &[Trial],
+    need: &Need,
+    leaf: &FragmentLeaf,
+) -> Result<bool, Memory>
+    ensures { IfOk result (λ picked. picked ≡ picks (trial_of (map (λ column. column.kind) columns.now) own_places need.now.conds ∷ ties.now) need.now leaf.now) }
+{
+    if !wanted(need.columns.as_slice(), leaf.steps.as_slice()) {
+        return Ok(false);
+    }
+    let (conds, asked) = (leaf.conds.as_slice(), need.conds.as_slice());
+    if !some_row_of_meets(alloc, columns, own_places(), conds, asked)? {
+        return Ok(false);
+    }
+    all_succeed(alloc, ties, leaf)
+}
+
+/// Puts out the fetches of those of the leaves that are wanted for a need and of which each trial succeeds.
+pub fn put_picked(
+    alloc: Global,
+    columns: &[Column],
+    ties: &[Trial],
     need: &Need,
     leaves: &[FragmentLeaf],
-) -> Result<Vec<Fetch>, Memory>
-    requires { AllByRecursion (λ leaf. AllByRecursion (λ trial. IsTriedOn trial leaf) trials.now) leaves.now }
-    ensures { IfOk result (λ fetches. fetches.items ≡ picked trials.now need.now leaves.now) }
+    out: &mut Vec<Fetch>,
+) -> Result<(), Memory>
+    ensures { OnOk result (out.new.items ≡ out.old.items ++ picked (trial_of (map (λ column. column.kind) columns.now) own_places need.now.conds ∷ ties.now) need.now leaves.now) }
 {
-    let mut fetches = Vec::new(alloc);
     for leaf in leaves {
-        if !picks(alloc, trials, need, leaf)? {
+        if !picks(alloc, columns, ties, need, leaf)? {
             continue;
         }
-        fetches.push(fetch_of(alloc, need, leaf)?)?;
+        out.push(fetch_of(alloc, need, leaf)?)?;
     }
-    Ok(fetches)
+    Ok(())
 }

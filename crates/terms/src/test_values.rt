@@ -13,7 +13,7 @@ use crate::value::{Kind, Value};
 use std::alloc::Global;
 
 /// The least value of a type.
-pub(crate) fn least(alloc: Global, kind: Kind) -> Result<Value, Memory>
+pub fn least(alloc: Global, kind: Kind) -> Result<Value, Memory>
     ensures { IfOk result (λ value. value ≡ least kind) }
 {
     match kind {
@@ -24,7 +24,7 @@ pub(crate) fn least(alloc: Global, kind: Kind) -> Result<Value, Memory>
 
 /// The least value that fits above another, if there is one. Texts have no control characters, so a
 /// space is the least that can follow one.
-pub(crate) fn after(alloc: Global, value: &Value) -> Result<Option<Value>, Memory>
+pub fn after(alloc: Global, value: &Value) -> Result<Option<Value>, Memory>
     ensures { IfOk result (λ next. next ≡ after value.now) }
 {
     match value {

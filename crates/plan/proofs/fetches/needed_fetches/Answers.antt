@@ -46,18 +46,18 @@ loop-number-preserved c =
     let catalogue = catalogue_of c.args.catalog.now in
     let needed = c.args.needs.now in
     let number = c.loop-number.number in
-    let put : c.append.new.self.items ≡ c.loop-number.fetches.items ++ fetched catalogue needed number c.need-item.result = search rules in
+    let put : c.put_fetches.new.out.items ≡ c.loop-number.fetches.items ++ fetched catalogue needed number c.need-item.result = search rules in
     ap (λ (found : List Fetch). found ++ fetches_from catalogue needed (number + 1) (drop (number + 1) needed.relations)) put
     ∙ one_more catalogue needed c.as_slice-need-items.result.now number c.need-item.result c.loop-number.fetches.items c.as_slice-need-items.ensures c.loop-number-test.true c.need-item.is c.loop-number.invariant
 
-pub need_fetches-requires-clause-need : goal.need_fetches-requires-clause-need
-need_fetches-requires-clause-need c =
+pub put_fetches-requires-clause-need : goal.put_fetches-requires-clause-need
+put_fetches-requires-clause-need c =
     let catalogue = catalogue_of c.args.catalog.now in
     let here : slice_get (needs c.requires.statement).relations c.loop-number.number ≡ Some c.need-item.result = needed_at (needs c.requires.statement).relations c.as_slice-need-items.result.now c.loop-number.number c.need-item.result (c.as_slice-need-items.ensures ∙ ap (λ (ns : Needs). ns.relations) c.requires.are) c.loop-number-test.true c.need-item.is in
     need_fit catalogue c.need-item.result (all_at (IsNeedOf catalogue) (needs c.requires.statement).relations c.loop-number.number c.need-item.result (needs_fit catalogue c.requires.statement c.relations-relations.ensures.formed c.relations-relations.ensures.valid c.requires.of_schemas) here)
 
-pub need_fetches-requires-clause-ties : goal.need_fetches-requires-clause-ties
-need_fetches-requires-clause-ties c =
+pub put_fetches-requires-clause-ties : goal.put_fetches-requires-clause-ties
+put_fetches-requires-clause-ties c =
     let catalogue = catalogue_of c.args.catalog.now in
     let here : slice_get (needs c.requires.statement).relations c.loop-number.number ≡ Some c.need-item.result = needed_at (needs c.requires.statement).relations c.as_slice-need-items.result.now c.loop-number.number c.need-item.result (c.as_slice-need-items.ensures ∙ ap (λ (ns : Needs). ns.relations) c.requires.are) c.loop-number-test.true c.need-item.is in
     let fit = ties_fit catalogue c.requires.statement c.loop-number.number c.need-item.result c.relations-relations.ensures.formed c.relations-relations.ensures.valid c.requires.of_schemas here in

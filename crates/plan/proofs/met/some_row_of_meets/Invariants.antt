@@ -1,0 +1,8 @@
+-- What each round of `met::some_row_of_meets` keeps.
+use Rattle.std.proofs.Common.{◌≡◌, ◌++◌, drop, map}
+use Rattle.plan.specs.Picked.{can_be_met, columns_met, put_on}
+use Rattle.plan.proofs.met.some_row_of_meets.Given as goal
+
+-- all columns are met if the rest are
+abbrev pub invariant-loop-col : goal.invariant-loop-col
+invariant-loop-col l = columns_met (put_on l.places l.of_leaf ++ l.others) l.col (map (λ column. column.kind) (drop l.col l.columns)) ≡ can_be_met (map (λ column. column.kind) l.columns) (put_on l.places l.of_leaf ++ l.others)
