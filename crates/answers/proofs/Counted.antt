@@ -1,12 +1,11 @@
 -- How many rows a plan has, by a table of them; and how many steps it takes to make it.
-use Rattle.std.proofs.Common.{◌≡◌, ℕ, ◌+◌, ◌≤◌, ℤ, ◌<ℤ◌, Bool, true, false, cond, is_some, List, [], ◌∷◌, filter, length, map, Option, Some, None, option_map, option_and_then, Result, Ok, Err, IfOk, OnOk, refl, ap, ap₂, sym, ◌∙◌, subst, arith}
+use Rattle.std.proofs.Common.{◌≡◌, ℤ, ◌<ℤ◌, Bool, true, false, cond, is_some, List, [], ◌∷◌, filter, length, map, Option, Some, None, option_map, option_and_then, refl, ap, ap₂, sym, ◌∙◌, arith}
 use Rattle.std.specs.List.{AllByRecursion}
 use Rattle.std.specs.Option.{option_or}
 use Rattle.std.specs.Ordering.{int_eq}
 use Rattle.std.proofs.lemmas.Int.{ints}
 use Rattle.std.proofs.lemmas.List.{length-map}
 use Rattle.terms.specs.declared.leaf.Leaf.{Leaf}
-use Rattle.terms.specs.declared.memory.Memory.{Memory}
 use Rattle.terms.specs.declared.value.Value.{Value}
 use Rattle.terms.specs.declared.value.Value.TheVariants.{Int}
 use Rattle.terms.specs.Cond.{conds_hold}
@@ -18,9 +17,8 @@ use Rattle.catalog.proofs.Keyed.{same_listing}
 use Rattle.plan.specs.Rows.{Seen, at_value, kept, merged, restricted, rows, seen_part, shifted}
 use Rattle.plan.specs.Shape.{Shape, Empty, Fetch, Filter, Project, Union, KeyJoin, Lookup}
 use Rattle.plan.specs.Uniform.{EachRead}
-use Rattle.answers.specs.declared.table.Table.{Table}
-use Rattle.answers.specs.Evaluated.{IsMade}
-use Rattle.answers.specs.Joined.{parts_read, row_count, rows_joined}
+use Rattle.answers.specs.Laid.{Table}
+use Rattle.answers.specs.Joined.{parts_read, row_count}
 use Rattle.answers.specs.Table.{AreParts, HasRows}
 use Rattle.answers.proofs.Merged.{at_filtered, merged_ascends, merged_at}
 
@@ -121,22 +119,3 @@ counted plan contents table given has =
     (λ key.
     some_mapped (seen_part table.columns) (row_at key table.rows) ∙ ap (λ (o : Option Seen). is_some o) (has.seen key) ∙ some_left (rows plan contents key) (row_at key parts) (none_read plan contents key given)
     ∙ ap (λ (o : Option (List Value)). is_some o) (sym (at_filtered test key parts)))
-
--- what is known of the table that a call may give, and of the steps
-
-pub made_alone : (result : Result Table Memory) (plan same : Shape) (contents : Leaf → List (List Value)) (made : Table) (old new : ℕ) → IfOk result (λ table. table ≡ made) → plan ≡ same → IsMade same contents made → new ≤ old + rows_joined same contents →
-    IfOk result (λ table. IsMade plan contents table × (new ≤ old + rows_joined plan contents))
-made_alone (Ok table) plan same contents made old new is plan_is holds within =
-    let P : Shape → Type 0 = λ p. IsMade p contents table × (new ≤ old + rows_joined p contents) in
-    let Q : Table → Type 0 = IsMade same contents in
-    subst P (sym plan_is) (subst Q (sym is) holds, within)
-made_alone (Err error) plan same contents made old new is plan_is holds within = tt
-
-pub made_counted : (result : Result Table Memory) (plan same : Shape) (contents : Leaf → List (List Value)) (made : Table) (old new most : ℕ) → IfOk result (λ table. table ≡ made) → OnOk result (new ≤ most) → plan ≡ same → IsMade same contents made → most ≤ old + rows_joined same contents →
-    IfOk result (λ table. IsMade plan contents table × (new ≤ old + rows_joined plan contents))
-made_counted (Ok table) plan same contents made old new most is under plan_is holds within = made_alone (Ok table) plan same contents made old new is plan_is holds (omega (arith, under, within))
-made_counted (Err error) plan same contents made old new most is under plan_is holds within = tt
-
--- the steps of both sides, and those that put them together
-pub both_counted : (old one other sum sum_other rows others count count_other : ℕ) → one ≤ old + sum → other ≤ one + sum_other → rows ≡ count → others ≡ count_other → other + (rows + others) ≤ old + (sum + sum_other + (count + count_other))
-both_counted old one other sum sum_other rows others count count_other most most_other is is_other = omega (arith, most, most_other, is, is_other)

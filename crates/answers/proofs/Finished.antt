@@ -11,7 +11,7 @@ use Rattle.catalog.specs.Catalogue.{Catalogue, IsValidCatalogue}
 use Rattle.catalog.specs.Formed.{IsFormed}
 use Rattle.catalog.specs.FragmentLeaf.{catalogue_leaves, schemas_of}
 use Rattle.answers.specs.declared.finish.Outcome.{Outcome}
-use Rattle.answers.specs.declared.table.Table.{Table}
+use Rattle.answers.specs.Laid.{Table}
 use Rattle.answers.specs.Outcome.{outcome_of}
 use Rattle.answers.specs.Table.{IsTableOf}
 use Rattle.answers.specs.Writes.{writes_between}

@@ -27,7 +27,7 @@ use Rattle.plan.proofs.CarriedConds.{both}
 use Rattle.plan.proofs.InCatalogue.{IsIn, is_in}
 use Rattle.plan.proofs.JoinRows.{key_there}
 use Rattle.plan.proofs.OneSide.{all_at}
-use Rattle.answers.specs.declared.table.Table.{Table}
+use Rattle.answers.specs.Laid.{Table}
 use Rattle.answers.specs.Outcome.{added, insert_outcome}
 use Rattle.answers.specs.Table.{IsTableOf, seen_rows}
 use Rattle.answers.proofs.LeafByLeaf.{nothing_between, put_change, writes_are}

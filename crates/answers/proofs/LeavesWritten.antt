@@ -15,7 +15,7 @@ use Rattle.plan.specs.Reduced.{same_leaf}
 use Rattle.plan.proofs.Covered.{or_second}
 use Rattle.answers.specs.declared.change.Change.{Change}
 use Rattle.answers.specs.declared.finish.Outcome.{Outcome}
-use Rattle.answers.specs.declared.table.Table.{Table}
+use Rattle.answers.specs.Laid.{Table}
 use Rattle.answers.specs.Outcome.{added, change_write, changes_of, insert_outcome, leaf_changes, outcome_of, part_of, removed, rows_changed, with_changes, writes_of}
 use Rattle.answers.specs.Writes.{is_leaf_in, leaf_of, same_part, write_between}
 

@@ -1,5 +1,6 @@
 pub mod Mapped
 pub mod Picked
+pub mod Laid
 pub mod Merged
 pub mod Merging
 pub mod Pairing
@@ -7,6 +8,7 @@ pub mod Placed
 pub mod Once
 pub mod Made
 pub mod Counted
+pub mod OnTop
 pub mod Listing
 pub mod WritesLaw
 pub mod LeafByLeaf
@@ -24,3 +26,4 @@ pub mod LeafNumbers
 pub mod MovesLead
 pub mod Numbered
 pub mod Whole
+pub mod LaidTables

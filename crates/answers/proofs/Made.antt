@@ -1,11 +1,10 @@
 -- Each node of a plan makes of the tables below it what the plan's rows are.
-use Rattle.std.proofs.Common.{◌≡◌, ◌⊎◌, inl, inr, ℕ, ◌+◌, ◌<◌, ℤ, Bool, true, false, cond, not, List, [], ◌∷◌, length, filter, map, Option, Some, None, option_map, option_and_then, Result, Ok, Err, IfOk, refl, ap, ap₂, sym, ◌∙◌, subst, arith}
+use Rattle.std.proofs.Common.{◌≡◌, ◌⊎◌, inl, inr, ℕ, ◌+◌, ◌<◌, ℤ, Bool, true, false, cond, not, List, [], ◌∷◌, length, filter, map, Option, Some, None, option_map, option_and_then, refl, ap, ap₂, sym, ◌∙◌, subst, arith}
 use Rattle.std.specs.List.{AllByRecursion, cons_option, filter_map, slice_get}
 use Rattle.std.specs.Option.{option_or}
 use Rattle.std.proofs.lemmas.List.{length-append, length-map}
 use Rattle.terms.specs.declared.cond.Cond.{Cond}
 use Rattle.terms.specs.declared.leaf.Leaf.{Leaf}
-use Rattle.terms.specs.declared.memory.Memory.{Memory}
 use Rattle.terms.specs.declared.value.Value.{Value}
 use Rattle.terms.specs.declared.value.Value.TheVariants.{Int, Text}
 use Rattle.terms.specs.Cond.{conds_hold}
@@ -20,18 +19,13 @@ use Rattle.plan.specs.Rows.{Seen, at_value, is_seen, kept, merged, met, restrict
 use Rattle.plan.specs.Shape.{Shape, Fetch, Filter, Project, Union, KeyJoin, Lookup}
 use Rattle.plan.specs.Uniform.{Agree, IsUniform, beside, both_columns, columns_had, past, StayWithin}
 use Rattle.plan.proofs.OneSide.{all_at}
-use Rattle.answers.specs.declared.table.Table.{Table}
+use Rattle.answers.specs.Laid.{Table}
 use Rattle.answers.specs.Evaluated.{IsMade, cut, filtered, keyed, key_pairs, meeting, pair, partner_pairs, partnered, partnered_with, picked, united, united_with}
 use Rattle.answers.specs.Table.{AreParts, seen_rows}
 use Rattle.answers.proofs.Mapped.{KeepsKeyOf, ascends_kept, each, each_from, filter_is, found_key, map_is, passing, passing_keys, seen_mapped}
 use Rattle.answers.proofs.Merged.{merged_all, merged_ascends, merged_at}
 use Rattle.answers.proofs.Once.{once_beside, once_left, once_past}
 use Rattle.answers.proofs.Picked.{beside_first, cut_first, cut_key, cut_seen, or_none, pair_key, pair_seen, past_seen, picked_wide}
-
--- what is known of the one table that a call may give
-pub given_as : (result : Result Table Memory) (made : Table) (P : Table → Type 0) → IfOk result (λ table. table ≡ made) → P made → IfOk result P
-given_as (Ok table) made P is holds = subst P (sym is) holds
-given_as (Err error) made P is holds = tt
 
 -- a read
 pub fetch_made : (read : fetch.Fetch) (contents : Leaf → List (List Value)) → IsUniform (Fetch read) → AreParts read.columns (contents read.leaf) →

@@ -1,8 +1,11 @@
 -- Two lists of rows with ascending keys, gone through side by side for the rows that have one key.
-use Rattle.std.proofs.Common.{◌≡◌, ◌⊎◌, inl, inr, ℕ, ◌+◌, ◌<◌, ◌≤◌, ℤ, ◌<ℤ◌, List, [], ◌∷◌, ◌++◌, length, Option, Some, option_map, refl, ap, ap₂, sym, ◌∙◌, subst, append-nil, append_assoc, arith}
+use Rattle.std.proofs.Common.{◌≡◌, ◌⊎◌, inl, inr, ℕ, ◌+◌, ◌<◌, ◌≤◌, ℤ, ◌<ℤ◌, List, [], ◌∷◌, ◌++◌, length, Option, Some, None, option_map, refl, ap, ap₂, sym, ◌∙◌, subst, append-nil, append_assoc, arith}
 use Rattle.std.proofs.lemmas.List.{length-append}
 use Rattle.std.specs.List.{AllByRecursion, cons_option}
+use Rattle.std.specs.Option.{option_to_list}
 use Rattle.std.specs.Ordering.{int_cmp}
+use Rattle.std.specs.Vec.Iter.{into_iter_items, into_iter_len, into_iter_steps}
+use Rattle.std.specs.declared.vec.IntoIter.{IntoIter}
 use Rattle.std.specs.declared.cmp.Ordering.TheVariants.{Less, Equal, Greater}
 use Rattle.terms.specs.declared.value.Value.{Value}
 use Rattle.terms.specs.Row.{key_of}
@@ -14,7 +17,22 @@ use Rattle.answers.specs.Evaluated.{key_pairs, pair}
 use Rattle.answers.specs.Ledger.{one_more}
 use Rattle.answers.specs.Merged.{rows_above}
 use Rattle.answers.proofs.Merged.{all_above, key_pairs_above}
+use Rattle.answers.proofs.Picked.{no_length}
 use Rattle.answers.proofs.Merging.{has_it, not_above, same_keys, step_least, step_most}
+
+-- what is left of a list: the first one that was taken out, if there is one, and those that are to come
+abbrev pub left : {A : Type 0} → Option A → List A → List A
+left None rest = []
+left (Some first) rest = first ∷ rest
+
+module _ {A Z : Type 0} where
+  pub next_left : (old new : IntoIter A Z) (first : Option A) → into_iter_len old ≡ length (into_iter_items old) → into_iter_steps old first new → left first (into_iter_items new) ≡ into_iter_items old
+  next_left old new None long steps = sym (no_length (into_iter_items old) (sym long ∙ steps.0))
+  next_left old new (Some first) long steps = sym steps.0
+
+  pub next_long : (old new : IntoIter A Z) (first : Option A) → into_iter_len old ≡ length (into_iter_items old) → into_iter_items old ≡ option_to_list first ++ into_iter_items new → into_iter_len new + length (option_to_list first) ≡ into_iter_len old →
+      into_iter_len new ≡ length (into_iter_items new)
+  next_long old new first long items len = let all = ap (λ (l : List A). length l) items ∙ length-append (option_to_list first) (into_iter_items new) in omega (arith, long, all, len)
 
 -- what is paired, by the first rows of both
 
@@ -112,9 +130,11 @@ both_paired columns columns_other all all_others start found rest others steps b
 both_paired columns columns_other all all_others start found rest others steps before (inr none) =
     sym (ap (λ (o : List (List Value)). found ++ o) (ap (key_pairs columns columns_other rest) none ∙ none_paired columns columns_other rest) ∙ append-nil found) ∙ before.so_far
 
-pub so_paired : (columns columns_other : List ℕ) (all all_others : List (List Value)) (start : ℕ) (found made rest others : List (List Value)) (steps new : ℕ) → IsPairing columns columns_other all all_others start found rest others steps → made ≡ found → new ≡ steps →
-    IsPairing columns columns_other all all_others start made rest others new
-so_paired columns columns_other all all_others start found made rest others steps new is made_is new_is =
-    let P : List (List Value) → Type 0 = λ f. IsPairing columns columns_other all all_others start f rest others new in
-    let Q : ℕ → Type 0 = λ n. IsPairing columns columns_other all all_others start found rest others n in
-    subst P (sym made_is) (subst Q (sym new_is) is)
+pub so_paired : (columns columns_other : List ℕ) (all all_others : List (List Value)) (start : ℕ) (found made rest left_rest others left_others : List (List Value)) (steps new : ℕ) → IsPairing columns columns_other all all_others start found rest others steps → made ≡ found → left_rest ≡ rest →
+    left_others ≡ others → new ≡ steps → IsPairing columns columns_other all all_others start made left_rest left_others new
+so_paired columns columns_other all all_others start found made rest left_rest others left_others steps new is made_is rest_is others_is new_is =
+    let P : List (List Value) → Type 0 = λ f. IsPairing columns columns_other all all_others start f left_rest left_others new in
+    let Q : List (List Value) → Type 0 = λ r. IsPairing columns columns_other all all_others start found r left_others new in
+    let R : List (List Value) → Type 0 = λ o. IsPairing columns columns_other all all_others start found rest o new in
+    let S : ℕ → Type 0 = λ n. IsPairing columns columns_other all all_others start found rest others n in
+    subst P (sym made_is) (subst Q (sym rest_is) (subst R (sym others_is) (subst S (sym new_is) is)))

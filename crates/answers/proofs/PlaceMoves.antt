@@ -18,7 +18,7 @@ use Rattle.catalog.specs.Keyed.{row_at}
 use Rattle.catalog.proofs.Keyed.{content-at}
 use Rattle.plan.proofs.ContentParts.{content_ascends}
 use Rattle.answers.specs.declared.moves.Move.{Move}
-use Rattle.answers.specs.declared.table.Table.{Table}
+use Rattle.answers.specs.Laid.{Table}
 use Rattle.answers.specs.Merged.{merged_rows}
 use Rattle.answers.specs.Moved.{moves_by, part_held, rows_moved, site_moves}
 use Rattle.answers.specs.Moves.{at_site, content_of, is_there, leaf_numbered, leaf_there, moves_between, numbers, place_moves}

@@ -39,7 +39,7 @@ use Rattle.plan.proofs.Covered.{or_second}
 use Rattle.plan.proofs.JoinFound.{fits_long}
 use Rattle.answers.specs.declared.change.Change.{Change}
 use Rattle.answers.specs.declared.finish.Outcome.{Outcome}
-use Rattle.answers.specs.declared.table.Table.{Table}
+use Rattle.answers.specs.Laid.{Table}
 use Rattle.answers.specs.Outcome as spec
 use Rattle.answers.specs.Outcome.{changes_of, delete_outcome, refragment_outcome, removed, rows_changed, select_outcome, update_outcome, with_changes}
 use Rattle.answers.specs.Table.{IsTableOf}

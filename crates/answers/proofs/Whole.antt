@@ -1,52 +1,15 @@
--- Rows that are read whole: what is cut to all columns, or shown in all of them in order, is what it was.
-use Rattle.std.proofs.Common.{◌≡◌, ℕ, suc, ◌==◌, ◌||◌, Bool, true, false, cond, List, [], ◌∷◌, filter, length, map, Option, Some, None, option_map, option_and_then, refl, ap, ap₂, sym, subst, ◌∙◌, arith}
+-- Rows that are read whole: what is shown in all columns in order is what it was.
+use Rattle.std.proofs.Common.{◌≡◌, ℕ, suc, ◌==◌, ◌||◌, Bool, true, false, List, [], ◌∷◌, length, Option, Some, None, option_map, option_and_then, refl, ap₂, sym, subst, ◌∙◌, arith}
 use Rattle.std.specs.List.{cons_option, filter_map, list_all, slice_get}
 use Rattle.std.proofs.lemmas.Bool.{eqb-true}
 use Rattle.std.proofs.lemmas.Bool.Decides.{nat_tests}
-use Rattle.terms.specs.declared.cond.Cond.{Cond}
 use Rattle.terms.specs.declared.value.Value.{Value}
 use Rattle.catalog.specs.Counts.{has}
 use Rattle.plan.specs.Fetch.{place_in}
-use Rattle.plan.specs.Rows.{is_seen, seen_part}
+use Rattle.plan.specs.Rows.{seen_part}
 use Rattle.plan.specs.Uniform.{AreOnce}
 use Rattle.plan.proofs.CarriedConds.{both}
-use Rattle.answers.specs.declared.table.Table.{Table}
-use Rattle.answers.specs.Evaluated.{cut, filtered, meeting, picked}
 use Rattle.answers.specs.Outcome.{shown}
-
--- all that pass
-filter_all : {A : Type 0} (test : A → Bool) (xs : List A) → list_all test xs ≡ true → filter test xs ≡ xs
-filter_all test [] all = refl
-filter_all test (x ∷ xs) all = let each = both (test x) (list_all test xs) all in rw each.0 (ap (λ rest. x ∷ rest) (filter_all test xs each.1))
-
-no_conds : (columns : List ℕ) (rows : List (List Value)) → meeting [] columns rows ≡ rows
-no_conds columns [] = refl
-no_conds columns (row ∷ rows) = ap (λ (rest : List (List Value)). row ∷ rest) (no_conds columns rows)
-
--- without conditions
-pub none_filtered : (conds : List Cond) (table : Table) → (length conds == 0) ≡ true → table ≡ filtered conds table
-none_filtered (cond ∷ conds) table none = absurd (let is : suc (length conds) ≡ 0 = eqb-true (suc (length conds)) 0 none in omega (arith, is))
-none_filtered [] table none = ap (λ (rows : List (List Value)). let made : Table = record { columns = table.columns; rows = rows } in made) (sym (no_conds table.columns table.rows))
-
--- cut to all columns
-picked_all : (test : ℕ → Bool) (columns : List ℕ) (row : List Value) → list_all test columns ≡ true → length row ≡ length columns → picked test columns row ≡ row
-picked_all test [] [] all wide = refl
-picked_all test [] (value ∷ row) all wide = absurd (omega (arith, wide))
-picked_all test (col ∷ columns) [] all wide = refl
-picked_all test (col ∷ columns) (value ∷ row) all wide =
-    let each = both (test col) (list_all test columns) all in
-    rw each.0 (ap (λ (rest : List Value). value ∷ rest) (picked_all test columns row each.1 (omega (arith, wide))))
-
-rows_picked : (test : ℕ → Bool) (columns : List ℕ) (rows : List (List Value)) → list_all test columns ≡ true → list_all (λ row. length row == length columns) rows ≡ true → map (picked test columns) rows ≡ rows
-rows_picked test columns [] all wide = refl
-rows_picked test columns (row ∷ rows) all wide =
-    let each = both (length row == length columns) (list_all (λ row. length row == length columns) rows) wide in
-    ap₂ (λ (first : List Value) (rest : List (List Value)). first ∷ rest) (picked_all test columns row all (eqb-true (length row) (length columns) each.0)) (rows_picked test columns rows all each.1)
-
-pub whole_cut : (wanted : List ℕ) (table : Table) → list_all (is_seen wanted) table.columns ≡ true → list_all (λ row. length row == length table.columns) table.rows ≡ true → table ≡ cut wanted table
-whole_cut wanted table all wide =
-    ap₂ (λ (columns : List ℕ) (rows : List (List Value)). let made : Table = record { columns = columns; rows = rows } in made)
-    (sym (filter_all (is_seen wanted) table.columns all)) (sym (rows_picked (is_seen wanted) table.columns table.rows all wide))
 
 -- shown in all columns
 behind_first : (first : ℕ) (columns : List ℕ) (value : Value) (row : List Value) (col : ℕ) (t : Bool) → (first == col) ≡ t → t ≡ false → seen_part (first ∷ columns) (value ∷ row) col ≡ seen_part columns row col

@@ -19,7 +19,7 @@ use Rattle.plan.specs.Stated.{AreFetchesOf}
 use Rattle.plan.specs.Uniform.{EachRead}
 use Rattle.plan.proofs.Fetched.{of_all}
 use Rattle.answers.specs.declared.finish.Outcome.{Outcome}
-use Rattle.answers.specs.declared.table.Table.{Table}
+use Rattle.answers.specs.Laid.{Table}
 use Rattle.answers.specs.Table.{HasRows, IsTableOf}
 
 -- what holds of all fetches holds of each read of a plan that reads them alone

@@ -1,5 +1,5 @@
 -- A reader may skip this: what each node of a plan makes of the tables below it.
-use Rattle.std.specs.Prelude.{◌≡◌, ◌⊎◌, ◌&&◌, ◌==◌, ℕ, ℤ, Bool, true, not, int_lt, if◌then◌else◌, List, [], ◌∷◌, ◌++◌, Option, Some, None, filter, length, map, option_map}
+use Rattle.std.specs.Prelude.{◌≡◌, ◌⊎◌, ◌&&◌, ◌==◌, ℕ, ◌+◌, ◌≤◌, ℤ, Bool, true, not, int_lt, if◌then◌else◌, List, [], ◌∷◌, ◌++◌, Option, Some, None, filter, length, map, option_map}
 use Rattle.std.specs.List.{filter_map}
 use Rattle.terms.specs.declared.cond.Cond.{Cond}
 use Rattle.terms.specs.declared.leaf.Leaf.{Leaf}
@@ -9,10 +9,13 @@ use Rattle.meaning.specs.Selected.{partner}
 use Rattle.catalog.specs.Counts.{has}
 use Rattle.catalog.specs.Keyed.{row_at}
 use Rattle.plan.specs.declared.fetch.Fetch as fetch
+use Rattle.plan.specs.declared.postfix.Node.{Node}
+use Rattle.plan.specs.Postfix.{plan_of, stack_of, under}
 use Rattle.plan.specs.Rows.{is_seen, met, seen_meets, seen_part}
 use Rattle.plan.specs.Shape.{Shape}
 use Rattle.plan.specs.Uniform.{beside, columns_had, past}
-use Rattle.answers.specs.declared.table.Table.{Table}
+use Rattle.answers.specs.Laid.{Table}
+use Rattle.answers.specs.Joined.{rows_joined}
 use Rattle.answers.specs.Merged.{merged_rows}
 use Rattle.answers.specs.Table.{HasRows}
 
@@ -85,3 +88,10 @@ is_above (Some last) key = int_lt last key
 abbrev pub parts_climb : ℕ → Option ℤ → List (List Value) → Bool
 parts_climb width last [] = true
 parts_climb width last (part ∷ parts) = (length part == width) && (is_above last (key_of part) && parts_climb width (Some (key_of part)) parts)
+
+-- a table is made in these steps of the plan that nodes leave on top, and the nodes before leave what lies under it
+pub record IsOnTop (nodes before : List Node) (contents : Leaf → List (List Value)) (table : Table) (old new : ℕ) : Type 0 where
+  pub made : IsMade (plan_of nodes) contents table
+  pub steps : new ≤ old + rows_joined (plan_of nodes) contents
+  pub stack : stack_of before [] ≡ under (stack_of nodes [])
+  pub fewer : length before ≤ length nodes

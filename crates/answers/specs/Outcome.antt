@@ -25,7 +25,7 @@ use Rattle.plan.specs.Need.{places_to}
 use Rattle.plan.specs.Rows.{seen_part}
 use Rattle.answers.specs.declared.change.Change.{Change}
 use Rattle.answers.specs.declared.finish.Outcome.{Outcome}
-use Rattle.answers.specs.declared.table.Table.{Table}
+use Rattle.answers.specs.Laid.{Table}
 use Rattle.answers.specs.Writes.{same_part, write_between}
 
 -- the values that a table's rows have in the listed columns

@@ -1,9 +1,9 @@
-//! The rows of plans.
+//! The rows of plans, each given as the list of its nodes.
 
 ghost use Rattle.std.specs.Prelude.{◌≡◌, ◌+◌, ◌≤◌, IfOk};
-ghost use Rattle.plan.specs.Shape.{shape};
+ghost use Rattle.plan.specs.Postfix.{plan_of};
 ghost use Rattle.plan.specs.Uniform.{EachRead, IsUniform};
-ghost use Rattle.answers.specs.Evaluated.{IsMade};
+ghost use Rattle.answers.specs.Evaluated.{IsOnTop};
 ghost use Rattle.answers.specs.Joined.{rows_joined};
 ghost use Rattle.answers.specs.Table.{AreParts, HasRows, given};
 
@@ -11,19 +11,19 @@ use crate::ledger::Ledger;
 use crate::steps::{cut, filtered, keyed, partnered, table_read};
 use crate::table::{FetchRows, Table, given};
 use crate::unite::{no_rows, united};
-use plan::plan::Plan;
+use plan::postfix::Node;
 use std::alloc::Global;
 use terms::memory::Memory;
 
 /// The rows of a plan, over what its fetches brought.
-pub fn evaluate(alloc: Global, plan: &Plan, fetched: &[FetchRows]) -> Result<Table, Memory>
+pub fn evaluate(alloc: Global, nodes: &[Node], fetched: &[FetchRows]) -> Result<Table, Memory>
     // Both sides of each union have the same columns, and each read has the key first and no column twice.
-    requires plan { IsUniform (shape plan.now) }
+    requires plan { IsUniform (plan_of nodes.now) }
     // The parts of each fetch have its columns, and their keys ascend.
-    requires parts { EachRead (λ read. AreParts read.columns (given fetched.now read.leaf)) (shape plan.now) }
-    ensures { IfOk result (λ table. HasRows (shape plan.now) (given fetched.now) table) }
+    requires parts { EachRead (λ read. AreParts read.columns (given fetched.now read.leaf)) (plan_of nodes.now) }
+    ensures { IfOk result (λ table. HasRows (plan_of nodes.now) (given fetched.now) table) }
 {
-    let (table, _) = evaluate_counted(alloc, plan, fetched)?;
+    let (table, _) = evaluate_counted(alloc, nodes, fetched)?;
     Ok(table)
 }
 
@@ -31,61 +31,63 @@ pub fn evaluate(alloc: Global, plan: &Plan, fetched: &[FetchRows]) -> Result<Tab
 /// keys in a union or a key join, or one insertion into or look-up in the map of a look-up.
 pub fn evaluate_counted(
     alloc: Global,
-    plan: &Plan,
+    nodes: &[Node],
     fetched: &[FetchRows],
 ) -> Result<(Table, u64), Memory>
-    requires plan { IsUniform (shape plan.now) }
-    requires parts { EachRead (λ read. AreParts read.columns (given fetched.now read.leaf)) (shape plan.now) }
-    ensures rows { IfOk result (λ counted. HasRows (shape plan.now) (given fetched.now) counted.0) }
+    requires plan { IsUniform (plan_of nodes.now) }
+    requires parts { EachRead (λ read. AreParts read.columns (given fetched.now read.leaf)) (plan_of nodes.now) }
+    ensures rows { IfOk result (λ counted. HasRows (plan_of nodes.now) (given fetched.now) counted.0) }
     // No more steps than the rows of both sides of each union, key join and look-up.
-    ensures steps { IfOk result (λ counted. counted.1 ≤ rows_joined (shape plan.now) (given fetched.now)) }
+    ensures steps { IfOk result (λ counted. counted.1 ≤ rows_joined (plan_of nodes.now) (given fetched.now)) }
 {
     let mut ledger = Ledger::new();
-    let table = table_of(alloc, &mut ledger, plan, fetched)?;
+    let (table, _) = table_of(alloc, &mut ledger, nodes, fetched)?;
     Ok((table, ledger.steps))
 }
 
-/// The table of a plan, node by node.
-fn table_of(
+/// The table of the plan that nodes leave on top, and the nodes before those that it is made of.
+fn table_of<'a>(
     alloc: Global,
     ledger: &mut Ledger,
-    plan: &Plan,
+    nodes: &'a [Node],
     fetched: &[FetchRows],
-) -> Result<Table, Memory>
-    requires plan { IsUniform (shape plan.now) }
-    requires parts { EachRead (λ read. AreParts read.columns (given fetched.now read.leaf)) (shape plan.now) }
-    ensures { IfOk result (λ table. IsMade (shape plan.now) (given fetched.now) table × (ledger.new.steps ≤ ledger.old.steps + rows_joined (shape plan.now) (given fetched.now))) }
+) -> Result<(Table, &'a [Node]), Memory>
+    requires plan { IsUniform (plan_of nodes.now) }
+    requires parts { EachRead (λ read. AreParts read.columns (given fetched.now read.leaf)) (plan_of nodes.now) }
+    ensures { IfOk result (λ made. IsOnTop nodes.now made.1.now (given fetched.now) made.0 ledger.old.steps ledger.new.steps) }
 {
-    match plan {
-        Plan::Empty => no_rows(alloc),
-        Plan::Fetch(read) => table_read(alloc, read, given(fetched, &read.leaf)),
-        Plan::Filter(conds, below) => {
-            let table = table_of(alloc, ledger, below, fetched)?;
-            filtered(alloc, conds.as_slice(), table)
+    let Some((node, below)) = nodes.split_last() else {
+        return Ok((no_rows(alloc)?, nodes));
+    };
+    match node {
+        Node::Empty => Ok((no_rows(alloc)?, below)),
+        Node::Fetch(read) => {
+            let table = table_read(alloc, read, given(fetched, &read.leaf))?;
+            Ok((table, below))
         }
-        Plan::Project(columns, below) => {
-            let table = table_of(alloc, ledger, below, fetched)?;
-            cut(alloc, columns.as_slice(), table)
+        Node::Filter(conds) => {
+            let (table, before) = table_of(alloc, ledger, below, fetched)?;
+            Ok((filtered(conds.as_slice(), table), before))
         }
-        Plan::Union(one, other) => {
-            let table = table_of(alloc, ledger, one, fetched)?;
-            let others = table_of(alloc, ledger, other, fetched)?;
-            united(alloc, ledger, table, others)
+        Node::Project(columns) => {
+            let (table, before) = table_of(alloc, ledger, below, fetched)?;
+            Ok((cut(alloc, columns.as_slice(), table)?, before))
         }
-        Plan::KeyJoin(one, other) => {
-            let table = table_of(alloc, ledger, one, fetched)?;
-            let others = table_of(alloc, ledger, other, fetched)?;
-            keyed(alloc, ledger, &table, &others)
+        Node::Union => {
+            let (others, below) = table_of(alloc, ledger, below, fetched)?;
+            let (table, before) = table_of(alloc, ledger, below, fetched)?;
+            Ok((united(alloc, ledger, table, others)?, before))
         }
-        Plan::Lookup {
-            col,
-            width,
-            left,
-            right,
-        } => {
-            let table = table_of(alloc, ledger, left, fetched)?;
-            let others = table_of(alloc, ledger, right, fetched)?;
-            partnered(alloc, ledger, *col, *width, table, &others)
+        Node::KeyJoin => {
+            let (others, below) = table_of(alloc, ledger, below, fetched)?;
+            let (table, before) = table_of(alloc, ledger, below, fetched)?;
+            Ok((keyed(alloc, ledger, table, others)?, before))
+        }
+        Node::Lookup { col, width } => {
+            let (others, below) = table_of(alloc, ledger, below, fetched)?;
+            let (table, before) = table_of(alloc, ledger, below, fetched)?;
+            let table = partnered(alloc, ledger, *col, *width, table, &others)?;
+            Ok((table, before))
         }
     }
 }

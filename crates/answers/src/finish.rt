@@ -9,14 +9,14 @@ ghost use Rattle.meaning.specs.Whole.{FitsSchema, Relations};
 ghost use Rattle.catalog.specs.FragmentLeaf.{catalogue_leaves, schemas_of};
 ghost use Rattle.catalog.specs.Relation.{catalogue_of};
 ghost use Rattle.plan.specs.Need.{places_to};
-ghost use Rattle.plan.specs.Rows.{seen_part};
-ghost use Rattle.answers.specs.Outcome as spec;
+ghost use Rattle.answers.specs.Laid.{column_of, numbers, row_of, seen_in};
 ghost use Rattle.answers.specs.Outcome.{changes_of, delete_outcome, insert_outcome, outcome_of, refragment_outcome, removed, rows_changed, select_outcome, shown, update_outcome};
 ghost use Rattle.answers.specs.Table.{IsTableOf};
 ghost use Rattle.answers.specs.Writes.{is_leaf_in, leaf_of, writes_between};
 
 use crate::change::{Change, writes_of};
-use crate::pick::{are_once, are_wide, value_in};
+use crate::joined::{Column, Joined, column_of};
+use crate::pick::{are_in_order, are_numbers, are_once, are_wide, row_of};
 use crate::table::Table;
 use catalog::catalogue::Catalog;
 use catalog::fragment_leaf::FragmentLeaf;
@@ -25,10 +25,9 @@ use meaning::select::header;
 use meaning::statement::{Assignment, Delete, Insert, Select, Statement, Update};
 use meaning::update::assign;
 use std::alloc::Global;
-use terms::copy::{TryCopy, copy_all};
+use terms::copy::TryCopy;
 use terms::memory::Memory;
 use terms::row::Row;
-use terms::same::same_all;
 use terms::seq::Seq;
 use terms::text::Text;
 use terms::write::Write;
@@ -238,29 +237,69 @@ pub(crate) fn rows_changed(alloc: Global, width: usize, table: &Table) -> Result
 fn shown(
     alloc: Global,
     places: &[usize],
-    columns: &[usize],
-    rows: &[Row],
+    columns: &[Column],
+    rows: &[Joined],
 ) -> Result<Vec<Row>, Memory>
-    ensures { IfOk result (λ found. found.items ≡ shown places.now columns.now rows.now) }
+    ensures { IfOk result (λ found. found.items ≡ shown places.now (numbers columns.now) (map (row_of columns.now) rows.now)) }
 {
-    if same_all(places, columns) && are_once(columns) && are_wide(columns, rows) {
-        return copy_all(alloc, rows);
+    if are_in_order(columns)
+        && are_numbers(places, columns)
+        && are_once(places)
+        && are_wide(columns, rows)
+    {
+        return firsts(alloc, rows);
     }
-    let mut found = Vec::with_capacity(alloc, rows.len())?;
-    for row in rows {
-        found.push(row_shown(alloc, places, columns, row)?)?;
+    rows_shown(alloc, places, columns, rows)
+}
+
+/// The values that each row has in the listed columns.
+fn rows_shown(
+    alloc: Global,
+    places: &[usize],
+    columns: &[Column],
+    rows: &[Joined],
+) -> Result<Vec<Row>, Memory>
+    ensures { IfOk result (λ found. found.items ≡ map (λ row. filter_map (seen_in columns.now row) places.now) rows.now) }
+{
+    let listed = columns_listed(alloc, places, columns)?;
+    rows_made(alloc, listed.as_slice(), rows)
+}
+
+/// The columns of these numbers, as far as they are there.
+fn columns_listed(
+    alloc: Global,
+    places: &[usize],
+    columns: &[Column],
+) -> Result<Vec<Column>, Memory>
+    ensures { IfOk result (λ found. found.items ≡ filter_map (λ place. column_of place columns.now) places.now) }
+{
+    let mut found = Vec::with_capacity(alloc, places.len())?;
+    for place in places {
+        if let Some(column) = column_of(columns, *place) {
+            found.push(*column)?;
+        }
     }
     Ok(found)
 }
 
-fn row_shown(alloc: Global, places: &[usize], columns: &[usize], row: &Row) -> Result<Row, Memory>
-    ensures { IfOk result (λ found. found ≡ filter_map (seen_part columns.now row.now) places.now) }
+/// The first one of those that each row is made of.
+fn firsts(alloc: Global, rows: &[Joined]) -> Result<Vec<Row>, Memory>
+    ensures { IfOk result (λ found. found.items ≡ map (λ row. row.first) rows.now) }
 {
-    let mut values = Vec::with_capacity(alloc, places.len())?;
-    for place in places {
-        if let Some(value) = value_in(columns, row, *place) {
-            values.push(value.copy()?)?;
-        }
+    let mut found = Vec::with_capacity(alloc, rows.len())?;
+    for row in rows {
+        found.push(row.first.copy()?)?;
     }
-    Row::new(values)
+    Ok(found)
+}
+
+/// The values of rows.
+fn rows_made(alloc: Global, columns: &[Column], rows: &[Joined]) -> Result<Vec<Row>, Memory>
+    ensures { IfOk result (λ found. found.items ≡ map (row_of columns.now) rows.now) }
+{
+    let mut found = Vec::with_capacity(alloc, rows.len())?;
+    for row in rows {
+        found.push(row_of(alloc, columns, row)?)?;
+    }
+    Ok(found)
 }

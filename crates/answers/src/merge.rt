@@ -1,26 +1,28 @@
 //! Rows of two lists by ascending keys, merged in one pass over both.
 
-ghost use Rattle.std.specs.Prelude.{◌≡◌, ◌++◌, ◌+◌, ◌≤◌, ◌<◌, IfOk, OnOk, length};
+ghost use Rattle.std.specs.Prelude.{◌≡◌, ◌++◌, ◌+◌, ◌≤◌, ◌<◌, IfOk, OnOk, length, map};
 ghost use Rattle.meaning.specs.Relation.{Ascends};
+ghost use Rattle.answers.specs.Laid.{row_of};
 ghost use Rattle.answers.specs.Merged.{merged_rows};
 
+use crate::joined::{Column, Joined};
 use crate::ledger::Ledger;
 use std::alloc::Global;
 use std::cmp::Ordering;
 use terms::copy::TryCopy;
 use terms::memory::Memory;
-use terms::row::Row;
 
 /// The rows of both by ascending keys; of two with one key that of the first.
 pub(crate) fn merged(
     alloc: Global,
     ledger: &mut Ledger,
-    rows: &[Row],
-    others: &[Row],
-) -> Result<Vec<Row>, Memory>
-    requires rows { Ascends rows.now }
-    requires others { Ascends others.now }
-    ensures rows { IfOk result (λ found. found.items ≡ merged_rows rows.now others.now) }
+    columns: &[Column],
+    rows: &[Joined],
+    others: &[Joined],
+) -> Result<Vec<Joined>, Memory>
+    requires rows { Ascends (map (row_of columns.now) rows.now) }
+    requires others { Ascends (map (row_of columns.now) others.now) }
+    ensures rows { IfOk result (λ found. map (row_of columns.now) found.items ≡ merged_rows (map (row_of columns.now) rows.now) (map (row_of columns.now) others.now)) }
     // After each comparison one row more is done with.
     ensures most { OnOk result (ledger.new.steps ≤ ledger.old.steps + (length rows.now + length others.now)) }
     // Each row that is left out was compared with the one that has its key.
@@ -32,7 +34,7 @@ pub(crate) fn merged(
         rest.split_first(),
         rest_others.split_first(),
     ) {
-        match ledger.compared(row, other) {
+        match ledger.compared(columns, row, columns, other) {
             Ordering::Less => {
                 found.push(row.copy()?)?;
                 rest = later;
@@ -54,7 +56,7 @@ pub(crate) fn merged(
 }
 
 /// Puts copies of rows behind others.
-fn put_rows(out: &mut Vec<Row>, rows: &[Row]) -> Result<(), Memory>
+fn put_rows(out: &mut Vec<Joined>, rows: &[Joined]) -> Result<(), Memory>
     ensures { OnOk result (out.new.items ≡ out.old.items ++ rows.now) }
 {
     for row in rows {

@@ -1,46 +1,54 @@
 //! Rows of two lists that have one key, found in one pass over both.
 
-ghost use Rattle.std.specs.Prelude.{◌≡◌, ◌+◌, ◌≤◌, ◌<◌, IfOk, OnOk, length};
+ghost use Rattle.std.specs.Prelude.{◌≡◌, ◌+◌, ◌≤◌, ◌<◌, IfOk, OnOk, length, map};
+ghost use Rattle.std.specs.List.{AllByRecursion};
 ghost use Rattle.meaning.specs.Relation.{Ascends};
 ghost use Rattle.answers.specs.Evaluated.{key_pairs};
+ghost use Rattle.answers.specs.Laid.{laid_beside, numbers, row_of};
 
+use crate::joined::{Column, Joined};
 use crate::ledger::Ledger;
-use crate::pick::pair;
 use std::alloc::Global;
 use std::cmp::Ordering;
 use terms::memory::Memory;
-use terms::row::Row;
 
-/// The rows that have one of the same key among the others, each put together with it.
+/// The rows, made of so many, that have one of the same key among the others, each put together with it.
 pub(crate) fn key_pairs(
     alloc: Global,
     ledger: &mut Ledger,
-    columns: &[usize],
-    others_columns: &[usize],
-    rows: &[Row],
-    others: &[Row],
-) -> Result<Vec<Row>, Memory>
-    requires rows { Ascends rows.now }
-    requires others { Ascends others.now }
-    ensures rows { IfOk result (λ found. found.items ≡ key_pairs columns.now others_columns.now rows.now others.now) }
-    ensures most { OnOk result (ledger.new.steps ≤ ledger.old.steps + (length rows.now + length others.now)) }
+    count: usize,
+    columns: &[Column],
+    others_columns: &[Column],
+    rows: Vec<Joined>,
+    others: Vec<Joined>,
+) -> Result<Vec<Joined>, Memory>
+    requires some { 0 < count }
+    requires within { AllByRecursion (λ column. column.source < count) columns.now }
+    requires rows { Ascends (map (row_of columns.now) rows.items) }
+    requires others { Ascends (map (row_of others_columns.now) others.items) }
+    ensures rows { IfOk result (λ found. map (row_of (laid_beside count columns.now others_columns.now)) found.items ≡ key_pairs (numbers columns.now) (numbers others_columns.now) (map (row_of columns.now) rows.items) (map (row_of others_columns.now) others.items)) }
+    ensures most { OnOk result (ledger.new.steps ≤ ledger.old.steps + (length rows.items + length others.items)) }
     // The rows of each pair were compared.
     ensures least { IfOk result (λ found. ledger.new.steps < 18446744073709551615 → ledger.old.steps + length found.items ≤ ledger.new.steps) }
 {
     let mut found = Vec::with_capacity(alloc, rows.len().min(others.len()))?;
-    let (mut rest, mut rest_others) = (rows, others);
-    while let (Some((row, later)), Some((other, later_others))) = (
-        rest.split_first(),
-        rest_others.split_first(),
-    ) {
-        match ledger.compared(row, other) {
-            Ordering::Less => rest = later,
-            Ordering::Equal => {
-                found.push(pair(alloc, columns, others_columns, row, other)?)?;
-                rest = later;
-                rest_others = later_others;
+    let (mut rest, mut rest_others) = (rows.into_iter(), others.into_iter());
+    let (mut first, mut first_other) = (rest.next(), rest_others.next());
+    while let (Some(row), Some(other)) = (first, first_other) {
+        match ledger.compared(columns, &row, others_columns, &other) {
+            Ordering::Less => {
+                first = rest.next();
+                first_other = Some(other);
             }
-            Ordering::Greater => rest_others = later_others,
+            Ordering::Equal => {
+                found.push(row.beside(alloc, count, other)?)?;
+                first = rest.next();
+                first_other = rest_others.next();
+            }
+            Ordering::Greater => {
+                first = Some(row);
+                first_other = rest_others.next();
+            }
         }
     }
     Ok(found)

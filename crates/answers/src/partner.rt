@@ -1,43 +1,48 @@
 //! The partners of rows by the values in a column, found by an ordered map from keys to places.
 
-ghost use Rattle.std.specs.Prelude.{◌≡◌, ◌+◌, ◌≤◌, ◌<◌, if◌then◌else◌, IfOk, OnOk, is_some, length};
+ghost use Rattle.std.specs.Prelude.{◌≡◌, ◌+◌, ◌≤◌, ◌<◌, if◌then◌else◌, IfOk, OnOk, is_some, length, map, option_and_then, option_map};
+ghost use Rattle.std.specs.BTreeMap.{get};
+ghost use Rattle.std.specs.List.{AllByRecursion, slice_get};
 ghost use Rattle.std.specs.Option.{option_copied};
+ghost use Rattle.std.specs.Ordering.{int_cmp};
 ghost use Rattle.meaning.specs.Relation.{Ascends};
-ghost use Rattle.meaning.specs.Selected.{partner};
-ghost use Rattle.catalog.specs.Keyed.{row_at};
-ghost use Rattle.plan.specs.Rows.{seen_part};
 ghost use Rattle.answers.specs.Evaluated.{partner_pairs};
+ghost use Rattle.answers.specs.Laid.{integer, laid_beside, numbers, row_of, value_of};
 ghost use Rattle.answers.specs.Ledger.{HasPlaces};
 
+use crate::joined::{Column, Joined, column_of};
 use crate::ledger::Ledger;
-use crate::pick::{pair, value_in};
 use std::alloc::Global;
 use std::collections::BTreeMap;
+use terms::copy::TryCopy;
 use terms::memory::Memory;
-use terms::row::Row;
 use terms::value::Value;
 
-/// The rows that have a partner among the others by the value in a column, each put together with it.
+/// The rows, made of so many, that have a partner among the others by the value in a column, each put together with it.
 pub(crate) fn partner_pairs(
     alloc: Global,
     ledger: &mut Ledger,
     col: usize,
-    columns: &[usize],
-    others_columns: &[usize],
-    rows: &[Row],
-    others: &[Row],
-) -> Result<Vec<Row>, Memory>
-    requires { Ascends others.now }
-    ensures rows { IfOk result (λ found. found.items ≡ partner_pairs col columns.now others_columns.now rows.now others.now) }
+    count: usize,
+    columns: &[Column],
+    others_columns: &[Column],
+    rows: &[Joined],
+    others: &[Joined],
+) -> Result<Vec<Joined>, Memory>
+    requires some { 0 < count }
+    requires within { AllByRecursion (λ column. column.source < count) columns.now }
+    requires order { Ascends (map (row_of others_columns.now) others.now) }
+    ensures rows { IfOk result (λ found. map (row_of (laid_beside count columns.now others_columns.now)) found.items ≡ partner_pairs col (numbers columns.now) (numbers others_columns.now) (map (row_of columns.now) rows.now) (map (row_of others_columns.now) others.now)) }
     ensures most { OnOk result (ledger.new.steps ≤ ledger.old.steps + (length rows.now + length others.now)) }
     // Each of the others went into the map, and each row that has a partner was looked up.
     ensures least { IfOk result (λ found. ledger.new.steps < 18446744073709551615 → ledger.old.steps + (length found.items + length others.now) ≤ ledger.new.steps) }
 {
-    let places = places_of(alloc, ledger, others)?;
+    let places = places_of(alloc, ledger, others_columns, others)?;
+    let column = column_of(columns, col);
     let mut found = Vec::with_capacity(alloc, rows.len())?;
     for row in rows {
-        if let Some(other) = partner(ledger, &places, others, value_in(columns, row, col)) {
-            found.push(pair(alloc, columns, others_columns, row, other)?)?;
+        if let Some(other) = partner(ledger, &places, others, column, row) {
+            found.push(row.copy()?.beside(alloc, count, other.copy()?)?)?;
         }
     }
     Ok(found)
@@ -47,35 +52,40 @@ pub(crate) fn partner_pairs(
 fn places_of(
     alloc: Global,
     ledger: &mut Ledger,
-    rows: &[Row],
+    columns: &[Column],
+    rows: &[Joined],
 ) -> Result<BTreeMap<i64, usize>, Memory>
-    requires { Ascends rows.now }
-    ensures places { IfOk result (λ places. HasPlaces places rows.now) }
+    requires { Ascends (map (row_of columns.now) rows.now) }
+    ensures places { IfOk result (λ places. HasPlaces places (map (row_of columns.now) rows.now)) }
     ensures most { OnOk result (ledger.new.steps ≤ ledger.old.steps + length rows.now) }
     ensures least { OnOk result (ledger.new.steps < 18446744073709551615 → ledger.old.steps + length rows.now ≤ ledger.new.steps) }
 {
     let mut places = BTreeMap::new(alloc);
     for (place, row) in rows.iter().enumerate() {
-        ledger.inserted(&mut places, row, place)?;
+        ledger.inserted(&mut places, columns, row, place)?;
     }
     Ok(places)
 }
 
-/// The row whose key is a value; none for a text.
+/// The one of the rows whose key is the value that another row has in a column; none for a text, and none without the column.
 fn partner<'a>(
     ledger: &mut Ledger,
     places: &BTreeMap<i64, usize>,
-    rows: &'a [Row],
-    value: Option<&Value>,
-) -> Option<&'a Row>
-    requires { HasPlaces places.now rows.now }
-    ensures row { option_copied result ≡ partner rows.now (option_copied value.entry) }
+    rows: &'a [Joined],
+    column: Option<&Column>,
+    row: &Joined,
+) -> Option<&'a Joined>
+    ensures row { option_copied result ≡ option_and_then (λ at. option_and_then (slice_get rows.now) (get int_cmp places.now at)) (integer (option_map (value_of row.now) (option_copied column.entry))) }
     ensures most { ledger.new.steps ≤ ledger.old.steps + 1 }
     ensures least { ledger.new.steps < 18446744073709551615 → ledger.old.steps + (if is_some result then 1 else 0) ≤ ledger.new.steps }
 {
-    match value {
-        Some(Value::Int(key)) => with_key(ledger, places, rows, key),
-        _ => None,
+    match column {
+        Some(column) => match row.value_at(column) {
+            Some(Value::Int(key)) => with_key(ledger, places, rows, key),
+            Some(_) => None,
+            None => with_key(ledger, places, rows, &0),
+        },
+        None => None,
     }
 }
 
@@ -83,11 +93,10 @@ fn partner<'a>(
 fn with_key<'a>(
     ledger: &mut Ledger,
     places: &BTreeMap<i64, usize>,
-    rows: &'a [Row],
+    rows: &'a [Joined],
     key: &i64,
-) -> Option<&'a Row>
-    requires { HasPlaces places.now rows.now }
-    ensures row { option_copied result ≡ row_at key.now rows.now }
+) -> Option<&'a Joined>
+    ensures row { option_copied result ≡ option_and_then (slice_get rows.now) (get int_cmp places.now key.now) }
     ensures most { ledger.new.steps ≤ ledger.old.steps + 1 }
     ensures least { ledger.new.steps < 18446744073709551615 → ledger.old.steps + 1 ≤ ledger.new.steps }
 {

@@ -2,53 +2,54 @@
 
 ghost use Rattle.std.specs.Prelude.{◌≡◌, ◌==◌, ◌++◌, ◌+◌, ◌<◌, ◌↔◌, ℕ, not, length, IfOk, IsTrue, OnOk, filter, map};
 ghost use Rattle.std.specs.List.{AllByRecursion, list_all};
-ghost use Rattle.std.specs.Option.{option_copied};
 ghost use Rattle.terms.specs.Cond.{holds_of};
 ghost use Rattle.catalog.specs.Counts.{has};
-ghost use Rattle.plan.specs.Rows.{is_seen, seen_meets, seen_part};
-ghost use Rattle.plan.specs.Uniform.{AreOnce, beside, past};
-ghost use Rattle.answers.specs.Evaluated as spec;
-ghost use Rattle.answers.specs.Evaluated.{picked};
+ghost use Rattle.plan.specs.Rows.{is_seen};
+ghost use Rattle.plan.specs.Uniform.{AreOnce};
+ghost use Rattle.answers.specs.Laid.{laid_beside, laid_from, laid_meets, laid_past, moved, numbers, row_of, seen_in};
 
-use plan::fetch::place_in;
+use crate::joined::{Column, Joined, column_of};
 use std::alloc::Global;
 use terms::cond::Cond;
-use terms::copy::{TryCopy, copy_all};
+use terms::copy::TryCopy;
 use terms::memory::Memory;
 use terms::row::Row;
 use terms::value::Value;
 
-/// The value that a row over these columns has in one of them, if it has that column.
-pub(crate) fn value_in<'a>(columns: &[usize], row: &'a Row, col: usize) -> Option<&'a Value>
-    ensures { option_copied result ≡ seen_part columns.now row.now col }
-{
-    match place_in(col, columns) {
-        Some(place) => row.values().get(place),
-        None => None,
-    }
-}
-
 /// Whether a row over these columns meets conditions on columns.
-pub(crate) fn meets(conds: &[Cond], columns: &[usize], row: &Row) -> bool
-    ensures { result ≡ seen_meets conds.now (seen_part columns.now row.now) }
+pub(crate) fn meets(conds: &[Cond], columns: &[Column], row: &Joined) -> bool
+    ensures { result ≡ laid_meets conds.now columns.now row.now }
 {
     conds.iter().all(|cond| holds(cond, columns, row))
 }
 
-fn holds(cond: &Cond, columns: &[usize], row: &Row) -> bool
-    ensures { result ≡ holds_of cond.now (seen_part columns.now row.now cond.now.col) }
+fn holds(cond: &Cond, columns: &[Column], row: &Joined) -> bool
+    ensures { result ≡ holds_of cond.now (seen_in columns.now row.now cond.now.col) }
 {
-    match value_in(columns, row, cond.col) {
-        Some(value) => cond.cmp.compares(value, &cond.value),
+    match column_of(columns, cond.col) {
+        Some(column) => match row.value_at(column) {
+            Some(value) => cond.cmp.compares(value, &cond.value),
+            None => cond.cmp.compares(&Value::Int(0), &cond.value),
+        },
         None => false,
     }
 }
 
 /// Whether a column is among these.
-pub(crate) fn has(columns: &[usize], col: usize) -> bool
+fn has(columns: &[usize], col: usize) -> bool
     ensures { result ≡ has columns.now col }
 {
     columns.iter().any(|other| *other == col)
+}
+
+/// Whether a column of this number is among these.
+fn has_column(columns: &[Column], number: usize) -> bool
+    ensures { result ≡ has (numbers columns.now) number }
+{
+    let Some((first, rest)) = columns.split_first() else {
+        return false;
+    };
+    first.number == number || has_column(rest, number)
 }
 
 /// Whether a column is the key or among these.
@@ -58,18 +59,12 @@ fn is_seen(columns: &[usize], col: usize) -> bool
     col == 0 || has(columns, col)
 }
 
-/// Whether each column is the key or among the wanted ones.
-pub(crate) fn sees_all(wanted: &[usize], columns: &[usize]) -> bool
-    ensures { result ≡ list_all (is_seen wanted.now) columns.now }
+/// Whether each row begins with one that has as many values as there are columns.
+pub(crate) fn are_wide(columns: &[Column], rows: &[Joined]) -> bool
+    ensures { result ≡ list_all (λ row. length row.first == length columns.now) rows.now }
 {
-    columns.iter().all(|col| is_seen(wanted, *col))
-}
-
-/// Whether each row has as many values as there are columns.
-pub(crate) fn are_wide(columns: &[usize], rows: &[Row]) -> bool
-    ensures { result ≡ list_all (λ row. length row == length columns.now) rows.now }
-{
-    rows.iter().all(|row| row.values().len() == columns.len())
+    rows.iter()
+        .all(|row| row.first.values().len() == columns.len())
 }
 
 /// Whether no column stands twice.
@@ -86,111 +81,157 @@ pub(crate) fn are_once(columns: &[usize]) -> bool
 pub(crate) fn columns_cut(
     alloc: Global,
     wanted: &[usize],
-    columns: &[usize],
-) -> Result<Vec<usize>, Memory>
-    ensures { IfOk result (λ found. found.items ≡ filter (is_seen wanted.now) columns.now) }
+    columns: &[Column],
+) -> Result<Vec<Column>, Memory>
+    ensures { IfOk result (λ found. found.items ≡ filter (λ column. is_seen wanted.now column.number) columns.now) }
 {
-    let mut found = Vec::new(alloc);
-    for col in columns {
-        if is_seen(wanted, *col) {
-            found.push(*col)?;
+    let mut found = Vec::with_capacity(alloc, columns.len())?;
+    for column in columns {
+        if is_seen(wanted, column.number) {
+            found.push(*column)?;
         }
     }
     Ok(found)
 }
 
-/// A row over columns, cut to the key and the wanted ones.
-pub(crate) fn row_cut(
-    alloc: Global,
-    wanted: &[usize],
-    columns: &[usize],
-    row: &Row,
-) -> Result<Row, Memory>
-    ensures { IfOk result (λ found. found ≡ picked (is_seen wanted.now) columns.now row.now) }
-{
-    let mut values = Vec::new(alloc);
-    let mut rest = row.values();
-    for col in columns {
-        match rest.split_first() {
-            Some((value, later)) => {
-                if is_seen(wanted, *col) {
-                    values.push(value.copy()?)?;
-                }
-                rest = later;
-            }
-            None => return Row::new(values),
-        }
-    }
-    Row::new(values)
-}
-
-/// Columns, and behind them those others that are not among them.
+/// Columns of rows made of so many, and behind them those others that are not among them, of rows that stand behind.
 pub(crate) fn columns_beside(
     alloc: Global,
-    columns: &[usize],
-    others: &[usize],
-) -> Result<Vec<usize>, Memory>
-    ensures { IfOk result (λ found. found.items ≡ beside columns.now others.now) }
+    count: usize,
+    columns: &[Column],
+    others: &[Column],
+) -> Result<Vec<Column>, Memory>
+    ensures { IfOk result (λ found. found.items ≡ laid_beside count columns.now others.now) }
 {
-    let mut found = copy_all(alloc, columns)?;
-    for col in others {
-        if !has(columns, *col) {
-            found.push(*col)?;
+    let mut found = Vec::with_capacity(alloc, columns.len().saturating_add(others.len()))?;
+    for column in columns {
+        found.push(*column)?;
+    }
+    put_moved(&mut found, count, columns, others)?;
+    Ok(found)
+}
+
+/// Puts those columns that are not among others behind these, of rows that stand behind so many.
+fn put_moved(
+    found: &mut Vec<Column>,
+    count: usize,
+    columns: &[Column],
+    others: &[Column],
+) -> Result<(), Memory>
+    ensures { OnOk result (found.new.items ≡ found.old.items ++ map (moved count) (filter (λ column. not (has (numbers columns.now) column.number)) others.now)) }
+{
+    for column in others {
+        if !has_column(columns, column.number) {
+            let Some(source) = count.checked_add(column.source) else {
+                return Err(Memory);
+            };
+            found.push(Column {
+                number: column.number,
+                source,
+                place: column.place,
+            })?;
         }
     }
-    Ok(found)
+    Ok(())
 }
 
 /// Columns counted on from a width.
 pub(crate) fn columns_past(
     alloc: Global,
     width: usize,
-    columns: &[usize],
-) -> Result<Vec<usize>, Memory>
-    requires { AllByRecursion (λ col. width + col < 18446744073709551616) columns.now }
-    ensures { IfOk result (λ found. found.items ≡ past width columns.now) }
+    columns: &[Column],
+) -> Result<Vec<Column>, Memory>
+    requires { AllByRecursion (λ column. width + column.number < 18446744073709551616) columns.now }
+    ensures { IfOk result (λ found. found.items ≡ laid_past width columns.now) }
 {
-    let mut found = Vec::new(alloc);
-    for col in columns {
-        found.push(width + *col)?;
+    let mut found = Vec::with_capacity(alloc, columns.len())?;
+    for column in columns {
+        found.push(Column {
+            number: width + column.number,
+            source: column.source,
+            place: column.place,
+        })?;
     }
     Ok(found)
 }
 
-/// Puts copies of values behind others.
-fn put_values(out: &mut Vec<Value>, values: &[Value]) -> Result<(), Memory>
-    ensures { OnOk result (out.new.items ≡ out.old.items ++ values.now) }
+/// Columns of these numbers, whose values stand in order in one row.
+pub(crate) fn columns_from(alloc: Global, columns: &[usize]) -> Result<Vec<Column>, Memory>
+    ensures { IfOk result (λ found. found.items ≡ laid_from 0 columns.now) }
 {
-    for value in values {
-        out.push(value.copy()?)?;
+    let mut found = Vec::with_capacity(alloc, columns.len())?;
+    for (place, number) in columns.iter().enumerate() {
+        found.push(Column {
+            number: *number,
+            source: 0,
+            place,
+        })?;
     }
-    Ok(())
+    Ok(found)
 }
 
-/// A row over columns, and behind it those values of another row whose columns are not among them.
-pub(crate) fn pair(
-    alloc: Global,
-    columns: &[usize],
-    others: &[usize],
-    row: &Row,
-    other: &Row,
-) -> Result<Row, Memory>
-    ensures { IfOk result (λ both. both ≡ spec.pair columns.now others.now row.now other.now) }
+/// The numbers of columns.
+pub(crate) fn numbers(alloc: Global, columns: &[Column]) -> Result<Vec<usize>, Memory>
+    ensures { IfOk result (λ found. found.items ≡ numbers columns.now) }
 {
-    let most = row.values().len().saturating_add(other.values().len());
-    let mut values = Vec::with_capacity(alloc, most)?;
-    put_values(&mut values, row.values())?;
-    let mut rest = other.values();
-    for col in others {
-        match rest.split_first() {
-            Some((value, later)) => {
-                if !has(columns, *col) {
-                    values.push(value.copy()?)?;
-                }
-                rest = later;
-            }
-            None => return Row::new(values),
+    let mut found = Vec::with_capacity(alloc, columns.len())?;
+    for column in columns {
+        found.push(column.number)?;
+    }
+    Ok(found)
+}
+
+/// The values of a row over columns, as a row of its own.
+pub(crate) fn row_of(alloc: Global, columns: &[Column], row: &Joined) -> Result<Row, Memory>
+    ensures { IfOk result (λ found. found ≡ row_of columns.now row.now) }
+{
+    let mut values = Vec::with_capacity(alloc, columns.len())?;
+    for column in columns {
+        match row.value_at(column) {
+            Some(value) => values.push(value.copy()?)?,
+            None => values.push(Value::Int(0))?,
         }
     }
     Row::new(values)
+}
+
+/// Whether the columns' values stand in order in one row.
+pub(crate) fn are_in_order(columns: &[Column]) -> bool
+    ensures { IsTrue result → columns.now ≡ laid_from 0 (numbers columns.now) }
+{
+    for (place, column) in columns.iter().enumerate() {
+        if column.source != 0 || column.place != place {
+            return false;
+        }
+    }
+    true
+}
+
+/// Whether these are the columns' numbers.
+pub(crate) fn are_numbers(places: &[usize], columns: &[Column]) -> bool
+    ensures { IsTrue result → places.now ≡ numbers columns.now }
+{
+    match (places.split_first(), columns.split_first()) {
+        (Some((place, places)), Some((column, columns))) => {
+            *place == column.number && are_numbers(places, columns)
+        }
+        (None, None) => true,
+        _ => false,
+    }
+}
+
+/// Whether both are the same columns, in the same places.
+pub(crate) fn are_same(columns: &[Column], others: &[Column]) -> bool
+    ensures { IsTrue result → columns.now ≡ others.now }
+{
+    match (columns.split_first(), others.split_first()) {
+        (Some((column, columns)), Some((other, others))) => {
+            column.number == other.number
+                && column.source == other.source
+                && column.place == other.place
+                && are_same(columns, others)
+        }
+        (None, None) => true,
+        _ => false,
+    }
 }

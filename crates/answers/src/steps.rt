@@ -3,14 +3,16 @@
 ghost use Rattle.std.specs.Prelude.{◌≡◌, ◌⊎◌, ◌+◌, ◌<◌, ◌≤◌, [], IfOk, OnOk, filter, length, map};
 ghost use Rattle.std.specs.List.{AllByRecursion};
 ghost use Rattle.meaning.specs.Relation.{Ascends};
-ghost use Rattle.plan.specs.Rows.{is_seen, met};
+ghost use Rattle.plan.specs.Rows.{met};
 ghost use Rattle.answers.specs.Evaluated as spec;
-ghost use Rattle.answers.specs.Evaluated.{cut, filtered, keyed, meeting, partnered, picked};
+ghost use Rattle.answers.specs.Evaluated.{cut, filtered, keyed, partnered};
+ghost use Rattle.answers.specs.Laid.{laid_meets, row_of};
 
+use crate::joined::{Column, Joined, sources_of};
 use crate::ledger::Ledger;
 use crate::pairs::key_pairs;
 use crate::partner::partner_pairs;
-use crate::pick::{are_wide, columns_beside, columns_cut, columns_past, meets, row_cut, sees_all};
+use crate::pick::{columns_beside, columns_cut, columns_from, columns_past, meets};
 use crate::table::Table;
 use plan::fetch::Fetch;
 use std::alloc::Global;
@@ -23,125 +25,89 @@ use terms::seq::Seq;
 
 /// What a read leaves of the parts of its leaf.
 pub(crate) fn table_read(alloc: Global, read: &Fetch, parts: &[Part]) -> Result<Table, Memory>
+    requires { AllByRecursion (λ part. length part ≡ length read.now.columns) parts.now }
     ensures { IfOk result (λ table. table ≡ spec.table_read read.now parts.now) }
 {
-    Ok(Table {
-        columns: read.columns.copy()?,
-        rows: Seq::new(met(alloc, read.conds.as_slice(), parts)?),
-    })
+    let columns = columns_from(alloc, read.columns.as_slice())?;
+    let rows = met(alloc, read.conds.as_slice(), parts)?;
+    Ok(Table::new(columns, rows))
 }
 
 /// The parts that meet conditions on their places, as rows.
-fn met(alloc: Global, conds: &[Cond], parts: &[Part]) -> Result<Vec<Row>, Memory>
-    ensures { IfOk result (λ found. found.items ≡ met conds.now parts.now) }
+fn met(alloc: Global, conds: &[Cond], parts: &[Part]) -> Result<Vec<Joined>, Memory>
+    ensures { IfOk result (λ found. map (λ row. row.first) found.items ≡ met conds.now parts.now) }
 {
     let mut found = Vec::with_capacity(alloc, parts.len())?;
     for part in parts {
         if part.meets(conds) {
-            found.push(Row::of_part(part)?)?;
+            found.push(Joined::alone(Row::of_part(part)?))?;
         }
     }
     Ok(found)
 }
 
 /// The rows that meet conditions on columns.
-pub(crate) fn filtered(alloc: Global, conds: &[Cond], table: Table) -> Result<Table, Memory>
-    ensures { IfOk result (λ made. made ≡ filtered conds.now table) }
+pub(crate) fn filtered(conds: &[Cond], table: Table) -> Table
+    ensures { result ≡ filtered conds.now table }
 {
-    if conds.is_empty() {
-        return Ok(table);
+    let Table { columns, rows } = table;
+    let rows = meeting(conds, columns.as_slice(), rows.into_vec());
+    Table {
+        columns,
+        rows: Seq::new(rows),
     }
-    let found = meeting(
-        alloc,
-        conds,
-        table.columns.as_slice(),
-        table.rows.as_slice(),
-    )?;
-    Ok(Table {
-        columns: table.columns,
-        rows: Seq::new(found),
-    })
 }
 
-fn meeting(
-    alloc: Global,
-    conds: &[Cond],
-    columns: &[usize],
-    rows: &[Row],
-) -> Result<Vec<Row>, Memory>
-    ensures { IfOk result (λ found. found.items ≡ meeting conds.now columns.now rows.now) }
+/// Those of rows over these columns that meet conditions.
+fn meeting(conds: &[Cond], columns: &[Column], rows: Vec<Joined>) -> Vec<Joined>
+    ensures { result.items ≡ filter (laid_meets conds.now columns.now) rows.items }
 {
-    let mut found = Vec::new(alloc);
-    for row in rows {
-        if meets(conds, columns, row) {
-            found.push(row.copy()?)?;
-        }
-    }
-    Ok(found)
+    let mut rows = rows;
+    rows.retain(|row| meets(conds, columns, row));
+    rows
 }
 
-/// The rows cut to the key and the wanted columns: the table itself where these are all that it has.
+/// The rows cut to the key and the wanted columns.
 pub(crate) fn cut(alloc: Global, wanted: &[usize], table: Table) -> Result<Table, Memory>
     ensures { IfOk result (λ made. made ≡ cut wanted.now table) }
 {
-    if sees_all(wanted, table.columns.as_slice())
-        && are_wide(table.columns.as_slice(), table.rows.as_slice())
-    {
-        return Ok(table);
-    }
     let columns = columns_cut(alloc, wanted, table.columns.as_slice())?;
-    let rows = rows_cut(
-        alloc,
-        wanted,
-        table.columns.as_slice(),
-        table.rows.as_slice(),
-    )?;
     Ok(Table {
         columns: Seq::new(columns),
-        rows: Seq::new(rows),
+        rows: table.rows,
     })
-}
-
-fn rows_cut(
-    alloc: Global,
-    wanted: &[usize],
-    columns: &[usize],
-    rows: &[Row],
-) -> Result<Vec<Row>, Memory>
-    ensures { IfOk result (λ found. found.items ≡ map (picked (is_seen wanted.now) columns.now) rows.now) }
-{
-    let mut found = Vec::with_capacity(alloc, rows.len())?;
-    for row in rows {
-        found.push(row_cut(alloc, wanted, columns, row)?)?;
-    }
-    Ok(found)
 }
 
 /// The rows of both tables that have one key, put together.
 pub(crate) fn keyed(
     alloc: Global,
     ledger: &mut Ledger,
-    one: &Table,
-    other: &Table,
+    one: Table,
+    other: Table,
 ) -> Result<Table, Memory>
-    requires one { Ascends one.now.rows }
-    requires other { Ascends other.now.rows }
-    ensures made { IfOk result (λ made. made ≡ keyed one.now other.now) }
-    ensures most { OnOk result (ledger.new.steps ≤ ledger.old.steps + (length one.now.rows + length other.now.rows)) }
+    requires one { Ascends one.rows }
+    requires other { Ascends other.rows }
+    ensures made { IfOk result (λ made. made ≡ keyed one other) }
+    ensures most { OnOk result (ledger.new.steps ≤ ledger.old.steps + (length one.rows + length other.rows)) }
 {
-    let (columns, others) = (one.columns.as_slice(), other.columns.as_slice());
+    let Table { columns, rows } = one;
+    let Table {
+        columns: others,
+        rows: other_rows,
+    } = other;
+    let (columns, others) = (columns.as_slice(), others.as_slice());
+    let count = sources_of(columns)?;
+    let made = columns_beside(alloc, count, columns, others)?;
     let rows = key_pairs(
         alloc,
         ledger,
+        count,
         columns,
         others,
-        one.rows.as_slice(),
-        other.rows.as_slice(),
+        rows.into_vec(),
+        other_rows.into_vec(),
     )?;
-    Ok(Table {
-        columns: Seq::new(columns_beside(alloc, columns, others)?),
-        rows: Seq::new(rows),
-    })
+    Ok(Table::new(made, rows))
 }
 
 /// The rows of the left table that have a partner in the right one by the value in a column, each put
@@ -165,19 +131,19 @@ pub(crate) fn partnered(
             rows: Seq::new(Vec::new(alloc)),
         });
     }
+    let columns = left.columns.as_slice();
+    let count = sources_of(columns)?;
     let others = columns_past(alloc, width, right.columns.as_slice())?;
-    let columns = columns_beside(alloc, left.columns.as_slice(), others.as_slice())?;
+    let made = columns_beside(alloc, count, columns, others.as_slice())?;
     let rows = partner_pairs(
         alloc,
         ledger,
         col,
-        left.columns.as_slice(),
+        count,
+        columns,
         others.as_slice(),
         left.rows.as_slice(),
         right.rows.as_slice(),
     )?;
-    Ok(Table {
-        columns: Seq::new(columns),
-        rows: Seq::new(rows),
-    })
+    Ok(Table::new(made, rows))
 }

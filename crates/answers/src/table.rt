@@ -3,12 +3,14 @@
 ghost use Rattle.std.specs.Prelude.{◌≡◌, ◌↔◌, IsTrue, None, length};
 ghost use Rattle.std.specs.List.{AllByRecursion};
 ghost use Rattle.answers.specs.Evaluated.{is_above, parts_climb};
+ghost use Rattle.answers.specs.Laid.{table_seen};
 ghost use Rattle.answers.specs.Table.{AreParts, given};
 
+use crate::joined::{Column, Joined};
 use plan::fetch::Fetch;
+use std::marker::Model;
 use terms::leaf::Leaf;
 use terms::part::Part;
-use terms::row::Row;
 use terms::seq::Seq;
 
 /// What a fetch of a leaf brought: parts in the leaf's columns, by ascending keys.
@@ -19,11 +21,39 @@ pub struct FetchRows {
 }
 
 /// Rows over columns that go by their numbers, the key (0) first and never a second time. Each row has a
-/// value for each column, and the rows stand in ascending order of their keys.
+/// value for each column, and the rows stand in ascending order of their keys. The rows are kept as the rows that they are made
+/// of, and share their values: contracts see the values of each.
 #[derive(Debug, Drop)]
 pub struct Table {
-    pub columns: Seq<usize>,
-    pub rows: Seq<Row>,
+    pub(crate) columns: Seq<Column>,
+    pub(crate) rows: Seq<Joined>,
+}
+
+impl Model for Table {
+    ghost use Rattle.answers.specs.Laid.{table_seen};
+    ghost use Rattle.answers.specs.Laid as laid;
+
+    ghost Value = { laid.Table };
+
+    ghost view = { λ t. table_seen t.columns t.rows };
+}
+
+impl Table {
+    pub(crate) fn new(columns: Vec<Column>, rows: Vec<Joined>) -> Table
+        ensures { result ≡ table_seen columns.items rows.items }
+    {
+        Table {
+            columns: Seq::new(columns),
+            rows: Seq::new(rows),
+        }
+    }
+
+    /// How many rows it has.
+    pub fn count(&self) -> usize
+        ensures { result ≡ length self.now.rows }
+    {
+        self.rows.as_slice().len()
+    }
 }
 
 /// The parts that were given of a leaf; none where there are none.

@@ -10,7 +10,7 @@ ghost use Rattle.catalog.specs.FragmentLeaf.{catalogue_leaves, schemas_of};
 ghost use Rattle.catalog.specs.Relation.{catalogue_of};
 ghost use Rattle.plan.specs.Given.{AreBrought};
 ghost use Rattle.plan.specs.Reduced.{FindsAll};
-ghost use Rattle.plan.specs.Shape.{shape};
+ghost use Rattle.plan.specs.Postfix.{plan_of};
 ghost use Rattle.plan.specs.Stated.{AreFetchesOf};
 ghost use Rattle.plan.specs.Uniform.{EachRead, IsUniform};
 ghost use Rattle.answers.specs.Moves.{is_to_either, moves_between};
@@ -26,7 +26,7 @@ use meaning::answer::Answer;
 use meaning::statement::{Refragment, Statement};
 use plan::fetch::Fetch;
 use plan::laws::{brought_is_read, contents_give};
-use plan::plan::Plan;
+use plan::postfix::Node;
 use std::alloc::Global;
 use terms::memory::Memory;
 
@@ -39,23 +39,23 @@ pub fn work(
     alloc: Global,
     catalog: &Catalog,
     statement: &Statement,
-    plan: &Plan,
+    nodes: &[Node],
     fetches: &[Fetch],
     fetched: &[FetchRows],
 ) -> Result<Outcome, Memory>
     // What holds of the reads of each reduced plan.
-    requires fetched { EachRead (λ read. Contains fetches.now read) (shape plan.now) }
-    requires uniform { IsUniform (shape plan.now) }
+    requires fetched { EachRead (λ read. Contains fetches.now read) (plan_of nodes.now) }
+    requires uniform { IsUniform (plan_of nodes.now) }
     // The parts of each fetch have its columns, and their keys ascend.
     requires parts { AllByRecursion (λ read. AreParts read.columns (given fetched.now read.leaf)) fetches.now }
     ensures answer { IsStatementOf (schemas_of (catalogue_of catalog.now)) statement.now
         → AreFetchesOf (catalogue_of catalog.now) statement.now fetches.now
-        → FindsAll (catalogue_of catalog.now) statement.now fetches.now (shape plan.now)
+        → FindsAll (catalogue_of catalog.now) statement.now fetches.now (plan_of nodes.now)
         → IfOk result (λ outcome. (whole : Relations) → FitsSchema (schemas_of (catalogue_of catalog.now)) whole →
         AreBrought (catalogue_of catalog.now) whole fetches.now (given fetched.now) → outcome.answer ≡ (meaning statement.now whole).0) }
     ensures writes { IsStatementOf (schemas_of (catalogue_of catalog.now)) statement.now
         → AreFetchesOf (catalogue_of catalog.now) statement.now fetches.now
-        → FindsAll (catalogue_of catalog.now) statement.now fetches.now (shape plan.now)
+        → FindsAll (catalogue_of catalog.now) statement.now fetches.now (plan_of nodes.now)
         → IfOk result (λ outcome. (whole : Relations) → FitsSchema (schemas_of (catalogue_of catalog.now)) whole →
         AreBrought (catalogue_of catalog.now) whole fetches.now (given fetched.now) → outcome.writes ≡ writes_between (catalogue_of catalog.now) whole (meaning statement.now whole).1) }
     // And whatever the fetches brought, each write is to a leaf of the catalogue.
@@ -64,7 +64,7 @@ pub fn work(
     brought_is_read();
     contents_give();
     let _relations = catalog.relations();
-    let table = evaluate(alloc, plan, fetched)?;
+    let table = evaluate(alloc, nodes, fetched)?;
     finish(alloc, catalog, statement, &table)
 }
 
@@ -85,23 +85,23 @@ pub fn refragment(
     old: &Catalog,
     new: &Catalog,
     refragment: &Refragment,
-    plan: &Plan,
+    nodes: &[Node],
     fetches: &[Fetch],
     fetched: &[FetchRows],
 ) -> Result<Refragmented, Memory>
     // What holds of the reads of each reduced plan.
-    requires fetched { EachRead (λ read. Contains fetches.now read) (shape plan.now) }
-    requires uniform { IsUniform (shape plan.now) }
+    requires fetched { EachRead (λ read. Contains fetches.now read) (plan_of nodes.now) }
+    requires uniform { IsUniform (plan_of nodes.now) }
     // The parts of each fetch have its columns, and their keys ascend.
     requires parts { AllByRecursion (λ read. AreParts read.columns (given fetched.now read.leaf)) fetches.now }
     ensures answer { IsStatementOf (schemas_of (catalogue_of old.now)) (statements.Refragment refragment.now)
         → AreFetchesOf (catalogue_of old.now) (statements.Refragment refragment.now) fetches.now
-        → FindsAll (catalogue_of old.now) (statements.Refragment refragment.now) fetches.now (shape plan.now)
+        → FindsAll (catalogue_of old.now) (statements.Refragment refragment.now) fetches.now (plan_of nodes.now)
         → IfOk result (λ made. (whole : Relations) → FitsSchema (schemas_of (catalogue_of old.now)) whole →
         AreBrought (catalogue_of old.now) whole fetches.now (given fetched.now) → made.answer ≡ (meaning (statements.Refragment refragment.now) whole).0) }
     ensures moves { IsStatementOf (schemas_of (catalogue_of old.now)) (statements.Refragment refragment.now)
         → AreFetchesOf (catalogue_of old.now) (statements.Refragment refragment.now) fetches.now
-        → FindsAll (catalogue_of old.now) (statements.Refragment refragment.now) fetches.now (shape plan.now)
+        → FindsAll (catalogue_of old.now) (statements.Refragment refragment.now) fetches.now (plan_of nodes.now)
         → IfOk result (λ made. (whole : Relations) → FitsSchema (schemas_of (catalogue_of old.now)) whole →
         AreBrought (catalogue_of old.now) whole fetches.now (given fetched.now) →
         made.moves.items ≡ moves_between (catalogue_of old.now) (catalogue_of new.now) refragment.now.relation.name (rows_of whole refragment.now.relation.name)) }
@@ -111,7 +111,7 @@ pub fn refragment(
     brought_is_read();
     contents_give();
     let _relations = old.relations();
-    let table = evaluate(alloc, plan, fetched)?;
+    let table = evaluate(alloc, nodes, fetched)?;
     let moves = moves(alloc, old, new, &refragment.relation.name, &table)?;
     Ok(Refragmented {
         answer: refragmented(alloc, &table).answer,

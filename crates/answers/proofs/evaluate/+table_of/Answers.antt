@@ -1,107 +1,164 @@
--- Why `evaluate::table_of` meets its contract: each node by its law, and by the steps of both sides.
-use Rattle.std.proofs.Common.{◌≡◌, ◌+◌, List, length, IfOk, ap, ap₂, sym, ◌∙◌, subst, arith}
+-- Why `evaluate::table_of` meets its contract: the plan of the last node is on top, and each node by its law.
+use Rattle.std.proofs.Common.{◌≡◌, List, [], ◌∷◌, ◌++◌, length, ap, sym, subst, ◌∙◌, arith}
+use Rattle.std.specs.List.{AllByRecursion}
 use Rattle.terms.specs.declared.value.Value.{Value}
-use Rattle.plan.specs.Shape.{Shape, Fetch, Filter, Project, Union, KeyJoin, Lookup, shape}
+use Rattle.plan.specs.declared.postfix.Node.{Node}
+use Rattle.plan.specs.declared.postfix.Node.TheVariants as node
+use Rattle.plan.specs.Postfix.{plan_of}
 use Rattle.plan.specs.Uniform.{IsUniform, columns_had}
-use Rattle.answers.specs.Evaluated.{cut, filtered, keyed, partnered, table_read, united}
-use Rattle.answers.specs.Joined.{row_count, rows_joined}
+use Rattle.answers.specs.Evaluated.{table_read}
 use Rattle.answers.specs.Table.{AreParts, given}
-use Rattle.answers.proofs.Counted.{AreGiven, both_counted, counted, made_alone, made_counted}
-use Rattle.answers.proofs.Made.{cut_made, fetch_made, filter_made, key_join_made, lookup_made, stays_within, union_made}
+use Rattle.answers.proofs.Counted.{AreGiven}
+use Rattle.answers.proofs.Made.{stays_within}
+use Rattle.answers.proofs.OnTop.{empty_on_top, fetch_on_top, filter_on_top, key_join_on_top, last_asked, look_up_on_top, project_on_top, under_asked, union_columns, union_on_top}
 use Rattle.answers.proofs.evaluate.+table_of.Goals as goal
 
-pub returns-in-Fetch : goal.returns-in-Fetch
-returns-in-Fetch t c =
+pub table_of-requires : goal.table_of-requires
+table_of-requires t c =
+    let nodes = c.args.nodes.now in
+    let below = c.in-Some.below.now in
+    let split : nodes ≡ below ++ node.Filter c.in-Filter.conds ∷ [] = c.in-Some.ensures.cases.0 ∙ ap (λ (last : Node). below ++ last ∷ []) c.in-Filter.is in
     let contents = given c.args.fetched.now in
-    let read = c.in-Fetch.read in
-    let steps = c.args.ledger.now.steps in
-    let is : shape c.args.plan.now ≡ Fetch read = ap shape c.in-Fetch.is in
-    let uniform : IsUniform (Fetch read) = let Q : Shape → Type 0 = IsUniform in subst Q is c.requires.plan in
-    let parts : AreParts read.columns (contents read.leaf) = let Q : Shape → Type 0 = AreGiven contents in subst Q is c.requires.parts in
-    let P : List (List Value) → Type 0 = λ brought. IfOk c.table_read.result (λ table. table ≡ table_read read brought) in
-    made_alone c.table_read.result (shape c.args.plan.now) (Fetch read) contents (table_read read (contents read.leaf)) steps steps (subst P c.given.ensures c.table_read.ensures) is (fetch_made read contents uniform parts) (omega arith)
+    (omega (arith, c.in-Some.ensures.cases.1), (last_asked IsUniform nodes below (node.Filter c.in-Filter.conds) split c.requires.plan, last_asked (AreGiven contents) nodes below (node.Filter c.in-Filter.conds) split c.requires.parts))
 
-pub returns-in_ok-table-in-Filter : goal.returns-in_ok-table-in-Filter
-returns-in_ok-table-in-Filter t c =
+pub table_of-requires-in-Project : goal.table_of-requires-in-Project
+table_of-requires-in-Project t c =
+    let nodes = c.args.nodes.now in
+    let below = c.in-Some.below.now in
+    let split : nodes ≡ below ++ node.Project c.in-Project.columns ∷ [] = c.in-Some.ensures.cases.0 ∙ ap (λ (last : Node). below ++ last ∷ []) c.in-Project.is in
     let contents = given c.args.fetched.now in
-    let conds = c.as_slice.result.now in
-    let table = c.in_ok-table-in-Filter.table in
-    let below = shape c.deref.result.now in
-    let is : shape c.args.plan.now ≡ Filter conds below = ap shape c.in-Filter.is ∙ ap₂ Filter (sym c.as_slice.ensures) (ap shape (sym c.deref.ensures)) in
-    let made = c.in_ok-table-in-Filter.ensures in
-    made_alone c.filtered.result (shape c.args.plan.now) (Filter conds below) contents (filtered conds table) c.args.ledger.now.steps c.table_of.new.ledger.steps c.filtered.ensures is (filter_made conds below contents table made.0) made.1
+    (omega (arith, c.in-Some.ensures.cases.1), (last_asked IsUniform nodes below (node.Project c.in-Project.columns) split c.requires.plan, last_asked (AreGiven contents) nodes below (node.Project c.in-Project.columns) split c.requires.parts))
 
-pub returns-in_ok-table-in-Project : goal.returns-in_ok-table-in-Project
-returns-in_ok-table-in-Project t c =
+pub table_of-requires-in-Union : goal.table_of-requires-in-Union
+table_of-requires-in-Union t c =
+    let nodes = c.args.nodes.now in
+    let below = c.in-Some.below.now in
+    let split : nodes ≡ below ++ node.Union ∷ [] = c.in-Some.ensures.cases.0 ∙ ap (λ (last : Node). below ++ last ∷ []) c.in-Union.is in
     let contents = given c.args.fetched.now in
-    let columns = c.as_slice-in-Project.result.now in
-    let table = c.in_ok-table-in-Project.table in
-    let below = shape c.deref-in-Project.result.now in
-    let is : shape c.args.plan.now ≡ Project columns below = ap shape c.in-Project.is ∙ ap₂ Project (sym c.as_slice-in-Project.ensures) (ap shape (sym c.deref-in-Project.ensures)) in
-    let made = c.in_ok-table-in-Project.ensures in
-    made_alone c.cut.result (shape c.args.plan.now) (Project columns below) contents (cut columns table) c.args.ledger.now.steps c.table_of-in-Project.new.ledger.steps c.cut.ensures is (cut_made columns below contents table made.0) made.1
+    (omega (arith, c.in-Some.ensures.cases.1), ((last_asked IsUniform nodes below node.Union split c.requires.plan).1, (last_asked (AreGiven contents) nodes below node.Union split c.requires.parts).1))
 
-pub returns-in_ok-others-in-Union : goal.returns-in_ok-others-in-Union
-returns-in_ok-others-in-Union t c =
+pub table_of-requires-in-Union-2 : goal.table_of-requires-in-Union-2
+table_of-requires-in-Union-2 t c =
+    let nodes = c.args.nodes.now in
+    let below = c.in-Some.below.now in
+    let middle = c.in_ok-others-in-Union.below.now in
+    let split : nodes ≡ below ++ node.Union ∷ [] = c.in-Some.ensures.cases.0 ∙ ap (λ (last : Node). below ++ last ∷ []) c.in-Union.is in
     let contents = given c.args.fetched.now in
-    let table = c.in_ok-table-in-Union.table in
-    let others = c.in_ok-others-in-Union.others in
-    let one = shape c.deref-in-Union.result.now in
-    let other = shape c.deref-in-Union-2.result.now in
-    let is : shape c.args.plan.now ≡ Union one other = ap shape c.in-Union.is ∙ ap₂ Union (ap shape (sym c.deref-in-Union.ensures)) (ap shape (sym c.deref-in-Union-2.ensures)) in
-    let uniform : IsUniform (Union one other) = let Q : Shape → Type 0 = IsUniform in subst Q is c.requires.plan in
-    let parts : AreGiven contents (Union one other) = let Q : Shape → Type 0 = AreGiven contents in subst Q is c.requires.parts in
-    let made = c.in_ok-table-in-Union.ensures in
-    let made_other = c.in_ok-others-in-Union.ensures in
-    let steps = c.table_of-in-Union-2.new.ledger.steps in
-    made_counted c.united.result (shape c.args.plan.now) (Union one other) contents (united table others) c.args.ledger.now.steps c.united.new.ledger.steps (steps + (length table.rows + length others.rows)) c.united.ensures.made c.united.ensures.most is
-    (union_made one other contents table others made.0 made_other.0 uniform.2)
-    (both_counted c.args.ledger.now.steps c.table_of-in-Union.new.ledger.steps steps (rows_joined one contents) (rows_joined other contents) (length table.rows) (length others.rows) (row_count one contents) (row_count other contents) made.1
-    made_other.1 (counted one contents table parts.0 made.0.has_rows) (counted other contents others parts.1 made_other.0.has_rows))
+    let on = c.in_ok-others-in-Union.ensures in
+    (omega (arith, c.in-Some.ensures.cases.1, on.fewer), (under_asked IsUniform below middle on.stack (last_asked IsUniform nodes below node.Union split c.requires.plan).0, under_asked (AreGiven contents) below middle on.stack (last_asked (AreGiven contents) nodes below node.Union split c.requires.parts).0))
 
-pub returns-in_ok-others-in-KeyJoin : goal.returns-in_ok-others-in-KeyJoin
-returns-in_ok-others-in-KeyJoin t c =
+pub table_of-requires-in-KeyJoin : goal.table_of-requires-in-KeyJoin
+table_of-requires-in-KeyJoin t c =
+    let nodes = c.args.nodes.now in
+    let below = c.in-Some.below.now in
+    let split : nodes ≡ below ++ node.KeyJoin ∷ [] = c.in-Some.ensures.cases.0 ∙ ap (λ (last : Node). below ++ last ∷ []) c.in-KeyJoin.is in
     let contents = given c.args.fetched.now in
-    let table = c.in_ok-table-in-KeyJoin.table in
-    let others = c.in_ok-others-in-KeyJoin.others in
-    let one = shape c.deref-in-KeyJoin.result.now in
-    let other = shape c.deref-in-KeyJoin-2.result.now in
-    let is : shape c.args.plan.now ≡ KeyJoin one other = ap shape c.in-KeyJoin.is ∙ ap₂ KeyJoin (ap shape (sym c.deref-in-KeyJoin.ensures)) (ap shape (sym c.deref-in-KeyJoin-2.ensures)) in
-    let parts : AreGiven contents (KeyJoin one other) = let Q : Shape → Type 0 = AreGiven contents in subst Q is c.requires.parts in
-    let made = c.in_ok-table-in-KeyJoin.ensures in
-    let made_other = c.in_ok-others-in-KeyJoin.ensures in
-    let steps = c.table_of-in-KeyJoin-2.new.ledger.steps in
-    made_counted c.keyed.result (shape c.args.plan.now) (KeyJoin one other) contents (keyed table others) c.args.ledger.now.steps c.keyed.new.ledger.steps (steps + (length table.rows + length others.rows)) c.keyed.ensures.made c.keyed.ensures.most is
-    (key_join_made one other contents table others made.0 made_other.0)
-    (both_counted c.args.ledger.now.steps c.table_of-in-KeyJoin.new.ledger.steps steps (rows_joined one contents) (rows_joined other contents) (length table.rows) (length others.rows) (row_count one contents) (row_count other contents) made.1
-    made_other.1 (counted one contents table parts.0 made.0.has_rows) (counted other contents others parts.1 made_other.0.has_rows))
+    (omega (arith, c.in-Some.ensures.cases.1), ((last_asked IsUniform nodes below node.KeyJoin split c.requires.plan).1, (last_asked (AreGiven contents) nodes below node.KeyJoin split c.requires.parts).1))
+
+pub table_of-requires-in-KeyJoin-2 : goal.table_of-requires-in-KeyJoin-2
+table_of-requires-in-KeyJoin-2 t c =
+    let nodes = c.args.nodes.now in
+    let below = c.in-Some.below.now in
+    let middle = c.in_ok-others-in-KeyJoin.below.now in
+    let split : nodes ≡ below ++ node.KeyJoin ∷ [] = c.in-Some.ensures.cases.0 ∙ ap (λ (last : Node). below ++ last ∷ []) c.in-KeyJoin.is in
+    let contents = given c.args.fetched.now in
+    let on = c.in_ok-others-in-KeyJoin.ensures in
+    (omega (arith, c.in-Some.ensures.cases.1, on.fewer), (under_asked IsUniform below middle on.stack (last_asked IsUniform nodes below node.KeyJoin split c.requires.plan).0, under_asked (AreGiven contents) below middle on.stack (last_asked (AreGiven contents) nodes below node.KeyJoin split c.requires.parts).0))
+
+pub table_of-requires-in-Lookup : goal.table_of-requires-in-Lookup
+table_of-requires-in-Lookup t c =
+    let nodes = c.args.nodes.now in
+    let below = c.in-Some.below.now in
+    let split : nodes ≡ below ++ node.Lookup c.in-Lookup.col c.in-Lookup.width ∷ [] = c.in-Some.ensures.cases.0 ∙ ap (λ (last : Node). below ++ last ∷ []) c.in-Lookup.is in
+    let contents = given c.args.fetched.now in
+    (omega (arith, c.in-Some.ensures.cases.1), ((last_asked IsUniform nodes below (node.Lookup c.in-Lookup.col c.in-Lookup.width) split c.requires.plan).1, (last_asked (AreGiven contents) nodes below (node.Lookup c.in-Lookup.col c.in-Lookup.width) split c.requires.parts).1))
+
+pub table_of-requires-in-Lookup-2 : goal.table_of-requires-in-Lookup-2
+table_of-requires-in-Lookup-2 t c =
+    let nodes = c.args.nodes.now in
+    let below = c.in-Some.below.now in
+    let middle = c.in_ok-others-in-Lookup.below.now in
+    let split : nodes ≡ below ++ node.Lookup c.in-Lookup.col c.in-Lookup.width ∷ [] = c.in-Some.ensures.cases.0 ∙ ap (λ (last : Node). below ++ last ∷ []) c.in-Lookup.is in
+    let contents = given c.args.fetched.now in
+    let on = c.in_ok-others-in-Lookup.ensures in
+    (omega (arith, c.in-Some.ensures.cases.1, on.fewer), (under_asked IsUniform below middle on.stack (last_asked IsUniform nodes below (node.Lookup c.in-Lookup.col c.in-Lookup.width) split c.requires.plan).0, under_asked (AreGiven contents) below middle on.stack (last_asked (AreGiven contents) nodes below (node.Lookup c.in-Lookup.col c.in-Lookup.width) split c.requires.parts).0))
 
 pub partnered-requires-clause-within : goal.partnered-requires-clause-within
 partnered-requires-clause-within t c =
-    let contents = given c.args.fetched.now in
+    let below = c.in-Some.below.now in
     let others = c.in_ok-others-in-Lookup.others in
-    let left = shape c.deref-in-Lookup.result.now in
-    let right = shape c.deref-in-Lookup-2.result.now in
-    let is : shape c.args.plan.now ≡ Lookup c.in-Lookup.col c.in-Lookup.width left right =
-    ap shape c.in-Lookup.is ∙ ap₂ (Lookup c.in-Lookup.col c.in-Lookup.width) (ap shape (sym c.deref-in-Lookup.ensures)) (ap shape (sym c.deref-in-Lookup-2.ensures)) in
-    let uniform : IsUniform (Lookup c.in-Lookup.col c.in-Lookup.width left right) = let Q : Shape → Type 0 = IsUniform in subst Q is c.requires.plan in
-    stays_within c.in-Lookup.width (columns_had right) others.columns others.rows uniform.2 c.in_ok-others-in-Lookup.ensures.0.had
+    let last = node.Lookup c.in-Lookup.col c.in-Lookup.width in
+    let split : c.args.nodes.now ≡ below ++ last ∷ [] = c.in-Some.ensures.cases.0 ∙ ap (λ (last : Node). below ++ last ∷ []) c.in-Lookup.is in
+    let uniform = last_asked IsUniform c.args.nodes.now below last split c.requires.plan in
+    stays_within c.in-Lookup.width (columns_had (plan_of below)) others.columns others.rows uniform.2 c.in_ok-others-in-Lookup.ensures.made.had
 
-pub returns-in_ok-others-in-Lookup : goal.returns-in_ok-others-in-Lookup
-returns-in_ok-others-in-Lookup t c =
+pub returns-in_ok-no_rows-in-Empty : goal.returns-in_ok-no_rows-in-Empty
+returns-in_ok-no_rows-in-Empty t c =
+    let below = c.in-Some.below.now in
+    let split : c.args.nodes.now ≡ below ++ node.Empty ∷ [] = c.in-Some.ensures.cases.0 ∙ ap (λ (last : Node). below ++ last ∷ []) c.in-Empty.is in
+    empty_on_top c.args.nodes.now below (given c.args.fetched.now) c.in_ok-no_rows-in-Empty.field-0 c.args.ledger.now.steps split c.in-Some.ensures.cases.1 c.in_ok-no_rows-in-Empty.ensures
+
+pub returns-in_ok-table-in-Fetch : goal.returns-in_ok-table-in-Fetch
+returns-in_ok-table-in-Fetch t c =
+    let below = c.in-Some.below.now in
+    let split : c.args.nodes.now ≡ below ++ node.Fetch c.in-Fetch.read ∷ [] = c.in-Some.ensures.cases.0 ∙ ap (λ (last : Node). below ++ last ∷ []) c.in-Fetch.is in
+    fetch_on_top c.args.nodes.now below c.in-Fetch.read (given c.args.fetched.now) c.in_ok-table-in-Fetch.table c.args.ledger.now.steps split c.in-Some.ensures.cases.1 c.requires.plan c.requires.parts (c.in_ok-table-in-Fetch.ensures ∙ ap (table_read c.in-Fetch.read) c.given.ensures)
+
+pub returns-in_ok-table-in-Filter : goal.returns-in_ok-table-in-Filter
+returns-in_ok-table-in-Filter t c =
+    let below = c.in-Some.below.now in
+    let conds = c.as_slice.result.now in
+    let split : c.args.nodes.now ≡ below ++ node.Filter conds ∷ [] = c.in-Some.ensures.cases.0 ∙ ap (λ (last : Node). below ++ last ∷ []) (c.in-Filter.is ∙ ap node.Filter (sym c.as_slice.ensures)) in
+    filter_on_top c.args.nodes.now below c.in_ok-table-in-Filter.before.now conds (given c.args.fetched.now) c.in_ok-table-in-Filter.table c.filtered.result c.args.ledger.now.steps c.table_of.new.ledger.steps split c.in-Some.ensures.cases.1 c.in_ok-table-in-Filter.ensures c.filtered.ensures
+
+pub returns-in_ok-cut-in-Project : goal.returns-in_ok-cut-in-Project
+returns-in_ok-cut-in-Project t c =
+    let below = c.in-Some.below.now in
+    let columns = c.as_slice-in-Project.result.now in
+    let split : c.args.nodes.now ≡ below ++ node.Project columns ∷ [] = c.in-Some.ensures.cases.0 ∙ ap (λ (last : Node). below ++ last ∷ []) (c.in-Project.is ∙ ap node.Project (sym c.as_slice-in-Project.ensures)) in
+    project_on_top c.args.nodes.now below c.in_ok-table-in-Project.before.now columns (given c.args.fetched.now) c.in_ok-table-in-Project.table c.in_ok-cut-in-Project.field-0 c.args.ledger.now.steps c.table_of-in-Project.new.ledger.steps split c.in-Some.ensures.cases.1 c.in_ok-table-in-Project.ensures c.in_ok-cut-in-Project.ensures
+
+pub returns-in_ok-united-in-Union : goal.returns-in_ok-united-in-Union
+returns-in_ok-united-in-Union t c =
+    let nodes = c.args.nodes.now in
+    let below = c.in-Some.below.now in
+    let split : nodes ≡ below ++ node.Union ∷ [] = c.in-Some.ensures.cases.0 ∙ ap (λ (last : Node). below ++ last ∷ []) c.in-Union.is in
+    union_on_top nodes below c.in_ok-others-in-Union.below.now c.in_ok-table-in-Union.before.now (given c.args.fetched.now) c.in_ok-table-in-Union.table c.in_ok-others-in-Union.others c.in_ok-united-in-Union.field-0 c.args.ledger.now.steps c.table_of-in-Union.new.ledger.steps c.table_of-in-Union-2.new.ledger.steps
+    c.united.new.ledger.steps split c.in-Some.ensures.cases.1 c.requires.plan c.requires.parts c.in_ok-others-in-Union.ensures c.in_ok-table-in-Union.ensures c.in_ok-united-in-Union.ensures.made c.in_ok-united-in-Union.ensures.most
+
+pub returns-in_ok-keyed-in-KeyJoin : goal.returns-in_ok-keyed-in-KeyJoin
+returns-in_ok-keyed-in-KeyJoin t c =
+    let nodes = c.args.nodes.now in
+    let below = c.in-Some.below.now in
+    let split : nodes ≡ below ++ node.KeyJoin ∷ [] = c.in-Some.ensures.cases.0 ∙ ap (λ (last : Node). below ++ last ∷ []) c.in-KeyJoin.is in
+    key_join_on_top nodes below c.in_ok-others-in-KeyJoin.below.now c.in_ok-table-in-KeyJoin.before.now (given c.args.fetched.now) c.in_ok-table-in-KeyJoin.table c.in_ok-others-in-KeyJoin.others c.in_ok-keyed-in-KeyJoin.field-0 c.args.ledger.now.steps c.table_of-in-KeyJoin.new.ledger.steps c.table_of-in-KeyJoin-2.new.ledger.steps
+    c.keyed.new.ledger.steps split c.in-Some.ensures.cases.1 c.requires.parts c.in_ok-others-in-KeyJoin.ensures c.in_ok-table-in-KeyJoin.ensures c.in_ok-keyed-in-KeyJoin.ensures.made c.in_ok-keyed-in-KeyJoin.ensures.most
+
+pub returns-in_ok-table-in-Lookup-2 : goal.returns-in_ok-table-in-Lookup-2
+returns-in_ok-table-in-Lookup-2 t c =
+    let nodes = c.args.nodes.now in
+    let below = c.in-Some.below.now in
+    let split : nodes ≡ below ++ node.Lookup c.in-Lookup.col c.in-Lookup.width ∷ [] = c.in-Some.ensures.cases.0 ∙ ap (λ (last : Node). below ++ last ∷ []) c.in-Lookup.is in
+    look_up_on_top nodes below c.in_ok-others-in-Lookup.below.now c.in_ok-table-in-Lookup.before.now c.in-Lookup.col c.in-Lookup.width (given c.args.fetched.now) c.in_ok-table-in-Lookup.table c.in_ok-others-in-Lookup.others c.in_ok-table-in-Lookup-2.table c.args.ledger.now.steps c.table_of-in-Lookup.new.ledger.steps c.table_of-in-Lookup-2.new.ledger.steps
+    c.partnered.new.ledger.steps split c.in-Some.ensures.cases.1 c.requires.parts c.in_ok-others-in-Lookup.ensures c.in_ok-table-in-Lookup.ensures c.in_ok-table-in-Lookup-2.ensures.made c.in_ok-table-in-Lookup-2.ensures.most
+
+pub table_read-requires : goal.table_read-requires
+table_read-requires t c =
     let contents = given c.args.fetched.now in
-    let table = c.in_ok-table-in-Lookup.table in
-    let others = c.in_ok-others-in-Lookup.others in
-    let left = shape c.deref-in-Lookup.result.now in
-    let right = shape c.deref-in-Lookup-2.result.now in
-    let col = c.in-Lookup.col in
-    let width = c.in-Lookup.width in
-    let is : shape c.args.plan.now ≡ Lookup col width left right = ap shape c.in-Lookup.is ∙ ap₂ (Lookup col width) (ap shape (sym c.deref-in-Lookup.ensures)) (ap shape (sym c.deref-in-Lookup-2.ensures)) in
-    let parts : AreGiven contents (Lookup col width left right) = let Q : Shape → Type 0 = AreGiven contents in subst Q is c.requires.parts in
-    let made = c.in_ok-table-in-Lookup.ensures in
-    let made_other = c.in_ok-others-in-Lookup.ensures in
-    let steps = c.table_of-in-Lookup-2.new.ledger.steps in
-    made_counted c.partnered.result (shape c.args.plan.now) (Lookup col width left right) contents (partnered col width table others) c.args.ledger.now.steps c.partnered.new.ledger.steps (steps + (length table.rows + length others.rows))
-    c.partnered.ensures.made c.partnered.ensures.most is (lookup_made col width left right contents table others made.0 made_other.0)
-    (both_counted c.args.ledger.now.steps c.table_of-in-Lookup.new.ledger.steps steps (rows_joined left contents) (rows_joined right contents) (length table.rows) (length others.rows) (row_count left contents) (row_count right contents) made.1
-    made_other.1 (counted left contents table parts.0 made.0.has_rows) (counted right contents others parts.1 made_other.0.has_rows))
+    let nodes = c.args.nodes.now in
+    let below = c.in-Some.below.now in
+    let read = c.in-Fetch.read in
+    let split : nodes ≡ below ++ node.Fetch read ∷ [] = c.in-Some.ensures.cases.0 ∙ ap (λ (last : Node). below ++ last ∷ []) c.in-Fetch.is in
+    let parts : AreParts read.columns (contents read.leaf) = last_asked (AreGiven contents) nodes below (node.Fetch read) split c.requires.parts in
+    let P : List (List Value) → Type 0 = AllByRecursion (λ part. length part ≡ length read.columns) in
+    subst P (sym c.given.ensures) parts.wide
+
+pub united-requires-clause-columns : goal.united-requires-clause-columns
+united-requires-clause-columns t c =
+    let nodes = c.args.nodes.now in
+    let below = c.in-Some.below.now in
+    let middle = c.in_ok-others-in-Union.below.now in
+    let split : nodes ≡ below ++ node.Union ∷ [] = c.in-Some.ensures.cases.0 ∙ ap (λ (last : Node). below ++ last ∷ []) c.in-Union.is in
+    let other = c.in_ok-others-in-Union.ensures in
+    let one = c.in_ok-table-in-Union.ensures in
+    union_columns nodes below middle c.in_ok-table-in-Union.table c.in_ok-others-in-Union.others split c.requires.plan other.stack one.made.had other.made.had

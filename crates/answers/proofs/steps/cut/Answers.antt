@@ -1,12 +1,11 @@
 -- Why `steps::cut` meets its contract.
-use Rattle.std.proofs.Common.{rules, ◌≡◌, ◌==◌, true, length}
-use Rattle.std.specs.List.{list_all}
+use Rattle.std.proofs.Common.{List, filter, ap, sym, ◌∙◌}
 use Rattle.plan.specs.Rows.{is_seen}
-use Rattle.answers.proofs.Whole.{whole_cut}
+use Rattle.answers.specs.declared.joined.Column.{Column}
+use Rattle.answers.proofs.LaidTables.{cut_made_is}
 use Rattle.answers.proofs.steps.cut.Goals as goal
 
-pub returns-then-are_wide : goal.returns-then-are_wide
-returns-then-are_wide c =
-    let all : list_all (is_seen c.args.wanted.now) c.args.table.columns ≡ true = search rules in
-    let wide : list_all (λ row. length row == length c.args.table.columns) c.args.table.rows ≡ true = search rules in
-    whole_cut c.args.wanted.now c.args.table all wide
+pub returns : goal.returns
+returns c =
+    let wanted = c.args.wanted.now in
+    cut_made_is wanted c.table.inside.columns c.new.result c.table.inside.rows c.args.table (sym c.table.view_is) (c.new.ensures ∙ c.in_ok-columns.ensures ∙ ap (λ (all : List Column). filter (λ column. is_seen wanted column.number) all) c.as_slice.ensures)

@@ -1,7 +1,13 @@
 -- Why `steps::filtered` meets its contract.
-use Rattle.std.proofs.Common.{rules, ◌≡◌, ◌==◌, true, length}
-use Rattle.answers.proofs.Whole.{none_filtered}
+use Rattle.std.proofs.Common.{List, filter, ap₂, sym, ◌∙◌}
+use Rattle.answers.specs.declared.joined.Column.{Column}
+use Rattle.answers.specs.declared.joined.Joined.{Joined}
+use Rattle.answers.specs.Laid.{laid_meets}
+use Rattle.answers.proofs.LaidTables.{filtered_is}
 use Rattle.answers.proofs.steps.filtered.Goals as goal
 
-pub returns-then-is_empty : goal.returns-then-is_empty
-returns-then-is_empty c = let none : (length c.args.conds.now == 0) ≡ true = search rules in none_filtered c.args.conds.now c.args.table none
+pub returns : goal.returns
+returns c =
+    let conds = c.args.conds.now in
+    filtered_is conds c.table.inside.columns c.table.inside.rows c.new.result c.args.table (sym c.table.view_is)
+    (c.new.ensures ∙ c.meeting-rows.ensures ∙ ap₂ (λ (columns : List Column) (rows : List Joined). filter (laid_meets conds columns) rows) c.as_slice.ensures c.into_vec.ensures)
