@@ -37,7 +37,7 @@ use Rattle.desk.specs.declared.transaction.Unsent.{Unsent}
 use Rattle.desk.specs.Commit.{is_first}
 use Rattle.desk.specs.Fetches.{are_in, with_rows}
 use Rattle.desk.specs.Database.{Database, language, replied, sent}
-use Rattle.desk.specs.Does.{ArePlaced, Does, DoesIn, GoesOn, IsShort, Takes}
+use Rattle.desk.specs.Does.{ArePlaced, Does, DoesIn, GoesOn, IsProgress, IsShort, Takes}
 use Rattle.desk.specs.OfCatalogue.{IsOfCatalogue}
 use Rattle.desk.specs.Planned.{IsOfPlan, IsPlanned, ask_from, asked}
 use Rattle.desk.specs.ReducedPlan.{ReducedPlan, plan_in}
@@ -45,11 +45,11 @@ use Rattle.desk.specs.Send.{AreShort, AsksAtHome, UnsentAtHome}
 use Rattle.desk.specs.Participants.{sites_of, participant_in}
 use Rattle.desk.specs.Transaction.{ask_of, stage_of, txn_of, undecided_of, write_of}
 use Rattle.desk.specs.State.{Fits, IsIn, Steps, VolatileState, volatile_from, volatile_of}
-use Rattle.desk.specs.Stepped.{IsAtHome, IsProgress, is_reading, ticketed}
+use Rattle.desk.specs.Stepped.{IsAtHome, is_reading, ticketed}
 use Rattle.desk.specs.Statement.{ask_sites}
-use Rattle.desk.specs.Transition.{AreParticipants, told_to}
+use Rattle.desk.specs.Transition.{AreParticipants}
 use Rattle.desk.specs.Opening.{HaveParticipants}
-use Rattle.desk.specs.Request.{notices, open_in}
+use Rattle.desk.specs.Request.{open_in}
 use Rattle.desk.proofs.Making.{goes_on}
 use Rattle.desk.proofs.Raised.{TurnKeeps}
 use Rattle.desk.proofs.Asked.{rows_home, rows_order}
@@ -116,7 +116,7 @@ module _ (db : Database) (of : IsOfCatalogue db) (n : ℕ) (txn : Txn) (u : Unde
         let one = is choice in
         record {
           choice = choice;
-          step = step_as db txn new step (wanted choice) (begun choice (map (ask_of db) asks)) (wanted_is choice) (record { stands = one.stands; letters = one.letters; replies = one.replies });
+          step = step_as db txn new step (wanted choice) (begun choice (map (ask_of db) asks)) (wanted_is choice) (record { stands = one.stands; letters = one.letters; reply = one.reply; heard = one.heard; replies = one.replies });
           explained = subst (λ (turn : desk.Transition (language db)). AllExplained turn.deeds) (sym (wanted_is choice ∙ ap (λ (list : List Ask). begun choice (map (ask_of db) list)) some)) (tt, tt);
           placed = tt;
           within = within;
@@ -130,7 +130,7 @@ module _ (db : Database) (of : IsOfCatalogue db) (n : ℕ) (txn : Txn) (u : Unde
         let same : wanted choice ≡ begun choice [] = wanted_is choice ∙ ap (λ (list : List Ask). begun choice (map (ask_of db) list)) none in
         record {
           choice = choice;
-          step = step_as db txn new step (wanted choice) (begun choice []) same (record { stands = one.stands; letters = one.letters; replies = one.replies });
+          step = step_as db txn new step (wanted choice) (begun choice []) same (record { stands = one.stands; letters = one.letters; reply = one.reply; heard = one.heard; replies = one.replies });
           explained = subst (λ (turn : desk.Transition (language db)). AllExplained turn.deeds) (sym same)
               (tt, (subst (λ (list : List Ask). Explained {L = language db} (desk.Worked (txn_name txn) (n, stated) (map (ask_of db) list) choice)) none why, writes_explained (language db) (txn_name txn) (desk.visits (undecided_of db u) (map (λ w. w.0) choice.1)) told choice.1));
           placed = all_placed db unsent home;
@@ -165,19 +165,19 @@ module _ (db : Database) (n : ℕ) (txn : Txn) (u : Undecided) (site : List ℕ)
 
   module _ (new : Undecided) (step : Progress) where
     -- nothing changes
-    still : (choice : desk.Choice (language db)) → ArePlaced db choice.1 → rowed choice ≡ desk.stays (desk.Known (undecided_of db u)) → new ≡ u → step.letters.items ≡ [] → step.reply ≡ None → IsIn db n (standing.Undecided u) → Does db n txn new step rowed
+    still : (choice : desk.Choice (language db)) → ArePlaced db choice.1 → rowed choice ≡ desk.stays (desk.Known (undecided_of db u)) → new ≡ u → step.letters.items ≡ [] → step.replies.items ≡ [] → IsIn db n (standing.Undecided u) → Does db n txn new step rowed
     still choice placed same is none quiet within = record {
       choice = choice;
-      step = step_as db txn new step (rowed choice) (desk.stays (desk.Known (undecided_of db u))) same (record { stands = ap (λ x. desk.Known (undecided_of db x)) is; letters = ap (map (sent db)) none; replies = ap (told_to (txn_name txn)) quiet });
+      step = step_as db txn new step (rowed choice) (desk.stays (desk.Known (undecided_of db u))) same (record { stands = ap (λ x. desk.Known (undecided_of db x)) is; letters = ap (map (sent db)) none; reply = None; heard = quiet; replies = refl });
       explained = subst (λ (turn : desk.Transition (language db)). AllExplained turn.deeds) (sym same) tt;
       placed = placed;
       within = subst (λ x. IsIn db n (standing.Undecided x)) (sym is) within;
     }
 
-    pub rows_strange : is_first rows.ticket (participant_in site u.participants).ticket ≡ false → new ≡ u → step.letters.items ≡ [] → step.reply ≡ None → IsIn db n (standing.Undecided u) → Does db n txn new step rowed
+    pub rows_strange : is_first rows.ticket (participant_in site u.participants).ticket ≡ false → new ≡ u → step.letters.items ≡ [] → step.replies.items ≡ [] → IsIn db n (standing.Undecided u) → Does db n txn new step rowed
     rows_strange other is none quiet within = let choice : desk.Choice (language db) = (answer.Changed 0, []) in still choice tt (rowed_is choice false u.stage other refl) is none quiet within
 
-    pub rows_unread : is_reading u.stage ≡ false → new ≡ u → step.letters.items ≡ [] → step.reply ≡ None → IsIn db n (standing.Undecided u) → Does db n txn new step rowed
+    pub rows_unread : is_reading u.stage ≡ false → new ≡ u → step.letters.items ≡ [] → step.replies.items ≡ [] → IsIn db n (standing.Undecided u) → Does db n txn new step rowed
     rows_unread other is none quiet within = let choice : desk.Choice (language db) = (answer.Changed 0, []) in still choice tt (go choice (is_first rows.ticket (participant_in site u.participants).ticket) refl ∙ refl) is none quiet within
       where
         stays_at : (choice : desk.Choice (language db)) (st : Stage) → is_reading st ≡ false → rowed_if choice true st ≡ desk.stays (desk.Known (undecided_of db u))
@@ -218,7 +218,7 @@ module _ (db : Database) (n : ℕ) (txn : Txn) (u : Undecided) (site : List ℕ)
     go_if choice b = if b then desk.works {L = language db} (txn_name txn) (undecided_of db u) (n, reading.statement) (map (ask_of db) given) choice else desk.stays (desk.Known (record (undecided_of db u) { stage = desk.Reading (n, reading.statement) (map (ask_of db) given) }))
 
     module _ (new : Undecided) (step : Progress) where
-      pub rows_wait : are_in given ≡ false → (after : Reading) → after.version ≡ reading.version → after.statement ≡ reading.statement → after.plan ≡ reading.plan → after.asks.items ≡ given → new.participants ≡ u.participants → new.moves ≡ u.moves → new.stage ≡ stage.Reading after → step.letters.items ≡ [] → step.reply ≡ None → Does db n txn new step rowed
+      pub rows_wait : are_in given ≡ false → (after : Reading) → after.version ≡ reading.version → after.statement ≡ reading.statement → after.plan ≡ reading.plan → after.asks.items ≡ given → new.participants ≡ u.participants → new.moves ≡ u.moves → new.stage ≡ stage.Reading after → step.letters.items ≡ [] → step.replies.items ≡ [] → Does db n txn new step rowed
       rows_wait more after version statement plan items participants kind now none quiet =
           let choice : desk.Choice (language db) = (answer.Changed 0, []) in
           let same : rowed choice ≡ go_if choice false = turn_is choice ∙ ap (go_if choice) (all_in db given ∙ more) in
@@ -227,7 +227,9 @@ module _ (db : Database) (n : ℕ) (txn : Txn) (u : Undecided) (site : List ℕ)
             step = step_as db txn new step (rowed choice) (go_if choice false) same (record {
               stands = λ i. desk.Known (record (undecided_of db (record { participants = participants i; stage = u.stage; moves = kind i })) { stage = (ap (stage_of db new.participants) now ∙ (λ j. desk.Reading ((version ∙ of_reading.0) j, statement j) (map (ask_of db) (items j)))) i });
               letters = ap (map (sent db)) none;
-              replies = ap (told_to (txn_name txn)) quiet;
+              reply = None;
+              heard = quiet;
+              replies = refl;
             });
             explained = subst (λ (turn : desk.Transition (language db)). AllExplained turn.deeds) (sym same) tt;
             placed = tt;
@@ -367,10 +369,10 @@ standing_is e = cc
 
 -- ---- the call
 module _ (db : Database) (kept : DeskContent) (volatile : Volatile) (sorted : IsStrictlySortedBy txn_cmp (keys_of volatile.standings.entries)) (fits : Fits db kept (volatile_of volatile)) (txn : Txn) (u : Undecided) (here : (volatile_of volatile).standing txn ≡ Some (standing.Undecided u))
-    (wanted : desk.Choice (language db) → desk.Transition (language db)) (after : VolatileState) (step : Progress) (goes : GoesOn db volatile after txn step wanted) (turns : (choice : desk.Choice (language db)) → TurnKeeps (language db) (txn_name txn) (txn_of db ((volatile_of volatile).standing txn)) (wanted choice)) (written : List Letter) (heard : List Notice) (letters : written ≡ step.letters.items) (replies : heard ≡ notices txn step.reply) where
+    (wanted : desk.Choice (language db) → desk.Transition (language db)) (after : VolatileState) (step : Progress) (goes : GoesOn db volatile after txn step wanted) (turns : (choice : desk.Choice (language db)) → TurnKeeps (language db) (txn_name txn) (txn_of db ((volatile_of volatile).standing txn)) (wanted choice)) (written : List Letter) (heard : List Notice) (letters : written ≡ step.letters.items) (replies : heard ≡ step.replies.items) where
   pub steps_on : Steps db (volatile_of volatile) kept after txn (wanted goes.does.choice) written heard
   steps_on =
-      goes_on db kept volatile.standings.entries volatile.undecided volatile.life volatile.number volatile.version sorted fits txn u goes.new here (wanted goes.does.choice) step.letters step.reply goes.does.step.stands goes.does.step.letters goes.does.step.replies (turns goes.does.choice) goes.does.within goes.short after goes.moved written heard letters replies
+      goes_on db kept volatile.standings.entries volatile.undecided volatile.life volatile.number volatile.version sorted fits txn u goes.new here (wanted goes.does.choice) step.letters goes.does.step.reply goes.does.step.stands goes.does.step.letters goes.does.step.replies (turns goes.does.choice) goes.does.within goes.short after goes.moved written heard letters (replies ∙ goes.does.step.heard)
 
   pub takes_on : Takes db (volatile_of volatile) kept after txn wanted written heard
   takes_on = record { choice = goes.does.choice; steps = steps_on; explained = goes.does.explained; placed = goes.does.placed }
@@ -398,7 +400,7 @@ module _ (db : Database) (n : ℕ) (txn : Txn) (u : Undecided) (site : List ℕ)
 
 pub rows_wait_by : (db : Database) (n : ℕ) (txn : Txn) (u new : Undecided) (site : List ℕ) (rows : Rows) (of : IsOfCatalogue db) (unique : LeafNamesAreUnique) (reading : Reading) → u.stage ≡ stage.Reading reading → is_first rows.ticket (participant_in site u.participants).ticket ≡ true → IsIn db n (standing.Undecided u) →
     (catalogue : Catalogue) → db.catalogue n ≡ catalogue → (list : List Ask) → list ≡ map (with_rows catalogue site rows.op rows.parts) reading.asks.items → are_in list ≡ false → (after : Reading) → after.version ≡ reading.version → after.statement ≡ reading.statement → after.plan ≡ reading.plan → after.asks.items ≡ list →
-    new.participants ≡ u.participants → new.moves ≡ u.moves → new.stage ≡ stage.Reading after → (step : Progress) → step.letters.items ≡ [] → step.reply ≡ None →
+    new.participants ≡ u.participants → new.moves ≡ u.moves → new.stage ≡ stage.Reading after → (step : Progress) → step.letters.items ≡ [] → step.replies.items ≡ [] →
     Does db n txn new step (λ choice. desk.on_known {L = language db} (txn_name txn) (undecided_of db u) site true choice (replied db site (replies.Rows rows)))
 rows_wait_by db n txn u new site rows of unique reading here first known_in catalogue same list list_is more after version statement plan items participants kind now step none quiet =
     let there = list_is ∙ ap (λ cat. map (with_rows cat site rows.op rows.parts) reading.asks.items) (sym same) in

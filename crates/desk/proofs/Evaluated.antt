@@ -1,5 +1,5 @@
 -- A statement that is evaluated is the protocol's.
-use Rattle.std.proofs.Common.{◌≡◌, refl, sym, ap, ◌∙◌, ℕ, List, [], ◌∷◌, ◌++◌, map, Some, None}
+use Rattle.std.proofs.Common.{◌≡◌, refl, sym, ap, ◌∙◌, subst, ℕ, List, [], ◌∷◌, ◌++◌, map, Some, None}
 use Rattle.std.proofs.lemmas.List.{map-append}
 use Rattle.std.specs.List.{filter_map}
 use Rattle.std.specs.Option.{option_map}
@@ -22,11 +22,12 @@ use Rattle.desk.specs.Place.{Place}
 use Rattle.desk.specs.Opening.{HaveParticipants, opens, visits}
 use Rattle.desk.specs.Send.{writes_go}
 use Rattle.desk.specs.Transaction.{stage_of, undecided_of, write_of}
-use Rattle.desk.specs.Statement.{write_sites}
-use Rattle.desk.specs.Stepped.{IsProgress}
-use Rattle.desk.specs.Transition.{AreParticipants, told, told_to}
+use Rattle.desk.specs.Statement.{answer_of, write_sites}
+use Rattle.desk.specs.Does.{IsProgress}
+use Rattle.desk.specs.Request.{notices}
+use Rattle.desk.specs.Transition.{AreParticipants, told}
 use Rattle.desk.proofs.SentLetters.{waiting_is, answered_is}
-use Rattle.desk.proofs.Opened.{kept_by_visits, opens_are, visited_now}
+use Rattle.desk.proofs.Opened.{kept_by_visits, opens_are, opens_none, visited_now, visits_none}
 
 -- the leaves of writes, at their sites
 abbrev pub write_leaves : List Unsent → List Place
@@ -76,26 +77,39 @@ module _ (db : Database) (txn : Txn) (u new : Undecided) (began : Writing) (s : 
   all_letters out = ap (map (sent db)) letters ∙ map-append (sent db) (opens txn (write_sites ws) u.participants) (writes_go txn ws opened).letters
       ∙ (λ i. opens_are db txn u.participants are u.stage u.moves (write_leaves ws) (write_sites ws) (homes_are ws) have i ++ (out ∙ ap (λ turn. turn.letters) goes_as) i)
 
-  pub works_waiting : (after : Writing) → after.answer ≡ began.answer → (first : Unsent) (rest : List Unsent) → after.unsent.items ≡ first ∷ rest → after.unsent.items ≡ (writes_go txn ws opened).left → new.stage ≡ stage.Writing after → step.reply ≡ None → IsProgress db txn new step at_work
+  pub works_waiting : (after : Writing) → after.answer ≡ began.answer → (first : Unsent) (rest : List Unsent) → after.unsent.items ≡ first ∷ rest → after.unsent.items ≡ (writes_go txn ws opened).left → new.stage ≡ stage.Writing after → step.replies.items ≡ [] → IsProgress db txn new step at_work
   works_waiting after answer first rest some left now quiet =
       let base = waiting_is db txn u.moves opened new.participants (writes_go txn ws opened).letters began participants_now refl after answer first rest some left in
       record {
         stands = ap (λ x. desk.Known (undecided_of db (record { participants = new.participants; stage = x; moves = new.moves }))) now ∙ ap (λ m. desk.Known (undecided_of db (record { participants = new.participants; stage = stage.Writing after; moves = m }))) kind ∙ base.0 ∙ ap (λ turn. turn.txn) goes_as;
         letters = all_letters base.1;
-        replies = ap (told_to (txn_name txn)) quiet ∙ sym (ap (filter_map (told db)) (sym (ap (λ turn. turn.deeds) goes_as) ∙ base.2));
+        reply = None;
+        heard = quiet;
+        replies = sym (ap (filter_map (told db)) (sym (ap (λ turn. turn.deeds) goes_as) ∙ base.2));
       }
 
-  pub works_answered : [] ≡ (writes_go txn ws opened).left → new.stage ≡ stage.Idle → step.reply ≡ Some (reply.Answer began.answer) → IsProgress db txn new step at_work
+  pub works_answered : [] ≡ (writes_go txn ws opened).left → new.stage ≡ stage.Idle → step.replies.items ≡ notices txn (Some (reply.Answer began.answer)) → IsProgress db txn new step at_work
   works_answered none now answers =
       let base = answered_is db txn u.moves opened new.participants (writes_go txn ws opened).letters began participants_now refl none in
       record {
         stands = ap (λ x. desk.Known (undecided_of db (record { participants = new.participants; stage = x; moves = new.moves }))) now ∙ ap (λ m. desk.Known (undecided_of db (record { participants = new.participants; stage = stage.Idle; moves = m }))) kind ∙ base.0 ∙ ap (λ turn. turn.txn) goes_as;
         letters = all_letters base.1;
-        replies = ap (told_to (txn_name txn)) answers ∙ sym (ap (filter_map (told db)) (sym (ap (λ turn. turn.deeds) goes_as) ∙ base.2));
+        reply = Some (reply.Answer began.answer);
+        heard = answers;
+        replies = sym (ap (filter_map (told db)) (sym (ap (λ turn. turn.deeds) goes_as) ∙ base.2));
       }
 
   -- whichever it is
   pub works_is : (left : List Unsent) (after : Writing) → after.answer ≡ began.answer → after.unsent.items ≡ left → left ≡ (writes_go txn ws opened).left →
-      (left ≡ [] → (new.stage ≡ stage.Idle) × (step.reply ≡ Some (reply.Answer began.answer))) → ((first : Unsent) (rest : List Unsent) → left ≡ first ∷ rest → (new.stage ≡ stage.Writing after) × (step.reply ≡ None)) → IsProgress db txn new step at_work
-  works_is [] after answer items left answered waits = let done = answered refl in works_answered left done.0 done.1
-  works_is (first ∷ rest) after answer items left answered waits = let still = waits first rest refl in works_waiting after answer first rest items (items ∙ left) still.0 still.1
+      (left ≡ [] → new.stage ≡ stage.Idle) → ((first : Unsent) (rest : List Unsent) → left ≡ first ∷ rest → new.stage ≡ stage.Writing after) → step.replies.items ≡ answer_of txn began.answer left → IsProgress db txn new step at_work
+  works_is [] after answer items left answered waits replies = works_answered left (answered refl) replies
+  works_is (first ∷ rest) after answer items left answered waits replies = works_waiting after answer first rest items (items ∙ left) (waits first rest refl) replies
+
+-- where it writes nothing, its answer is all
+pub works_nothing : (db : Database) (txn : Txn) (u new : Undecided) (began : Writing) (s : ℕ × Statement) (asks : List (desk.Ask (language db))) → AreParticipants db u.participants → began.unsent.items ≡ [] → new.moves ≡ u.moves → (step : Progress) → new.participants ≡ u.participants → new.stage ≡ stage.Idle → step.letters.items ≡ [] →
+    step.replies.items ≡ notices txn (Some (reply.Answer began.answer)) → IsProgress db txn new step (desk.works (txn_name txn) (undecided_of db u) s asks (began.answer, map write_of began.unsent.items))
+works_nothing db txn u new began s asks are none kind step participants idle letters replies =
+    works_answered db txn u new began s asks are (subst (λ ws. HaveParticipants u.participants (write_sites ws)) (sym none) tt) kind step
+    (participants ∙ sym (visits_none u.participants) ∙ ap (λ ws. (writes_go txn ws (visits (write_sites ws) u.participants)).participants) (sym none))
+    (letters ∙ (λ i. sym (opens_none txn u.participants) i ++ []) ∙ ap (λ ws. opens txn (write_sites ws) u.participants ++ (writes_go txn ws (visits (write_sites ws) u.participants)).letters) (sym none))
+    (ap (λ ws. (writes_go txn ws (visits (write_sites ws) u.participants)).left) (sym none)) idle replies

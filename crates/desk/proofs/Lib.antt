@@ -17,6 +17,7 @@ pub mod Settled
 pub mod SentLetters
 pub mod Limits
 pub mod Making
+pub mod Early
 pub mod Beginning
 pub mod Opened
 pub mod Stated

@@ -1,7 +1,7 @@
 -- Opens go to the sites that the protocol says.
 use Rattle.std.proofs.Common.{◌≡◌, refl, sym, ap, ◌∙◌, subst, ℕ, nat_eq, Bool, true, false, ◌&&◌, ◌||◌, not, List, [], ◌∷◌, map, Some, None, if◌then◌else◌}
 use Rattle.std.specs.Cmp.Lexicographic.{pointwise}
-use Rattle.std.specs.List.{list_any}
+use Rattle.std.specs.List.{cons_option, list_any}
 use Rattle.std.specs.Option.{option_map}
 use Rattle.store.specs.declared.name.Txn.{Txn}
 use Rattle.store.specs.declared.order.Order.TheVariants as order
@@ -12,6 +12,7 @@ use Rattle.protocol.specs.Parts.{In}
 use Rattle.desk.specs.declared.participant.Participant.{Participant}
 use Rattle.desk.specs.declared.transaction.Stage.{Stage}
 use Rattle.desk.specs.Database.{Database, language, sent}
+use Rattle.desk.specs.Orders.{ordered}
 use Rattle.desk.specs.Opening.{is_new, open_at, opens, visited, visits, HaveParticipants}
 use Rattle.desk.specs.Participants.{is_at, nowhere, participant_in}
 use Rattle.desk.specs.Place.{Place}
@@ -105,3 +106,23 @@ module _ (db : Database) (txn : Txn) (participants : List Participant) (are : Ar
           none : (b : Bool) → list_any (λ g. pointwise nat_eq g.0 j) leaves ≡ b → b ≡ false
           none true e = let f : true ≡ false = sym (participant_of_one participants sites j have (among j ∙ e)) ∙ gone in cc
           none false e = refl
+
+-- ---- no sites
+nowhere_new : (b : Bool) → (not b && false) ≡ false
+nowhere_new true = refl
+nowhere_new false = refl
+
+pub visits_none : (participants : List Participant) → visits [] participants ≡ participants
+visits_none [] = refl
+visits_none (p ∷ participants) = λ i. same i ∷ visits_none participants i
+  where
+    as_it_was : (b : Bool) → (b || (not b && false)) ≡ b
+    as_it_was true = refl
+    as_it_was false = refl
+
+    same : visited [] p ≡ p
+    same = ap (λ b. record p { visited = b }) (as_it_was p.visited)
+
+pub opens_none : (txn : Txn) (participants : List Participant) → opens txn [] participants ≡ []
+opens_none txn [] = refl
+opens_none txn (p ∷ participants) = ap (λ b. cons_option (option_map (ordered txn p.site) (if b then Some order.Open else None)) (opens txn [] participants)) (nowhere_new p.visited) ∙ opens_none txn participants

@@ -1,8 +1,13 @@
 -- The operations that go out are the protocol's.
-use Rattle.std.proofs.Common.{◌≡◌, refl, sym, ap, ◌∙◌, subst, ℕ, suc, nat_eq, Bool, true, false, List, [], ◌∷◌, ◌++◌, filter, map, length, take, drop, ◌||◌, Option, Some, None, is_none, if◌then◌else◌}
+use Rattle.std.proofs.Common.{◌≡◌, refl, sym, ap, ◌∙◌, subst, ℕ, suc, nat_eq, Bool, true, false, List, [], ◌∷◌, ◌++◌, filter, map, length, take, drop, ◌||◌, Option, Some, None, Result, Ok, Err, is_none, if◌then◌else◌}
 use Rattle.std.specs.Cmp.Lexicographic.{pointwise}
 use Rattle.std.specs.List.{list_any}
 use Rattle.std.specs.Option.{option_map}
+use Rattle.std.specs.Prelude.{Vec}
+use Rattle.std.specs.Result.{OnErr}
+use Rattle.std.specs.Vec.{with_items}
+use native.Mathlib.Nat.{ℕ_set}
+use Rattle.meaning.specs.declared.answer.Answer.{Answer}
 use Rattle.store.specs.declared.name.Ticket.{Ticket}
 use Rattle.store.specs.declared.name.Txn.{Txn}
 use Rattle.protocol.specs.Desk as desk
@@ -11,11 +16,14 @@ use Rattle.protocol.specs.Letters.{name_of, txn_name}
 use Rattle.protocol.proofs.Basics.{either}
 use Rattle.desk.specs.declared.fetches.Ask.{Ask}
 use Rattle.desk.specs.declared.participant.Participant.{Participant}
+use Rattle.desk.specs.declared.reply.Reply.TheVariants as reply
 use Rattle.desk.specs.declared.transaction.Unsent.{Unsent}
 use Rattle.desk.specs.Database.{Database, language, sent}
-use Rattle.desk.specs.Send.{Sent, fetch_order, next_number, with_count, with_numbers, numbered, waits_in, one_more, ask_goes, asks_go, write_goes, write_order, writes_go}
+use Rattle.desk.specs.Send.{Sent, fetch_order, next_number, with_count, numbered, waits_in, one_more, ask_goes, asks_go, write_goes, write_order, writes_go}
 use Rattle.desk.specs.Orders.{ordered}
 use Rattle.desk.specs.Participants.{is_at, sites_of, participant_in}
+use Rattle.desk.specs.Request.{notices}
+use Rattle.desk.specs.Statement.{answer_of}
 use Rattle.desk.specs.Transaction.{ask_of, write_of}
 use Rattle.desk.proofs.Changed.{same_sites, participant_changed, changed_site}
 
@@ -131,17 +139,6 @@ module _ (db : Database) (txn : Txn) (ticket : List ℕ → Option Name) where
           }
       go below None here = let rest = below participants is in record { left = λ i. write_of w ∷ rest.left i; counts = rest.counts; letters = rest.letters; same = rest.same }
 
--- ---- numbers are put in place
-pub numbers_are : (txn : Txn) (asks : List Ask) (participants : List Participant) → with_numbers asks (map (λ left. left.number) (asks_go txn asks participants).left) ≡ (asks_go txn asks participants).left
-numbers_are txn [] participants = refl
-numbers_are txn (ask ∷ asks) participants = go (numbers_are txn asks) ask.number refl (participant_in ask.site participants).ticket
-  where
-    go : ((now : List Participant) → with_numbers asks (map (λ left. left.number) (asks_go txn asks now).left) ≡ (asks_go txn asks now).left) → (m : Option ℕ) → ask.number ≡ m → (k : Option Ticket) → with_numbers (ask ∷ asks) (map (λ left. left.number) (ask_goes txn ask m k participants (asks_go txn asks)).left) ≡ (ask_goes txn ask m k participants (asks_go txn asks)).left
-    go below None e (Some k) = ap (λ rest. numbered ask (next_number ask.site participants) ∷ rest) (below (one_more ask.site participants))
-    go below None e None = λ i. ask ∷ below participants i
-    go below (Some m) e None = λ i. ask ∷ below participants i
-    go below (Some m) e (Some k) = λ i. ask ∷ below participants i
-
 -- ---- the writes that wait on are those without a ticket
 left_over : (txn : Txn) (participants now : List Participant) → ((j : List ℕ) → (participant_in j now).ticket ≡ (participant_in j participants).ticket) → (ws : List Unsent) → (writes_go txn ws now).left ≡ filter (waits_in participants) ws
 left_over txn participants now same [] = refl
@@ -155,6 +152,19 @@ left_over txn participants now same (w ∷ ws) =
 
 pub left_waiting : (txn : Txn) (ws : List Unsent) (participants : List Participant) → (writes_go txn ws participants).left ≡ filter (waits_in participants) ws
 left_waiting txn ws participants = left_over txn participants participants (λ j. refl) ws
+
+-- the answer is given where none of them waits
+pub answer_left : (txn : Txn) (answer : Answer) (ws : List Unsent) (participants : List Participant) → (if list_any (waits_in participants) ws then [] else notices txn (Some (reply.Answer answer))) ≡ answer_of txn answer (writes_go txn ws participants).left
+answer_left txn answer ws participants = go ws ∙ ap (answer_of txn answer) (sym (left_waiting txn ws participants))
+  where
+    go : (ws : List Unsent) → (if list_any (waits_in participants) ws then [] else notices txn (Some (reply.Answer answer))) ≡ answer_of txn answer (filter (waits_in participants) ws)
+    go [] = refl
+    go (w ∷ ws) = test (waits_in participants w) (go ws)
+      where
+        test : (b : Bool) → (if list_any (waits_in participants) ws then [] else notices txn (Some (reply.Answer answer))) ≡ answer_of txn answer (filter (waits_in participants) ws) →
+            (if b || list_any (waits_in participants) ws then [] else notices txn (Some (reply.Answer answer))) ≡ answer_of txn answer (if b then w ∷ filter (waits_in participants) ws else filter (waits_in participants) ws)
+        test true rest = refl
+        test false rest = rest
 
 -- what goes out leaves the tickets as they are
 pub still_given : (txn : Txn) (ws : List Unsent) (participants : List Participant) (j : List ℕ) → (participant_in j (writes_go txn ws participants).participants).ticket ≡ (participant_in j participants).ticket
@@ -172,11 +182,6 @@ left_waiting_after txn ws participants after is =
     ap (λ (now : List Participant). filter (waits_in now) ws) is ∙ sym (left_over txn (writes_go txn ws participants).participants participants (λ j. sym (still_given txn ws participants j)) ws)
 
 -- ---- a vector after its slice was written
-pub as_many : (asks : List Ask) (numbers : List (Option ℕ)) → length (with_numbers asks numbers) ≡ length asks
-as_many [] numbers = refl
-as_many (ask ∷ asks) [] = refl
-as_many (ask ∷ asks) (n ∷ numbers) = ap suc (as_many asks numbers)
-
 suc_is : {m n : ℕ} → suc m ≡ suc n → m ≡ n
 suc_is e = cc
 
@@ -186,6 +191,18 @@ written_back [] (y ∷ ys) e = cc
 written_back (x ∷ xs) [] e = cc
 written_back (x ∷ xs) (y ∷ ys) e = ap (λ rest. x ∷ rest) (written_back xs ys (suc_is e))
 
-pub numbered_back : (txn : Txn) (asks : List Ask) (participants : List Participant) (numbers : List (Option ℕ)) (new : List Ask) → numbers ≡ map (λ left. left.number) (asks_go txn asks participants).left → new ≡ with_numbers asks numbers →
-    take (length asks) (new ++ drop (length new) asks) ≡ (asks_go txn asks participants).left
-numbered_back txn asks participants numbers new e is = written_back new asks (ap length is ∙ as_many asks numbers) ∙ is ∙ ap (with_numbers asks) e ∙ numbers_are txn asks participants
+-- one that is written over with its own elements stays as it is
+module _ {A Z : Type 0} (v : Vec A Z) where
+  abbrev vec_of : (items : List A) → v.len ≡ length items → Vec A Z
+  vec_of items is = record { ptr = v.ptr; len = v.len; cap = v.cap; alloc = v.alloc; items = items; ok = (is, v.ok.1); small = v.small }
+
+  vec_same : (items others : List A) → items ≡ others → (a : v.len ≡ length items) (b : v.len ≡ length others) → vec_of items a ≡ vec_of others b
+  vec_same items others e = subst (λ (l : List A). (a : v.len ≡ length items) (b : v.len ≡ length l) → vec_of items a ≡ vec_of l b) e (λ a b. ap (vec_of items) (ℕ_set _ _ a b))
+
+  pub written_same : (ws : List A) → ws ≡ v.items → with_items v ws ≡ v
+  written_same ws e = vec_same _ _ (ap (λ n. take n (ws ++ drop (length ws) v.items)) v.ok.0 ∙ written_back ws v.items (ap length e) ∙ e) _ _
+
+-- what holds anyway holds on an error
+pub on_err : {T E P : Type 0} (r : Result T E) → P → OnErr r P
+on_err (Ok x) p = tt
+on_err (Err e) p = p

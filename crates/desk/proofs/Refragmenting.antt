@@ -91,17 +91,17 @@ module _ (db : Database) (kept : DeskContent) (undecided life number version : �
   turn_is choice = ap (λ u. desk.on_state {L = language db} (txn_name k) u (version, statements.Refragment refragment) choice u.stage) fresh
 
   module _ (new : Undecided) (step : Progress) (does : Does db version k new step turn) (short : AreShort new.participants) (table : VolatileState) (table_is : table ≡ volatile_from ((k, standing.Undecided new) ∷ []) (undecided + 1) life (number + 1) version)
-      (written : List Letter) (heard : List Notice) (letters : written ≡ step.letters.items) (replies : heard ≡ notices k (Some reply.Begun) ++ notices k step.reply) where
+      (written : List Letter) (heard : List Notice) (letters : written ≡ step.letters.items) (replies : heard ≡ notices k (Some reply.Begun) ++ step.replies.items) where
     abbrev choice : desk.Choice (language db)
     choice = does.choice
 
     gone : table ≡ volatile_from (set_value (is_key (txn_cmp k)) entries (standing.Undecided new)) (undecided + 1) life (number + 1) version
     gone = table_is ∙ ap (λ b. volatile_from (cond b ((k, standing.Undecided new) ∷ []) entries) (undecided + 1) life (number + 1) version) (sym (txn_self k))
 
-    steps : Steps db begun kept table k (turn choice) written (notices k step.reply)
-    steps = goes_on db kept entries (undecided + 1) life (number + 1) version (single_sorted k) fits_now k (new_of sites) new here (turn choice) step.letters step.reply does.step.stands does.step.letters does.step.replies
+    steps : Steps db begun kept table k (turn choice) written step.replies.items
+    steps = goes_on db kept entries (undecided + 1) life (number + 1) version (single_sorted k) fits_now k (new_of sites) new here (turn choice) step.letters does.step.reply does.step.stands does.step.letters does.step.replies
         (subst (λ o. TurnKeeps (language db) (txn_name k) (txn_of db o) (turn choice)) (sym here) (request_keeps (txn_name k) choice (desk.State (version, statements.Refragment refragment)) (desk.Known (undecided_of db (new_of sites)))))
-        does.within (ap desk.is_short_txn (sym does.step.stands) ∙ of_short new.participants short db.sites) table gone written (notices k step.reply) letters refl
+        does.within (ap desk.is_short_txn (sym does.step.stands) ∙ of_short new.participants short db.sites) table gone written step.replies.items letters does.step.heard
 
     pub refragments : Refragments db before kept table refragment written heard
     refragments = record {
@@ -125,7 +125,7 @@ pub refragments_by : (db : Database) (kept : DeskContent) (es : Entries) (undeci
     (first txn : Txn) → first ≡ next_of (volatile_from es undecided life number version) → txn ≡ next_of (volatile_from es undecided life number version) → (step : Progress) →
     Does db version first new step (λ choice. desk.on_request (txn_name first) choice (desk.State (version, statements.Refragment refragment)) (desk.Known (undecided_of db old))) → AreShort new.participants →
     (table : VolatileState) → table ≡ volatile_from (insert_entry txn_cmp es (next_of (volatile_from es undecided life number version)) (standing.Undecided new)) (undecided + 1) life (number + 1) version →
-    (written : List Letter) (heard : List Notice) → written ≡ step.letters.items → heard ≡ notices txn (Some reply.Begun) ++ notices txn step.reply → Refragments db (volatile_from es undecided life number version) kept table refragment written heard
+    (written : List Letter) (heard : List Notice) → written ≡ step.letters.items → heard ≡ notices txn (Some reply.Begun) ++ step.replies.items → Refragments db (volatile_from es undecided life number version) kept table refragment written heard
 refragments_by db kept es undecided life number version empty fits sites those refragment is_next few low participants participants_are old new begun first txn first_is txn_is step does short table table_is written heard letters replies =
     let k : Txn = record { life = life; number = suc number } in
     let stood : old ≡ new_of sites = undecided_is (begun ∙ ap (first_of true) participants_are) in
@@ -133,7 +133,7 @@ refragments_by db kept es undecided life number version empty fits sites those r
     let done : Does db version k new step (turn k (new_of sites)) = subst (λ t. Does db version t new step (turn t (new_of sites))) first_is (subst (λ u. Does db version first new step (turn first u)) stood does) in
     subst (λ l. Refragments db (volatile_from l undecided life number version) kept table refragment written heard) (sym empty)
     (refragments db kept undecided life number version (subst (λ l. Fits db kept (volatile_from l undecided life number version)) empty fits) sites those refragment is_next few low new step done short table
-    (table_is ∙ ap (λ l. volatile_from (insert_entry txn_cmp l k (standing.Undecided new)) (undecided + 1) life (number + 1) version) empty) written heard letters (replies ∙ ap (λ t. notices t (Some reply.Begun) ++ notices t step.reply) txn_is))
+    (table_is ∙ ap (λ l. volatile_from (insert_entry txn_cmp l k (standing.Undecided new)) (undecided + 1) life (number + 1) version) empty) written heard letters (replies ∙ ap (λ t. notices t (Some reply.Begun) ++ step.replies.items) txn_is))
   where
     undecided_is : {u v : Undecided} → standing.Undecided u ≡ standing.Undecided v → u ≡ v
     undecided_is e = cc

@@ -1,13 +1,12 @@
 -- A step of a statement is the protocol's.
-use Rattle.std.proofs.Common.{◌≡◌, refl, sym, ap, ◌∙◌, subst, ℕ, suc, nat_eq, Bool, true, false, List, [], ◌∷◌, map, length, if◌then◌else◌, ◌⊎◌, inl, inr, Option, Some, None}
+use Rattle.std.proofs.Common.{◌≡◌, refl, sym, ap, ◌∙◌, subst, ℕ, Bool, true, List, [], ◌∷◌, map, ◌⊎◌, inl, inr, Some, None}
 use Rattle.std.specs.List.{list_any, filter_map}
 use Rattle.std.specs.Option.{option_map}
-use Rattle.std.proofs.lemmas.Bool.{eqb-true}
 use Rattle.store.specs.declared.letter.Letter.{Letter}
 use Rattle.store.specs.declared.name.Ticket.{Ticket}
 use Rattle.store.specs.declared.name.Txn.{Txn}
-use Rattle.meaning.specs.declared.answer.Answer.{Answer}
 use Rattle.protocol.specs.Desk as desk
+use Rattle.protocol.specs.Language.{Name}
 use Rattle.protocol.specs.Letters.{name_of, txn_name}
 use Rattle.desk.specs.declared.participant.Participant.{Participant}
 use Rattle.desk.specs.declared.transaction.Reading.{Reading}
@@ -22,8 +21,10 @@ use Rattle.desk.specs.Participants.{is_at, participant_in, changed_at, with_tick
 use Rattle.desk.specs.Transaction.{ask_of, write_of, stage_of, undecided_of}
 use Rattle.desk.specs.declared.reply.Reply.TheVariants as reply
 use Rattle.desk.specs.declared.statement.Progress.{Progress}
-use Rattle.desk.specs.Stepped.{IsProgress, ticketed}
-use Rattle.desk.specs.Transition.{told, told_to}
+use Rattle.desk.specs.Does.{IsProgress}
+use Rattle.desk.specs.Statement.{answer_of, staged}
+use Rattle.desk.specs.Stepped.{ticketed}
+use Rattle.desk.specs.Transition.{told}
 use Rattle.desk.proofs.Changed.{ticket_put}
 use Rattle.desk.proofs.Operations.{SameBut, asks_same, writes_same}
 
@@ -83,72 +84,47 @@ module _ (db : Database) (txn : Txn) (moves : Bool) (participants after : List P
           ap (λ turn. turn.deeds) turn,
         )
 
--- ---- a ticket comes
-module _ (db : Database) (txn : Txn) (choice : desk.Choice (language db)) (u new : Undecided) (site : List ℕ) (ticket : Ticket) (there : list_any (is_at site) u.participants ≡ true)
-    (participants : List Participant) (participants_are : participants ≡ map (changed_at site (with_ticket (Some ticket))) u.participants) (kind : new.moves ≡ u.moves) (step : Progress) where
+-- ---- what waits for tickets goes out
+-- the votes say nothing of what goes out
+votes_apart : (db : Database) (t : Name) (choice : desk.Choice (language db)) (participants others : List Participant) (st : Stage) (v : desk.Undecided (language db)) → desk.ticket_goes {L = language db} t v choice (stage_of db participants st) ≡ desk.ticket_goes {L = language db} t v choice (stage_of db others st)
+votes_apart db t choice participants others stage.Idle v = refl
+votes_apart db t choice participants others (stage.Reading reading) v = refl
+votes_apart db t choice participants others (stage.Writing writing) v = refl
+votes_apart db t choice participants others stage.Voting v = refl
+
+-- so it does where a ticket has come
+pub ticket_turn : (db : Database) (txn : Txn) (choice : desk.Choice (language db)) (u : Undecided) (site : List ℕ) (ticket : Ticket) → list_any (is_at site) u.participants ≡ true → (participants : List Participant) → participants ≡ map (changed_at site (with_ticket (Some ticket))) u.participants →
+    desk.ticket_goes {L = language db} (txn_name txn) (undecided_of db (staged participants u.stage u.moves)) choice (stage_of db participants u.stage) ≡ desk.ticket_goes {L = language db} (txn_name txn) (ticketed db u site ticket) choice (stage_of db u.participants u.stage)
+ticket_turn db txn choice u site ticket there participants are =
+    ap (λ v. desk.ticket_goes {L = language db} (txn_name txn) v choice (stage_of db participants u.stage)) (ap (λ x. undecided_of db (staged x u.stage u.moves)) are ∙ ticketed_is db u site ticket there)
+    ∙ votes_apart db (txn_name txn) choice participants u.participants u.stage (ticketed db u site ticket)
+
+module _ (db : Database) (txn : Txn) (choice : desk.Choice (language db)) (participants after : List Participant) (old new : Stage) (moves : Bool) (step : Progress) where
   -- the protocol's turn
-  abbrev at_ticket : desk.Transition (language db)
-  at_ticket = desk.ticket_goes {L = language db} (txn_name txn) (ticketed db u site ticket) choice (stage_of db u.participants u.stage)
+  abbrev turn : Stage → desk.Transition (language db)
+  turn st = desk.ticket_goes {L = language db} (txn_name txn) (undecided_of db (staged participants st moves)) choice (stage_of db participants st)
 
-  at_stage : (st : Stage) → u.stage ≡ st → undecided_of db (record { participants = participants; stage = st; moves = u.moves }) ≡ ticketed db u site ticket
-  at_stage st is = ap (λ x. undecided_of db (record { participants = participants; stage = x; moves = u.moves })) (sym is) ∙ ap (λ x. undecided_of db (record { participants = x; stage = u.stage; moves = u.moves })) participants_are ∙ ticketed_is db u site ticket there
+  is_step : (st next : Stage) → old ≡ st → new ≡ next → IsProgress db txn (staged after next moves) step (turn st) → IsProgress db txn (staged after new moves) step (turn old)
+  is_step st next was is made = subst (λ x. IsProgress db txn (staged after x moves) step (turn old)) (sym is) (subst (λ x. IsProgress db txn (staged after next moves) step (turn x)) (sym was) made)
 
-  -- a turn that is that one
-  is_step : (st : Stage) → new.stage ≡ st → (turn : desk.Transition (language db)) → turn ≡ at_ticket → desk.Known (undecided_of db (record { participants = new.participants; stage = st; moves = u.moves })) ≡ turn.txn → map (sent db) step.letters.items ≡ turn.letters → told_to (txn_name txn) step.reply ≡ filter_map (told db) turn.deeds → IsProgress db txn new step at_ticket
-  is_step st is turn same stands letters replies = subst (IsProgress db txn new step) same (record { stands = ap (λ x. desk.Known (undecided_of db (record { participants = new.participants; stage = x; moves = new.moves }))) is ∙ ap (λ m. desk.Known (undecided_of db (record { participants = new.participants; stage = st; moves = m }))) kind ∙ stands; letters = letters; replies = replies })
+  pub goes_idle : (stage.Idle ≡ old) ⊎ (stage.Voting ≡ old) → new ≡ old → after ≡ participants → step.letters.items ≡ [] → step.replies.items ≡ [] → IsProgress db txn (staged after new moves) step (turn old)
+  goes_idle (inl is) same now none quiet = is_step stage.Idle stage.Idle (sym is) (same ∙ sym is) (record { stands = ap (λ x. desk.Known (undecided_of db (staged x stage.Idle moves))) now; letters = ap (map (sent db)) none; reply = None; heard = quiet; replies = refl })
+  goes_idle (inr is) same now none quiet = is_step stage.Voting stage.Voting (sym is) (same ∙ sym is) (record { stands = ap (λ x. desk.Known (undecided_of db (staged x stage.Voting moves))) now; letters = ap (map (sent db)) none; reply = None; heard = quiet; replies = refl })
 
-  pub ticket_idle : (stage.Idle ≡ u.stage) ⊎ (stage.Voting ≡ u.stage) → new.stage ≡ u.stage → new.participants ≡ participants → step.letters.items ≡ [] → step.reply ≡ None → IsProgress db txn new step at_ticket
-  ticket_idle (inl is) same now none quiet = is_step u.stage same (desk.stays (desk.Known (ticketed db u site ticket)))
-      (ap (λ x. desk.ticket_goes {L = language db} (txn_name txn) (ticketed db u site ticket) choice (stage_of db u.participants x)) is)
-      (ap (λ x. desk.Known (undecided_of db (record { participants = x; stage = u.stage; moves = u.moves }))) now ∙ ap desk.Known (at_stage u.stage refl)) (ap (map (sent db)) none) (ap (told_to (txn_name txn)) quiet)
-  ticket_idle (inr is) same now none quiet = is_step u.stage same (desk.stays (desk.Known (ticketed db u site ticket)))
-      (ap (λ x. desk.ticket_goes {L = language db} (txn_name txn) (ticketed db u site ticket) choice (stage_of db u.participants x)) is)
-      (ap (λ x. desk.Known (undecided_of db (record { participants = x; stage = u.stage; moves = u.moves }))) now ∙ ap desk.Known (at_stage u.stage refl)) (ap (map (sent db)) none) (ap (told_to (txn_name txn)) quiet)
+  pub goes_reading : (reading rest : Reading) → old ≡ stage.Reading reading → new ≡ stage.Reading rest → rest.version ≡ reading.version → rest.statement ≡ reading.statement → rest.asks.items ≡ (asks_go txn reading.asks.items participants).left → after ≡ (asks_go txn reading.asks.items participants).participants →
+      step.letters.items ≡ (asks_go txn reading.asks.items participants).letters → step.replies.items ≡ [] → IsProgress db txn (staged after new moves) step (turn old)
+  goes_reading reading rest was is version statement left now letters quiet =
+      let both = reading_is db txn moves participants after step.letters.items reading rest version statement left now letters in
+      is_step (stage.Reading reading) (stage.Reading rest) was is (record { stands = both.0; letters = both.1; reply = None; heard = quiet; replies = refl })
 
-  pub ticket_reading : (reading after : Reading) → u.stage ≡ stage.Reading reading → new.stage ≡ stage.Reading after → after.version ≡ reading.version → after.statement ≡ reading.statement → after.asks.items ≡ (asks_go txn reading.asks.items participants).left → new.participants ≡ (asks_go txn reading.asks.items participants).participants →
-      step.letters.items ≡ (asks_go txn reading.asks.items participants).letters → step.reply ≡ None → IsProgress db txn new step at_ticket
-  ticket_reading reading after is now version statement left participants_now letters quiet =
-      let both = reading_is db txn u.moves participants new.participants step.letters.items reading after version statement left participants_now letters in
-      is_step (stage.Reading after) now (desk.asks_go {L = language db} (txn_name txn) (undecided_of db (record { participants = participants; stage = stage.Reading reading; moves = u.moves })) (reading.version, reading.statement) (map (ask_of db) reading.asks.items))
-      (ap (λ v. desk.asks_go {L = language db} (txn_name txn) v (reading.version, reading.statement) (map (ask_of db) reading.asks.items)) (at_stage (stage.Reading reading) is) ∙ ap (λ x. desk.ticket_goes {L = language db} (txn_name txn) (ticketed db u site ticket) choice (stage_of db u.participants x)) (sym is))
-      both.0 both.1 (ap (told_to (txn_name txn)) quiet)
-
-  module _ (writing after : Writing) (is : u.stage ≡ stage.Writing writing) (left : after.unsent.items ≡ (writes_go txn writing.unsent.items participants).left) (participants_now : new.participants ≡ (writes_go txn writing.unsent.items participants).participants) (letters : step.letters.items ≡ (writes_go txn writing.unsent.items participants).letters) where
-    abbrev turn : desk.Transition (language db)
-    turn = desk.writes_go {L = language db} (txn_name txn) (undecided_of db (record { participants = participants; stage = stage.Writing writing; moves = u.moves })) writing.answer (map write_of writing.unsent.items)
-
-    turn_is : turn ≡ at_ticket
-    turn_is = ap (λ v. desk.writes_go {L = language db} (txn_name txn) v writing.answer (map write_of writing.unsent.items)) (at_stage (stage.Writing writing) is) ∙ ap (λ x. desk.ticket_goes {L = language db} (txn_name txn) (ticketed db u site ticket) choice (stage_of db u.participants x)) (sym is)
-
-    pub ticket_waiting : (first : Unsent) (rest : List Unsent) → after.unsent.items ≡ first ∷ rest → new.stage ≡ stage.Writing after → after.answer ≡ writing.answer → step.reply ≡ None → IsProgress db txn new step at_ticket
-    ticket_waiting first rest some now answer quiet =
-        let all = waiting_is db txn u.moves participants new.participants step.letters.items writing participants_now letters after answer first rest some left in
-        is_step (stage.Writing after) now turn turn_is all.0 all.1 (ap (told_to (txn_name txn)) quiet ∙ sym (ap (filter_map (told db)) all.2))
-
-    pub ticket_answered : after.unsent.items ≡ [] → new.stage ≡ stage.Idle → step.reply ≡ Some (reply.Answer writing.answer) → IsProgress db txn new step at_ticket
-    ticket_answered none now answers =
-        let all = answered_is db txn u.moves participants new.participants step.letters.items writing participants_now letters (sym none ∙ left) in
-        is_step stage.Idle now turn turn_is all.0 all.1 (ap (told_to (txn_name txn)) answers ∙ sym (ap (filter_map (told db)) all.2))
-
-    -- whichever it is
-    pub ticket_wrote : (answer : Option Answer) → answer ≡ (if nat_eq (length after.unsent.items) 0 then Some writing.answer else None) → after.answer ≡ writing.answer →
-        (answer ≡ None → (new.stage ≡ stage.Writing after) × (step.reply ≡ None)) → ((told_ : Answer) → answer ≡ Some told_ → (new.stage ≡ stage.Idle) × (step.reply ≡ Some (reply.Answer told_))) → IsProgress db txn new step at_ticket
-    ticket_wrote answer is_answer same waits answered = go after.unsent.items refl
-      where
-        empty : (if nat_eq 0 0 then Some writing.answer else None) ≡ Some writing.answer
-        empty = refl
-
-        not_empty : (n : ℕ) → nat_eq (suc n) 0 ≡ false
-        not_empty n = test (nat_eq (suc n) 0) refl
-          where
-            test : (b : Bool) → nat_eq (suc n) 0 ≡ b → nat_eq (suc n) 0 ≡ false
-            test true e = let f : suc n ≡ 0 = eqb-true (suc n) 0 e in cc
-            test false e = e
-
-        go : (items : List Unsent) → after.unsent.items ≡ items → IsProgress db txn new step at_ticket
-        go [] e =
-            let done = answered writing.answer (is_answer ∙ ap (λ (l : List Unsent). if nat_eq (length l) 0 then Some writing.answer else None) e ∙ empty) in
-            ticket_answered e done.0 done.1
-        go (first ∷ rest) e =
-            let still = waits (is_answer ∙ ap (λ (l : List Unsent). if nat_eq (length l) 0 then Some writing.answer else None) e ∙ ap (λ b. if b then Some writing.answer else None) (not_empty (length rest))) in
-            ticket_waiting first rest e still.0 same still.1
+  pub goes_wrote : (writing rest : Writing) → old ≡ stage.Writing writing → rest.unsent.items ≡ (writes_go txn writing.unsent.items participants).left → after ≡ (writes_go txn writing.unsent.items participants).participants → step.letters.items ≡ (writes_go txn writing.unsent.items participants).letters → rest.answer ≡ writing.answer →
+      (rest.unsent.items ≡ [] → new ≡ stage.Idle) → ((first : Unsent) (others : List Unsent) → rest.unsent.items ≡ first ∷ others → new ≡ stage.Writing rest) → step.replies.items ≡ answer_of txn writing.answer rest.unsent.items → IsProgress db txn (staged after new moves) step (turn old)
+  goes_wrote writing rest was left now letters same answered waits replies = go rest.unsent.items refl
+    where
+      go : (items : List Unsent) → rest.unsent.items ≡ items → IsProgress db txn (staged after new moves) step (turn old)
+      go [] e =
+          let all = answered_is db txn moves participants after step.letters.items writing now letters (sym e ∙ left) in
+          is_step (stage.Writing writing) stage.Idle was (answered e) (record { stands = all.0; letters = all.1; reply = Some (reply.Answer writing.answer); heard = replies ∙ ap (answer_of txn writing.answer) e; replies = sym (ap (filter_map (told db)) all.2) })
+      go (first ∷ others) e =
+          let all = waiting_is db txn moves participants after step.letters.items writing now letters rest same first others e left in
+          is_step (stage.Writing writing) (stage.Writing rest) was (waits first others e) (record { stands = all.0; letters = all.1; reply = None; heard = replies ∙ ap (answer_of txn writing.answer) e; replies = sym (ap (filter_map (told db)) all.2) })

@@ -20,8 +20,8 @@ use Rattle.desk.specs.Opening.{HaveParticipants, opens, visits}
 use Rattle.desk.specs.Send.{asks_go}
 use Rattle.desk.specs.Transaction.{ask_of, stage_of, undecided_of}
 use Rattle.desk.specs.Statement.{ask_sites}
-use Rattle.desk.specs.Stepped.{IsProgress}
-use Rattle.desk.specs.Transition.{AreParticipants, told_to}
+use Rattle.desk.specs.Does.{IsProgress}
+use Rattle.desk.specs.Transition.{AreParticipants}
 use Rattle.desk.proofs.SentLetters.{reading_is}
 use Rattle.desk.proofs.Opened.{kept_by_visits, opens_are, visited_now}
 
@@ -59,13 +59,15 @@ module _ (db : Database) (txn : Txn) (choice : desk.Choice (language db)) (u new
   }
 
   pub reads_is : (reading : Reading) → reading.version ≡ began.version → reading.statement ≡ began.statement → reading.asks.items ≡ (asks_go txn asks opened).left → new.participants ≡ (asks_go txn asks opened).participants → new.stage ≡ stage.Reading reading →
-      (step : Progress) → step.letters.items ≡ opens txn (ask_sites asks) u.participants ++ (asks_go txn asks opened).letters → step.reply ≡ None → IsProgress db txn new step (desk.states (txn_name txn) (undecided_of db u) (began.version, began.statement) (map (ask_of db) asks) choice)
+      (step : Progress) → step.letters.items ≡ opens txn (ask_sites asks) u.participants ++ (asks_go txn asks opened).letters → step.replies.items ≡ [] → IsProgress db txn new step (desk.states (txn_name txn) (undecided_of db u) (began.version, began.statement) (map (ask_of db) asks) choice)
   reads_is reading version statement left participants_now now step letters quiet =
       subst (IsProgress db txn new step) (sym (states_some db (txn_name txn) (undecided_of db u) (began.version, began.statement) choice first rest asks some)) (record {
         stands = ap (λ x. desk.Known (undecided_of db (record { participants = new.participants; stage = x; moves = new.moves }))) now ∙ ap (λ m. desk.Known (undecided_of db (record { participants = new.participants; stage = stage.Reading reading; moves = m }))) kind ∙ base.0 ∙ ap (λ v. (desk.asks_go (txn_name txn) v (began.version, began.statement) (map (ask_of db) asks)).txn) (opened_is (stage.Reading began));
         letters = ap (map (sent db)) letters ∙ map-append (sent db) (opens txn (ask_sites asks) u.participants) (asks_go txn asks opened).letters
             ∙ (λ i. opens_are db txn u.participants are u.stage u.moves leaves (ask_sites asks) (homes_are db asks) have i ++ (base.1 ∙ ap (λ v. (desk.asks_go (txn_name txn) v (began.version, began.statement) (map (ask_of db) asks)).letters) (opened_is (stage.Reading began))) i);
-        replies = ap (told_to (txn_name txn)) quiet;
+        reply = None;
+        heard = quiet;
+        replies = refl;
       })
     where
       base : (desk.Known (undecided_of db (record { participants = new.participants; stage = stage.Reading reading; moves = u.moves })) ≡ (desk.asks_go (txn_name txn) (undecided_of db (record { participants = opened; stage = stage.Reading began; moves = u.moves })) (began.version, began.statement) (map (ask_of db) asks)).txn)

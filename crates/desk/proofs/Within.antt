@@ -1,9 +1,6 @@
 -- What is known of a transaction while its statement goes on.
-use Rattle.std.proofs.Common.{◌≡◌, refl, sym, ap, ◌∙◌, subst, ℕ, suc, nat_eq, false, length, if◌then◌else◌, List, [], ◌∷◌, map, Option, Some, None, arith}
+use Rattle.std.proofs.Common.{◌≡◌, refl, sym, ap, ◌∙◌, subst, ℕ, List, [], ◌∷◌, map, Option}
 use Rattle.std.specs.Option.{option_map}
-use Rattle.meaning.specs.declared.answer.Answer.{Answer}
-use Rattle.desk.specs.declared.reply.Reply.{Reply}
-use Rattle.desk.specs.declared.reply.Reply.TheVariants as reply
 use Rattle.meaning.specs.declared.statement.Statement.{Statement}
 use Rattle.store.specs.declared.name.Ticket.{Ticket}
 use Rattle.store.specs.declared.name.Txn.{Txn}
@@ -63,17 +60,6 @@ module _ (db : Database) (n : ℕ) (txn : Txn) (opened : List Participant) (thos
       go : (left : List Unsent) → after.unsent.items ≡ left → left ≡ (writes_go txn ws opened).left → (left ≡ [] → new.stage ≡ stage.Idle) → ((first : Unsent) (rest : List Unsent) → left ≡ first ∷ rest → new.stage ≡ stage.Writing after) → IsIn db n (standing.Undecided new)
       go [] items left_is answered waits = in_stage stage.Idle (answered refl) sites tt tt
       go (first ∷ rest) items left_is answered waits = in_stage (stage.Writing after) (waits first rest refl) sites (subst (UnsentAtHome db) (sym (items ∙ left_is)) (unsent_home db txn ws opened home)) tt
-
-  -- whichever it is, by the answer that is given or not
-  pub wrote_in : (ws : List Unsent) (after : Writing) → UnsentAtHome db ws → new.participants ≡ (writes_go txn ws opened).participants → after.unsent.items ≡ (writes_go txn ws opened).left →
-      (answer : Option Answer) (old : Answer) (heard : Option Reply) → answer ≡ (if nat_eq (length after.unsent.items) 0 then Some old else None) → (answer ≡ None → (new.stage ≡ stage.Writing after) × (heard ≡ None)) → ((told : Answer) → answer ≡ Some told → (new.stage ≡ stage.Idle) × (heard ≡ Some (reply.Answer told))) → IsIn db n (standing.Undecided new)
-  wrote_in ws after home participants left answer old heard is_answer waits answered =
-      works_in ws after.unsent.items after home participants refl left
-      (λ none. (answered old (is_answer ∙ ap (λ (l : List Unsent). if nat_eq (length l) 0 then Some old else None) none)).0)
-      (λ first rest some. (waits (is_answer ∙ ap (λ (l : List Unsent). if nat_eq (length l) 0 then Some old else None) some ∙ ap (λ b. if b then Some old else None) (not_empty (length rest)))).0)
-    where
-      not_empty : (n : ℕ) → nat_eq (suc n) 0 ≡ false
-      not_empty n = grind (arith)
 
   -- nothing goes out
   pub stays_in : (old : Undecided) → IsIn db n (standing.Undecided old) → new.stage ≡ old.stage → new.participants ≡ opened → IsIn db n (standing.Undecided new)

@@ -1,16 +1,21 @@
 -- Which votes count.
-use Rattle.std.specs.Prelude.{ℕ, Bool, true, false, ◌&&◌, List, [], ◌∷◌, Option, Some, None, is_none}
+use Rattle.std.specs.Prelude.{ℕ, Bool, true, false, ◌&&◌, not, List, [], ◌∷◌, map, Option, Some, None, is_none}
+use Rattle.std.specs.List.{list_all}
 use Rattle.store.specs.declared.commit.Voter.{Voter}
 use Rattle.store.specs.declared.name.Ticket.{Ticket}
+use Rattle.store.specs.declared.reply.Vote.{Vote}
+use Rattle.store.specs.declared.reply.Voted.{Voted}
+use Rattle.protocol.specs.Letters.{is_no}
 use Rattle.desk.specs.declared.participant.Participant.{Participant}
 use Rattle.desk.specs.declared.transaction.Stage.TheVariants as stage
 use Rattle.desk.specs.declared.transaction.Stage.{Stage}
+use Rattle.desk.specs.declared.transaction.TxnState.{TxnState}
 use Rattle.desk.specs.declared.transaction.TxnState.TheVariants as standing
 use Rattle.desk.specs.declared.transaction.Undecided.{Undecided}
 use Rattle.desk.specs.declared.transition.After.{After}
 use Rattle.desk.specs.declared.transition.After.TheVariants.{Ends, Becomes}
 use Rattle.desk.specs.Orders.{is_voting}
-use Rattle.desk.specs.Participants.{participant_in}
+use Rattle.desk.specs.Participants.{changed_at, is_in_beside, participant_in, with_vote}
 use Rattle.desk.specs.Acknowledge.{is_ticket}
 
 -- whether this is the ticket that a site gave first
@@ -37,3 +42,16 @@ is_idle stage.Idle = true
 is_idle (stage.Reading reading) = false
 is_idle (stage.Writing writing) = false
 is_idle stage.Voting = false
+
+-- whether a vote counts by which its transaction isn't decided yet: it isn't NO, and another one is still to come
+abbrev pub leaves_open : Undecided → List ℕ → Voted → Bool
+leaves_open undecided site voted = counts_vote undecided site voted.ticket && (not (is_no voted.vote) && not (list_all (is_in_beside site) undecided.participants))
+
+abbrev pub is_early : Option TxnState → List ℕ → Voted → Bool
+is_early None site voted = false
+is_early (Some (standing.Undecided undecided)) site voted = leaves_open undecided site voted
+is_early (Some (standing.Committed committed)) site voted = false
+
+-- the vote is counted
+abbrev pub with_counted : List ℕ → Vote → Undecided → Undecided
+with_counted site vote undecided = record undecided { participants = map (changed_at site (with_vote (Some vote))) undecided.participants }

@@ -1,7 +1,7 @@
 -- What is done of a statement.
-use Rattle.std.specs.Prelude.{◌≡◌, ◌⊎◌, ℕ, true, false, List}
+use Rattle.std.specs.Prelude.{◌≡◌, ◌⊎◌, ℕ, true, false, List, map, Option}
 use Rattle.std.specs.BTreeMap.{is_at}
-use Rattle.std.specs.List.{AllByRecursion}
+use Rattle.std.specs.List.{AllByRecursion, filter_map}
 use Rattle.std.specs.Map.{set_value}
 use Rattle.meaning.specs.declared.schema.RelationSchema.{RelationSchema}
 use Rattle.meaning.specs.declared.statement.Refragment.{Refragment}
@@ -26,20 +26,30 @@ use Rattle.desk.specs.declared.volatile.Volatile.{Volatile}
 use Rattle.desk.specs.declared.refusal.Refusal as refusals
 use Rattle.desk.specs.declared.refusal.Refusal.TheVariants as refusal
 use Rattle.desk.specs.declared.reply.Notice.{Notice}
+use Rattle.desk.specs.declared.reply.Reply.{Reply}
 use Rattle.desk.specs.declared.transaction.TxnState.{TxnState}
 use Rattle.desk.specs.declared.transaction.TxnState.TheVariants as standing
 use Rattle.desk.specs.declared.statement.Progress.{Progress}
 use Rattle.desk.specs.declared.transaction.Undecided.{Undecided}
-use Rattle.desk.specs.Request.{txn_in}
-use Rattle.desk.specs.Database.{Database, IsPlace, language}
+use Rattle.desk.specs.Request.{notices, txn_in}
+use Rattle.desk.specs.Database.{Database, IsPlace, language, sent}
 use Rattle.desk.specs.Place.{Place}
 use Rattle.desk.specs.Send.{AreShort}
 use Rattle.desk.specs.State.{IsIn, Steps, VolatileState, desk_of, volatile_from}
-use Rattle.desk.specs.Stepped.{IsProgress}
+use Rattle.desk.specs.Transaction.{undecided_of}
+use Rattle.desk.specs.Transition.{told, told_to}
 
 -- writes are of leaves at their sites
 abbrev pub ArePlaced : Database → List (Place × AtKey) → Type 0
 ArePlaced db writes = AllByRecursion (λ write. IsPlace db write.0) writes
+
+-- a step is the protocol's, and the transaction is still undecided; reply: what its client hears
+pub record IsProgress (db : Database) (txn : Txn) (new : Undecided) (step : Progress) (wanted : protocol.Transition (language db)) : Type 0 where
+  pub stands : protocol.Known (undecided_of db new) ≡ wanted.txn
+  pub letters : map (sent db) step.letters.items ≡ wanted.letters
+  pub reply : Option Reply
+  pub heard : step.replies.items ≡ notices txn reply
+  pub replies : told_to (txn_name txn) reply ≡ filter_map (told db) wanted.deeds
 
 -- a step is the protocol's for one answer and its writes: these are explained, and of leaves at their sites; n: the number of the catalogue in force
 pub record Does (db : Database) (n : ℕ) (txn : Txn) (new : Undecided) (made : Progress) (wanted : protocol.Choice (language db) → protocol.Transition (language db)) : Type 0 where

@@ -37,13 +37,6 @@ are_in_with catalogue site number rows asks = list_all (has_rows_with catalogue 
 abbrev pub rows_for : Catalogue → List ℕ → ℕ → List (List Value) → Ask → Option (List (List Value))
 rows_for catalogue site number rows ask = if awaits catalogue site number rows ask then Some rows else None
 
--- fetches with the rows that each of them gets
-abbrev pub with_found : List Ask → List (Option (List (List Value))) → List Ask
-with_found [] found = []
-with_found (ask ∷ asks) [] = ask ∷ asks
-with_found (ask ∷ asks) (None ∷ found) = ask ∷ with_found asks found
-with_found (ask ∷ asks) (Some rows ∷ found) = record ask { rows = Some rows } ∷ with_found asks found
-
 -- whether all rows are in
 abbrev pub are_in : List Ask → Bool
 are_in asks = list_all (λ ask. is_some ask.rows) asks

@@ -37,3 +37,7 @@ with_ticket ticket participant = record participant { ticket = ticket }
 -- whether it isn't visited, or has voted
 abbrev pub is_in : Participant → Bool
 is_in participant = not participant.visited || is_some participant.vote
+
+-- or is the one of a site
+abbrev pub is_in_beside : List ℕ → Participant → Bool
+is_in_beside site participant = is_at site participant || is_in participant

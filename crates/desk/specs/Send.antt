@@ -46,12 +46,6 @@ write_order unsent ticket number = order.Intend (record { ticket = ticket; op = 
 abbrev pub numbered : Ask → ℕ → Ask
 numbered ask number = record ask { number = Some number }
 
--- fetches with these numbers
-abbrev pub with_numbers : List Ask → List (Option ℕ) → List Ask
-with_numbers [] numbers = []
-with_numbers (ask ∷ asks) [] = ask ∷ asks
-with_numbers (ask ∷ asks) (number ∷ numbers) = record ask { number = number } ∷ with_numbers asks numbers
-
 -- a fetch goes out where it hasn't yet and its site has given a ticket
 abbrev pub ask_goes : Txn → Ask → Option ℕ → Option Ticket → List Participant → (List Participant → Sent Ask) → Sent Ask
 ask_goes txn ask None (Some ticket) participants rest =

@@ -1,21 +1,18 @@
 -- What a step of a statement makes of a transaction, as the protocol has it.
-use Rattle.std.specs.Prelude.{◌≡◌, ⊤, ℕ, nat_eq, Bool, true, false, List, map, Some}
+use Rattle.std.specs.Prelude.{⊤, ℕ, nat_eq, Bool, true, false, List, Some}
 use Rattle.std.specs.Cmp.Lexicographic.{pointwise}
-use Rattle.std.specs.List.{filter_map}
 use Rattle.store.specs.declared.name.Ticket.{Ticket}
 use Rattle.store.specs.declared.name.Txn.{Txn}
 use Rattle.protocol.specs.Desk as protocol
 use Rattle.protocol.specs.Language.{put}
-use Rattle.protocol.specs.Letters.{name_of, txn_name}
+use Rattle.protocol.specs.Letters.{name_of}
 use Rattle.desk.specs.declared.participant.Participant.{Participant}
-use Rattle.desk.specs.declared.statement.Progress.{Progress}
 use Rattle.desk.specs.declared.transaction.Stage.{Stage}
 use Rattle.desk.specs.declared.transaction.Stage.TheVariants as stage
 use Rattle.desk.specs.declared.transaction.Undecided.{Undecided}
-use Rattle.desk.specs.Database.{Database, language, sent}
+use Rattle.desk.specs.Database.{Database, language}
 use Rattle.desk.specs.Send.{AsksAtHome, UnsentAtHome, asks_go, writes_go}
 use Rattle.desk.specs.Transaction.{undecided_of}
-use Rattle.desk.specs.Transition.{told, told_to}
 
 -- the operations that a stage still sends have the sites of their leaves
 abbrev pub IsAtHome : Database → Stage → Type 0
@@ -29,12 +26,6 @@ abbrev pub ticketed : (db : Database) → Undecided → List ℕ → Ticket → 
 ticketed db undecided site ticket =
     let old = undecided_of db undecided in
     record old { ticket = put (pointwise nat_eq) site (Some (name_of ticket)) old.ticket }
-
--- the step is the protocol's, and the transaction is still undecided
-pub record IsProgress (db : Database) (txn : Txn) (new : Undecided) (step : Progress) (wanted : protocol.Transition (language db)) : Type 0 where
-  pub stands : protocol.Known (undecided_of db new) ≡ wanted.txn
-  pub letters : map (sent db) step.letters.items ≡ wanted.letters
-  pub replies : told_to (txn_name txn) step.reply ≡ filter_map (told db) wanted.deeds
 
 -- the participants after the operations that a stage still sends went out to these
 abbrev pub goes_to : Txn → List Participant → Stage → List Participant

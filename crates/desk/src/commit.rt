@@ -1,11 +1,11 @@
 //! The commit of a transaction: it is asked for, votes come, and it is decided.
 
-ghost use Rattle.std.specs.Prelude.{◌≡◌, None, Some, true, IfOk, OnOk, ⊤, ℕ, suc, Bool, List, ◌==◌, ◌<◌, ◌+◌, ◌^◌, ◌⊎◌, length, map, false, Option, if◌then◌else◌};
+ghost use Rattle.std.specs.Prelude.{◌≡◌, None, Some, true, IfOk, IfSome, OnOk, ⊤, ℕ, suc, Bool, List, ◌==◌, ◌<◌, ◌+◌, ◌^◌, ◌⊎◌, length, map, false, Option, if◌then◌else◌};
 ghost use Rattle.protocol.specs.Desk.{on_commit_call, Choice, Known, on_known, By_store, decides, ends_by, votes_go};
 ghost use Rattle.protocol.specs.Letters.{txn_name, is_no};
 ghost use Rattle.desk.specs.declared.transaction.TxnState.TheVariants as standing;
 ghost use Rattle.desk.specs.declared.transaction.TxnState.{TxnState as TxnStateNow};
-ghost use Rattle.desk.specs.Commit.{is_idle, awaits_vote, counts_vote, is_first};
+ghost use Rattle.desk.specs.Commit.{is_idle, awaits_vote, counts_vote, is_early, is_first, leaves_open, with_counted};
 ghost use Rattle.desk.specs.Database.{Database, language, replied};
 ghost use Rattle.desk.specs.Participants.{sites_of, participant_in};
 ghost use Rattle.desk.specs.Transaction.{stage_of, undecided_of, voter_of, votes_of};
@@ -16,6 +16,7 @@ ghost use Rattle.desk.specs.declared.reply.Reply.TheVariants as replies;
 ghost use Rattle.desk.specs.declared.reply.Why.TheVariants as whys;
 ghost use Rattle.desk.specs.Acknowledge.{AreInOrder, kept_voters, Keeps};
 ghost use Rattle.reader.specs.Printable.{AreDistinct};
+ghost use Rattle.std.specs.Option.{option_copied};
 ghost use Rattle.store.specs.declared.reply.Reply.TheVariants as reply;
 ghost use Rattle.desk.specs.Called.{CallsStore, Decides};
 ghost use Rattle.desk.specs.Frame.{LeavesNoRow, StepsStore};
@@ -25,18 +26,21 @@ ghost use Rattle.desk.specs.declared.transition.After.TheVariants.{Ends};
 
 use crate::abort::{ends, is_voting};
 use crate::acknowledge::{commit_letters, voters_among};
-use crate::participant::{Participant, are_all_in, find_participant, with_vote, without_votes};
+use crate::participant::{
+    Participant, are_all_in, are_others_in, find_participant, set_vote, with_vote, without_votes,
+};
 use crate::reply::{Reply, Why};
 use crate::send::{Broadcast, broadcast_letters};
 use crate::transaction::{Committed, Stage, TxnState, Undecided};
 use crate::transition::{After, Transition, becomes, stays};
 use std::alloc::Global;
+use std::mem;
 use store::commit::Voter;
 use store::desk_store::DeskStore;
 use store::fault::StoreFault;
 use store::letter::Letter;
 use store::name::{Ticket, Txn};
-use store::reply::{Vote, Voted};
+use store::reply::{Reply as Said, Vote, Voted};
 use terms::memory::Memory;
 use terms::seq::Seq;
 use terms::text::Text;
@@ -129,6 +133,42 @@ fn is_no(vote: Vote) -> bool
     ensures { result ≡ is_no vote }
 {
     matches!(vote, Vote::No)
+}
+
+/// Whether a vote counts by which its transaction isn't decided yet: it isn't NO, and another one is still to come.
+fn leaves_open(undecided: &Undecided, site: &Text, voted: Voted) -> bool
+    ensures { result ≡ leaves_open undecided.now site.now voted }
+{
+    if !counts(undecided, site, &voted.ticket) || is_no(voted.vote) {
+        return false;
+    }
+    !are_others_in(undecided.participants.as_slice(), site)
+}
+
+/// The vote that a letter of a site is, if its transaction isn't decided yet by it.
+pub(crate) fn early_vote(found: Option<&TxnState>, site: &Text, said: &Said) -> Option<Voted>
+    ensures { IfSome result (λ voted. (said.now ≡ reply.Voted voted) × (is_early (option_copied found.entry) site.now voted ≡ true)) }
+{
+    let (Some(TxnState::Undecided(undecided)), Said::Voted(voted)) = (found, said) else {
+        return None;
+    };
+    if leaves_open(undecided, site, *voted) {
+        Some(*voted)
+    } else {
+        None
+    }
+}
+
+/// A vote is counted.
+pub(crate) fn count_in(alloc: Global, state: &mut TxnState, site: &Text, vote: Vote)
+    ensures { (old : UndecidedNow) → state.old ≡ standing.Undecided old → state.new ≡ standing.Undecided (with_counted site.now vote old) }
+{
+    if let TxnState::Undecided(undecided) = state {
+        let none = Seq::new(Vec::new(alloc));
+        let mut participants = mem::replace(&mut undecided.participants, none).into_vec();
+        set_vote(participants.as_mut_slice(), site, vote);
+        undecided.participants = Seq::new(participants);
+    }
 }
 
 /// A vote comes. One NO aborts at once; with the last vote the transaction is decided. Where `kept` is

@@ -7,7 +7,7 @@ ghost use Rattle.protocol.specs.Letters.{leaf_of};
 ghost use Rattle.desk.specs.Place.{home_in, site_in};
 ghost use Rattle.desk.specs.Planned.{ask_from, unsent_by, unsent_from};
 ghost use Rattle.catalog.specs.FragmentLeaf.{catalogue_leaves, leaf_named};
-ghost use Rattle.desk.specs.Fetches.{are_in_with, awaits, brought, brought_by, fits_leaf, has_rows_with, rows_for, with_found, with_rows};
+ghost use Rattle.desk.specs.Fetches.{are_in_with, awaits, brought, brought_by, fits_leaf, has_rows_with, rows_for, with_rows};
 
 use crate::transaction::Unsent;
 use answers::moves::Move;
@@ -172,42 +172,24 @@ fn rows_for(
     Ok(None)
 }
 
-/// The rows that each fetch gets.
-fn all_rows_for(
-    alloc: Global,
-    catalog: &Catalog,
-    site: &Text,
-    rows: &Rows,
-    asks: &[Ask],
-) -> Result<Vec<Option<Seq<Part>>>, Memory>
-    ensures { IfOk result (λ found. found.items ≡ map (rows_for (catalogue_of catalog.now) site.now rows.now.op rows.now.parts) asks.now) }
+/// Each fetch that waits for these rows gets them once all have been looked at, so on an error none has.
+fn put_rows(catalog: &Catalog, site: &Text, rows: &Rows, asks: &mut [Ask]) -> Result<(), Memory>
+    ensures ok { OnOk result (asks.new ≡ map (with_rows (catalogue_of catalog.now) site.now rows.now.op rows.now.parts) asks.old) }
+    ensures same { OnErr result (asks.new ≡ asks.old) }
 {
-    let mut found = Vec::new(alloc);
-    for ask in asks {
-        found.push(rows_for(catalog, site, rows, ask)?)?;
-    }
-    Ok(found)
-}
-
-/// Fetches get these rows.
-fn put_rows(asks: &mut [Ask], found: &mut [Option<Seq<Part>>])
-    ensures { asks.new ≡ with_found asks.old found.old }
-{
-    let Some((ask, asks)) = asks.split_first_mut() else {
-        return;
+    let Some((ask, rest)) = asks.split_first_mut() else {
+        return Ok(());
     };
-    let Some((first, found)) = found.split_first_mut() else {
-        return;
-    };
-    if let Some(rows) = first.take() {
-        ask.rows = Some(rows);
+    let found = rows_for(catalog, site, rows, ask)?;
+    put_rows(catalog, site, rows, rest)?;
+    if let Some(parts) = found {
+        ask.rows = Some(parts);
     }
-    put_rows(asks, found);
+    Ok(())
 }
 
 /// The fetches that wait for these rows get them. What came before stays where it is.
 pub(crate) fn bring(
-    alloc: Global,
     catalog: &Catalog,
     site: &Text,
     rows: &Rows,
@@ -216,9 +198,7 @@ pub(crate) fn bring(
     ensures ok { OnOk result (asks.new.items ≡ map (with_rows (catalogue_of catalog.now) site.now rows.now.op rows.now.parts) asks.old.items) }
     ensures same { OnErr result (asks.new ≡ asks.old) }
 {
-    let mut found = all_rows_for(alloc, catalog, site, rows, asks.as_slice())?;
-    put_rows(asks.as_mut_slice(), found.as_mut_slice());
-    Ok(())
+    put_rows(catalog, site, rows, asks.as_mut_slice())
 }
 
 /// Whether a fetch has its rows once these have come.

@@ -3,7 +3,7 @@
 ghost use Rattle.std.specs.Prelude.{◌≡◌, IfOk, find, map, Some, None};
 ghost use Rattle.std.specs.List.{list_all};
 ghost use Rattle.std.specs.Option.{option_copied};
-ghost use Rattle.desk.specs.Participants.{changed_at, is_at, is_in, with_ticket, with_vote};
+ghost use Rattle.desk.specs.Participants.{changed_at, is_at, is_in, is_in_beside, with_ticket, with_vote};
 
 use std::alloc::Global;
 use store::name::Ticket;
@@ -60,11 +60,38 @@ pub(crate) fn find_participant<'a>(
     None
 }
 
+/// Whether a site isn't visited, or has voted.
+fn is_in(participant: &Participant) -> bool
+    ensures { result ≡ is_in participant.now }
+{
+    !participant.visited || participant.vote.is_some()
+}
+
 /// Whether each visited site has voted.
 pub(crate) fn are_all_in(participants: &[Participant]) -> bool
     ensures { result ≡ list_all is_in participants.now }
 {
-    participants.iter().all(|participant| !participant.visited || participant.vote.is_some())
+    participants.iter().all(|participant| is_in(participant))
+}
+
+/// Whether each visited site beside this one has voted.
+pub(crate) fn are_others_in(participants: &[Participant], site: &Text) -> bool
+    ensures { result ≡ list_all (is_in_beside site.now) participants.now }
+{
+    participants.iter().all(|participant| is_at(participant, site) || is_in(participant))
+}
+
+/// The vote of a site is counted.
+pub(crate) fn set_vote(participants: &mut [Participant], site: &Text, vote: Vote)
+    ensures { participants.new ≡ map (changed_at site.now (with_vote (Some vote))) participants.old }
+{
+    let Some((participant, rest)) = participants.split_first_mut() else {
+        return;
+    };
+    if is_at(participant, site) {
+        participant.vote = Some(vote);
+    }
+    set_vote(rest, site, vote);
 }
 
 /// A participant, with the vote counted if it is that of the site.

@@ -11,6 +11,7 @@ ghost use Rattle.desk.specs.declared.transaction.TxnState.TheVariants as standin
 ghost use Rattle.desk.specs.declared.transaction.TxnState.{TxnState as TxnStateNow};
 ghost use Rattle.desk.specs.declared.transition.After.TheVariants as after;
 ghost use Rattle.desk.specs.Called.{CallsStore};
+ghost use Rattle.desk.specs.Commit.{is_early};
 ghost use Rattle.desk.specs.Request.{IsAt, txn_in};
 ghost use Rattle.desk.specs.Database.{Database, language, replied};
 ghost use Rattle.desk.specs.Frame.{GoesOnOrStays, LeavesStanding, PutsOut, StepsBelowLimits, StepsStore};
@@ -32,7 +33,7 @@ ghost use Rattle.desk.specs.OfCatalogue.{InForce, IsNextOf, IsOfCatalogue};
 
 use crate::abort::on_refusal;
 use crate::acknowledge::on_row;
-use crate::commit::{gave_first, is_first, on_vote};
+use crate::commit::{early_vote, gave_first, is_first, on_vote};
 use crate::fetches::{are_in_with, bring, brought_with};
 use crate::refusal::Refusal;
 use crate::reply::Out;
@@ -48,7 +49,7 @@ use std::alloc::Global;
 use store::desk_store::DeskStore;
 use store::name::{Ticket, Txn};
 use store::order::Order;
-use store::reply::{Reply, Rows};
+use store::reply::{Reply, Rows, Voted};
 use terms::memory::Memory;
 use terms::seq::Seq;
 use terms::text::Text;
@@ -167,6 +168,22 @@ fn step<S: DeskStore>(
     }
 }
 
+/// A vote comes by which its transaction isn't decided yet.
+fn take_vote(volatile: &mut Volatile, txn: Txn, site: &Text, voted: Voted) -> Out
+    requires { is_early ((volatile_of volatile.old).standing txn) site.now voted ≡ true }
+    ensures ok { (db : Database) (choice : Choice (language db)) (kept : DeskContent) → AreDistinct db.sites → Fits db kept (volatile_of volatile.old)
+        → Steps db (volatile_of volatile.old) kept (volatile_of volatile.new) txn (on_desk_letter (txn_name txn) site.now true choice (replied db site.now (replies.Voted voted)) (txn_in db (volatile_of volatile.old) txn)) result.letters result.replies }
+    ensures kept { result.kept ≡ true }
+{
+    volatile.count(&txn, site, voted.vote);
+    let letters = Vec::new(volatile.alloc);
+    Out {
+        letters: Seq::new(letters),
+        replies: Seq::new(Vec::new(volatile.alloc)),
+        kept: true,
+    }
+}
+
 /// A letter of a site comes, by which no statement goes on.
 pub(crate) fn take<S: DeskStore>(
     store: &mut S,
@@ -183,6 +200,9 @@ pub(crate) fn take<S: DeskStore>(
     ensures own { IfErr result (λ told. told ≡ refusals.Memory) }
     ensures err { OnErr result (volatile_of volatile.new ≡ volatile_of volatile.old) }
 {
+    if let Some(voted) = early_vote(volatile.standing(&txn), site, reply) {
+        return Ok(take_vote(volatile, txn, site, voted));
+    }
     let room = room(volatile.alloc)?;
     let turn = step(store, volatile, txn, site, reply, kept)?;
     Ok(make(volatile, txn, turn, room))
@@ -232,7 +252,7 @@ fn rows_come(
         return Ok(no_progress(alloc));
     };
     if !are_in_with(catalog, site, rows, reading.asks.as_slice()) {
-        bring(alloc, catalog, site, rows, &mut reading.asks)?;
+        bring(catalog, site, rows, &mut reading.asks)?;
         return Ok(no_progress(alloc));
     }
     let fetched = brought_with(alloc, catalog, site, rows, reading.asks.as_slice())?;
@@ -248,7 +268,7 @@ fn rows_come(
     works(alloc, txn, undecided, answer, unsent)
 }
 
-/// A statement resume_on on by what a site says.
+/// A statement goes on by what a site says.
 fn resume_on(
     alloc: Global,
     catalog: &Catalog,
@@ -272,7 +292,7 @@ fn resume_on(
     }
 }
 
-/// The statement of what stands behind a transaction resume_on on.
+/// The statement of what stands behind a transaction goes on.
 fn resume_in(
     alloc: Global,
     catalog: &Catalog,
@@ -298,7 +318,7 @@ fn resume_in(
     }
 }
 
-/// A statement of a transaction in memory resume_on on.
+/// A statement of a transaction in memory goes on.
 fn resume(
     volatile: &mut Volatile,
     catalog: &Catalog,
@@ -337,7 +357,7 @@ pub(crate) fn passed_over(alloc: Global) -> Out
     }
 }
 
-/// A letter of a site comes, by which a statement resume_on on.
+/// A letter of a site comes, by which a statement goes on.
 pub(crate) fn on_reply(
     volatile: &mut Volatile,
     catalog: &Catalog,
@@ -354,9 +374,8 @@ pub(crate) fn on_reply(
     ensures full { (db : Database) (kept : DeskContent) → IsOfCatalogue db → InForce db volatile.old.version catalog.now → IsNextOf db volatile.old.version (option_copied next.entry) → Fits db kept (volatile_of volatile.old) → list_any (λ other. pointwise nat_eq other site.now) db.sites ≡ true → result ≡ Err refusals.Full
         → IsPastLimits db (volatile_of volatile.old) txn (λ choice. on_desk_letter (txn_name txn) site.now true choice (replied db site.now reply.now) (txn_in db (volatile_of volatile.old) txn)) }
 {
-    let room = room(volatile.alloc)?;
     match resume(volatile, catalog, next, txn, site, reply) {
-        Ok(step) => Ok(put_out(room, txn, step)),
+        Ok(step) => Ok(put_out(step)),
         Err(refusal) => Err(limit_or_memory(refusal)),
     }
 }

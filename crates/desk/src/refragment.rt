@@ -1,8 +1,7 @@
 //! A relation gets the split that the next catalogue has for it: a transaction of its own, with one statement.
 
-ghost use Rattle.std.specs.Prelude.{◌≡◌, ◌≢◌, ◌⊎◌, ◌+◌, ◌<◌, ◌++◌, ℕ, List, [], None, Some, true, false, IfOk, IfErr, OnOk, Err, vec_len};
+ghost use Rattle.std.specs.Prelude.{◌≡◌, ◌≢◌, ◌⊎◌, ℕ, List, [], None, Some, true, false, IfOk, IfErr, OnOk, Err};
 ghost use Rattle.std.specs.Option.{option_copied};
-ghost use Rattle.std.specs.Vec.{vec_capacity};
 ghost use Rattle.meaning.specs.Statement.{IsStatementOf};
 ghost use Rattle.meaning.specs.declared.statement.Statement.TheVariants as statements;
 ghost use Rattle.reader.specs.declared.command.Command.TheVariants as commands;
@@ -13,7 +12,6 @@ ghost use Rattle.catalog.specs.FragmentLeaf.{schemas_of};
 ghost use Rattle.catalog.specs.Relation.{catalogue_of};
 ghost use Rattle.store.specs.DeskContent.{DeskContent};
 ghost use Rattle.desk.specs.declared.refusal.Refusal.TheVariants as refusals;
-ghost use Rattle.desk.specs.declared.reply.Reply.TheVariants as replies;
 ghost use Rattle.desk.specs.declared.transaction.Stage.TheVariants as stages;
 ghost use Rattle.protocol.specs.Desk.{Known, State, began_as, is_desk_within, on_request};
 ghost use Rattle.protocol.specs.Letters.{txn_name};
@@ -26,15 +24,15 @@ ghost use Rattle.desk.specs.Transaction.{undecided_of};
 ghost use Rattle.desk.specs.Transition.{AreParticipants};
 ghost use Rattle.desk.specs.OfCatalogue.{InForce, IsNextOf, IsOfCatalogue};
 ghost use Rattle.desk.specs.Refragmented.{IsNoNext, IsNoRefragment, Refragments, is_refragment_command};
-ghost use Rattle.desk.specs.Request.{notices};
 ghost use Rattle.desk.specs.State.{Fits, desk_of, volatile_of};
 
 use crate::fetches::asks_of;
 use crate::refusal::Refusal;
-use crate::reply::{Notice, Out, Reply};
-use crate::request::{nowhere_yet, reader_refusal};
+use crate::reply::Out;
+use crate::request::{nowhere_yet, out_of_begin, reader_refusal};
 use crate::statement::{Progress, reads};
 use crate::transaction::{Planned, TxnState, Undecided};
+use crate::transition::room;
 use crate::volatile::{Volatile, begun};
 use catalog::catalogue::Catalog;
 use catalog::laws::leaf_names_are_unique;
@@ -46,7 +44,6 @@ use std::alloc::Global;
 use store::name::Txn;
 use terms::copy::TryCopy;
 use terms::memory::Memory;
-use terms::seq::Seq;
 use terms::text::Text;
 
 /// The REFRAGMENT that a command is. No other command is one.
@@ -90,37 +87,6 @@ fn is_next(catalog: &Catalog, next: Option<&Catalog>, relation: &Text) -> bool
     }
 }
 
-/// Room for two replies.
-fn room(alloc: Global) -> Result<Vec<Notice>, Memory>
-    ensures empty { IfOk result (λ room. room.items ≡ []) }
-    ensures room { IfOk result (λ room. vec_len room + 1 < vec_capacity room) }
-{
-    Ok(Vec::with_capacity(alloc, 2)?)
-}
-
-/// What is put out as a transaction begins and states a statement. There is room for both replies.
-fn put_out(room: Vec<Notice>, txn: Txn, step: Progress) -> Out
-    requires { vec_len room + 1 < vec_capacity room }
-    ensures letters { result.letters ≡ step.letters.items }
-    ensures replies { room.items ≡ [] → result.replies ≡ notices txn (Some replies.Begun) ++ notices txn step.reply }
-    ensures kept { result.kept ≡ true }
-{
-    let Progress { letters, reply } = step;
-    let mut room = room;
-    room.push_reserved(Notice {
-        txn,
-        reply: Reply::Begun,
-    });
-    if let Some(reply) = reply {
-        room.push_reserved(Notice { txn, reply });
-    }
-    Out {
-        letters: Seq::new(letters),
-        replies: Seq::new(room),
-        kept: true,
-    }
-}
-
 /// The statement of a transaction that has just begun reads. No site has given a ticket yet, so nothing but Opens goes out,
 /// and no limit is passed.
 fn start(
@@ -136,6 +102,7 @@ fn start(
         → IfOk result (λ step. Does db version txn undecided.new step (λ choice. on_request (txn_name txn) choice (State (version, statement)) (Known (undecided_of db undecided.old)))) }
     ensures short { AreShort undecided.old.participants → OnOk result (AreShort undecided.new.participants) }
     ensures moves { OnOk result (undecided.new.moves ≡ undecided.old.moves) }
+    ensures quiet { IfOk result (λ step. step.replies.items ≡ []) }
 {
     leaf_names_are_unique();
     let plan = Planned::new(alloc, catalog, &statement)?;
@@ -191,5 +158,5 @@ pub(crate) fn call_refragment(
         volatile.version,
     )?;
     let txn = volatile.begin(TxnState::Undecided(undecided))?;
-    Ok(put_out(room, txn, step))
+    Ok(out_of_begin(room, txn, step.letters))
 }

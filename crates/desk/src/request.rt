@@ -12,7 +12,7 @@ ghost use Rattle.desk.specs.declared.reply.Reply.TheVariants as replies;
 ghost use Rattle.desk.specs.Begun.{nowhere_yet};
 ghost use Rattle.desk.specs.Request.{IsAt, IsOver, WhyNotStated, notices, open_in, refused_as, txn_in};
 ghost use Rattle.desk.specs.Database.{Database, language};
-ghost use Rattle.desk.specs.Frame.{GoesOnOrStays, LeavesRows, StatesInMemory, StepsBelowLimits, StepsInMemory};
+ghost use Rattle.desk.specs.Frame.{GoesOnOrStays, LeavesRows, PutsOut, StatesInMemory, StepsBelowLimits, StepsInMemory};
 ghost use Rattle.desk.specs.State.{Begins, Fits, Steps, anyone_moves, desk_of, volatile_of};
 ghost use Rattle.desk.specs.Transition.{IsTransition, AreParticipants, is_moving};
 ghost use Rattle.std.specs.BTreeMap.{IsOrdered};
@@ -51,6 +51,7 @@ use reader::command::Command;
 use reader::fault::{ReadFault, Rule};
 use reader::read::read;
 use std::alloc::Global;
+use store::letter::Letter;
 use store::name::Txn;
 use terms::copy::TryCopy;
 use terms::memory::Memory;
@@ -92,20 +93,20 @@ pub(crate) fn call_begin(volatile: &mut Volatile, sites: &[Text]) -> Result<Out,
         return Err(Refusal::NotAlone);
     }
     match volatile.begin(TxnState::Undecided(begun(participants, false))) {
-        Ok(txn) => Ok(out_of_begin(volatile.alloc, room, txn)),
+        Ok(txn) => Ok(out_of_begin(room, txn, Vec::new(volatile.alloc))),
         Err(refusal) => Err(refusal),
     }
 }
 
-/// A transaction's client hears that it has begun. There is room for it.
-fn out_of_begin(alloc: Global, room: Vec<Notice>, txn: Txn) -> Out
+/// A transaction's client hears that it has begun, and these letters go out. There is room for its reply.
+pub(crate) fn out_of_begin(room: Vec<Notice>, txn: Txn, letters: Vec<Letter>) -> Out
     requires { vec_len room < vec_capacity room }
-    ensures letters { result.letters ≡ [] }
+    ensures letters { result.letters ≡ letters.items }
     ensures replies { room.items ≡ [] → result.replies ≡ notices txn (Some replies.Begun) }
     ensures kept { result.kept ≡ true }
 {
     Out {
-        letters: Seq::new(Vec::new(alloc)),
+        letters: Seq::new(letters),
         replies: Seq::new(noticed(room, txn, Some(Reply::Begun))),
         kept: true,
     }
@@ -405,17 +406,13 @@ pub(crate) fn limit_or_memory(refusal: Refusal) -> Refusal
     }
 }
 
-/// What a step of a statement puts out. There is room for its reply.
-pub(crate) fn put_out(room: Vec<Notice>, txn: Txn, step: Progress) -> Out
-    requires { vec_len room < vec_capacity room }
-    ensures letters { result.letters ≡ step.letters.items }
-    ensures replies { room.items ≡ [] → result.replies ≡ notices txn step.reply }
-    ensures kept { result.kept ≡ true }
+/// What a step of a statement puts out.
+pub(crate) fn put_out(step: Progress) -> Out
+    ensures { PutsOut result step.letters.items step.replies.items }
 {
-    let Progress { letters, reply } = step;
     Out {
-        letters: Seq::new(letters),
-        replies: Seq::new(noticed(room, txn, reply)),
+        letters: Seq::new(step.letters),
+        replies: Seq::new(step.replies),
         kept: true,
     }
 }
@@ -436,7 +433,6 @@ pub(crate) fn call_run(
     ensures full { (db : Database) (kept : DeskContent) → IsOfCatalogue db → InForce db volatile.old.version catalog.now → Fits db kept (volatile_of volatile.old) → result ≡ Err refusals.Full
         → RunsPastLimits db (volatile_of volatile.old) txn statement }
 {
-    let room = room(volatile.alloc)?;
     may_state(volatile, &txn)?;
     if statement.is_refragment() {
         return Err(Refusal::Busy);
@@ -444,7 +440,7 @@ pub(crate) fn call_run(
     let plan = Planned::new(volatile.alloc, catalog, &statement)?;
     let asks = asks_of(volatile.alloc, catalog, plan.fetches())?;
     match start(volatile, catalog, txn, statement, plan, asks) {
-        Ok(step) => Ok(put_out(room, txn, step)),
+        Ok(step) => Ok(put_out(step)),
         Err(refusal) => Err(limit_or_memory(refusal)),
     }
 }

@@ -2,7 +2,7 @@
 
 ghost use Rattle.std.specs.Prelude.{◌≡◌, ◌<◌, ◌≤◌, ◌^◌, ◌∷◌, ◌++◌, [], None, Err, filter, map, IfOk, IfSome, OnOk, OnErr, nat_eq};
 ghost use Rattle.desk.specs.declared.refusal.Refusal.TheVariants as refusals;
-ghost use Rattle.desk.specs.Send.{AreShort, IsPast, asks_go, counted, next_number, waits_in, with_numbers, writes_go};
+ghost use Rattle.desk.specs.Send.{AreShort, IsPast, asks_go, counted, next_number, waits_in, writes_go};
 ghost use Rattle.desk.specs.Participants.{participant_in};
 ghost use Rattle.std.specs.Cmp.Lexicographic.{pointwise};
 ghost use Rattle.std.specs.List.{list_any};
@@ -108,46 +108,28 @@ fn ask_out(
     Ok(Some(number))
 }
 
-/// What goes out of fetches: their numbers, and the letters.
-#[derive(Debug, Drop)]
-pub(crate) struct AsksOut {
-    pub(crate) numbers: Vec<Option<u64>>,
-    pub(crate) letters: Vec<Letter>,
-}
-
-/// Fetches go out in order. Full where an operation's number would be past the limit.
-pub(crate) fn asks_out(
-    alloc: Global,
-    txn: Txn,
-    asks: &[Ask],
+/// Fetches go out in order, their letters behind others. Full where an operation's number would be past the limit. A fetch gets
+/// its number once all have gone out, so on an error none has one.
+fn asks_out(
+    letters: &mut Vec<Letter>,
     participants: &mut [Participant],
-) -> Result<AsksOut, Refusal>
-    ensures numbers { IfOk result (λ out. out.numbers.items ≡ map (λ left. left.number) (asks_go txn asks.now participants.old).left) }
-    ensures letters { IfOk result (λ out. out.letters.items ≡ (asks_go txn asks.now participants.old).letters) }
-    ensures participants { IfOk result (λ _. participants.new ≡ (asks_go txn asks.now participants.old).participants) }
+    txn: Txn,
+    asks: &mut [Ask],
+) -> Result<(), Refusal>
+    ensures participants { OnOk result (participants.new ≡ (asks_go txn asks.old participants.old).participants) }
+    ensures letters { OnOk result (letters.new.items ≡ letters.old.items ++ (asks_go txn asks.old participants.old).letters) }
+    ensures left { OnOk result (asks.new ≡ (asks_go txn asks.old participants.old).left) }
     ensures short { AreShort participants.old → OnOk result (AreShort participants.new) }
-    ensures full { result ≡ Err refusals.Full → IsPast (asks_go txn asks.now participants.old).participants }
+    ensures full { result ≡ Err refusals.Full → IsPast (asks_go txn asks.old participants.old).participants }
+    ensures same { OnErr result (asks.new ≡ asks.old) }
 {
-    let mut numbers = Vec::new(alloc);
-    let mut letters = Vec::new(alloc);
-    for ask in asks {
-        numbers.push(ask_out(&mut letters, participants, txn, ask)?)?;
-    }
-    Ok(AsksOut { numbers, letters })
-}
-
-/// Fetches get these numbers.
-pub(crate) fn set_numbers(asks: &mut [Ask], numbers: &[Option<u64>])
-    ensures { asks.new ≡ with_numbers asks.old numbers.now }
-{
-    let Some((ask, asks)) = asks.split_first_mut() else {
-        return;
+    let Some((ask, rest)) = asks.split_first_mut() else {
+        return Ok(());
     };
-    let Some((first, numbers)) = numbers.split_first() else {
-        return;
-    };
-    ask.number = *first;
-    set_numbers(asks, numbers);
+    let number = ask_out(letters, participants, txn, ask)?;
+    asks_out(letters, participants, txn, rest)?;
+    ask.number = number;
+    Ok(())
 }
 
 /// A write goes out, if its site has given a ticket.
@@ -211,46 +193,47 @@ pub(crate) struct SentOut {
 pub(crate) fn asks_step(
     alloc: Global,
     txn: Txn,
-    participants: Vec<Participant>,
+    participants: &mut [Participant],
     asks: &mut Vec<Ask>,
-) -> Result<SentOut, Refusal>
-    ensures participants { IfOk result (λ going. going.participants.items ≡ (asks_go txn asks.old.items participants.items).participants) }
-    ensures letters { IfOk result (λ going. going.letters.items ≡ (asks_go txn asks.old.items participants.items).letters) }
-    ensures left { IfOk result (λ _. asks.new.items ≡ (asks_go txn asks.old.items participants.items).left) }
-    ensures short { AreShort participants.items → IfOk result (λ going. AreShort going.participants.items) }
-    ensures full { result ≡ Err refusals.Full → IsPast (asks_go txn asks.old.items participants.items).participants }
+) -> Result<Vec<Letter>, Refusal>
+    ensures participants { OnOk result (participants.new ≡ (asks_go txn asks.old.items participants.old).participants) }
+    ensures letters { IfOk result (λ letters. letters.items ≡ (asks_go txn asks.old.items participants.old).letters) }
+    ensures left { OnOk result (asks.new.items ≡ (asks_go txn asks.old.items participants.old).left) }
+    ensures short { AreShort participants.old → OnOk result (AreShort participants.new) }
+    ensures full { result ≡ Err refusals.Full → IsPast (asks_go txn asks.old.items participants.old).participants }
     ensures same { OnErr result (asks.new ≡ asks.old) }
 {
-    let mut counted = participants;
-    let out = asks_out(alloc, txn, asks.as_slice(), counted.as_mut_slice())?;
-    set_numbers(asks.as_mut_slice(), out.numbers.as_slice());
-    Ok(SentOut {
-        participants: counted,
-        letters: out.letters,
-    })
+    let mut letters = Vec::new(alloc);
+    asks_out(&mut letters, participants, txn, asks.as_mut_slice())?;
+    Ok(letters)
 }
 
 /// The writes whose sites have given a ticket go out.
 pub(crate) fn writes_step(
     alloc: Global,
     txn: Txn,
-    participants: Vec<Participant>,
+    participants: &mut [Participant],
     unsent: &mut Vec<Unsent>,
-) -> Result<SentOut, Refusal>
-    ensures participants { IfOk result (λ going. going.participants.items ≡ (writes_go txn unsent.old.items participants.items).participants) }
-    ensures letters { IfOk result (λ going. going.letters.items ≡ (writes_go txn unsent.old.items participants.items).letters) }
-    ensures left { IfOk result (λ _. unsent.new.items ≡ (writes_go txn unsent.old.items participants.items).left) }
-    ensures short { AreShort participants.items → IfOk result (λ going. AreShort going.participants.items) }
-    ensures full { result ≡ Err refusals.Full → IsPast (writes_go txn unsent.old.items participants.items).participants }
+) -> Result<Vec<Letter>, Refusal>
+    ensures participants { OnOk result (participants.new ≡ (writes_go txn unsent.old.items participants.old).participants) }
+    ensures letters { IfOk result (λ letters. letters.items ≡ (writes_go txn unsent.old.items participants.old).letters) }
+    ensures left { OnOk result (unsent.new.items ≡ (writes_go txn unsent.old.items participants.old).left) }
+    ensures short { AreShort participants.old → OnOk result (AreShort participants.new) }
+    ensures full { result ≡ Err refusals.Full → IsPast (writes_go txn unsent.old.items participants.old).participants }
     ensures same { OnErr result (unsent.new ≡ unsent.old) }
 {
-    let mut counted = participants;
-    let letters = writes_out(alloc, txn, unsent.as_slice(), counted.as_mut_slice())?;
-    keep_waiting(unsent, counted.as_slice());
-    Ok(SentOut {
-        participants: counted,
-        letters,
-    })
+    let letters = writes_out(alloc, txn, unsent.as_slice(), participants)?;
+    keep_waiting(unsent, participants);
+    Ok(letters)
+}
+
+/// Whether a write waits for a ticket.
+pub(crate) fn is_any_waiting(unsent: &[Unsent], participants: &[Participant]) -> bool
+    ensures { result ≡ list_any (waits_in participants.now) unsent.now }
+{
+    unsent
+        .iter()
+        .any(|write| ticket_of(participants, &write.site).is_none())
 }
 
 /// The writes are left whose sites have given no ticket.

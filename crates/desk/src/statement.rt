@@ -1,6 +1,6 @@
 //! A statement: it starts, goes on as tickets and rows come, and is evaluated.
 
-ghost use Rattle.std.specs.Prelude.{◌≡◌, ℕ, ◌∷◌, ◌++◌, Err, List, map, IfOk, OnErr, OnOk, [], true, None, Some, nat_eq, length, if◌then◌else◌};
+ghost use Rattle.std.specs.Prelude.{◌≡◌, ℕ, Bool, ◌∷◌, ◌++◌, Err, List, map, IfOk, OnErr, OnOk, [], true, Some, if◌then◌else◌};
 ghost use Rattle.protocol.specs.Desk.{Choice, states, ticket_goes, Worked as WorkedDeed, Ask as ProtocolAsk, works};
 ghost use Rattle.protocol.specs.Letters.{txn_name};
 ghost use Rattle.desk.specs.declared.fetches.Ask.{Ask as AskNow};
@@ -12,16 +12,17 @@ ghost use Rattle.desk.specs.Fetches.{brought};
 ghost use Rattle.desk.specs.Frame.{SendsOrStays};
 ghost use Rattle.desk.specs.Opening.{HaveParticipants, opens, visits};
 ghost use Rattle.desk.specs.Planned.{AreUnsentBy, AreUnsentFrom, IsOfPlan, unsent_by, unsent_from};
-ghost use Rattle.desk.specs.Send.{AreShort, AsksAtHome, IsPast, asks_go, writes_go, UnsentAtHome};
+ghost use Rattle.desk.specs.Send.{AreShort, AsksAtHome, IsPast, asks_go, waits_in, writes_go, UnsentAtHome};
 ghost use Rattle.desk.specs.Participants.{sites_of, changed_at, is_at, with_ticket};
 ghost use Rattle.desk.specs.Transaction.{ask_of, undecided_of, stage_of, write_of};
 ghost use Rattle.desk.specs.State.{IsIn};
-ghost use Rattle.desk.specs.Statement.{ask_sites, write_sites};
-ghost use Rattle.desk.specs.Stepped.{IsProgress, goes_to, ticketed};
+ghost use Rattle.desk.specs.Statement.{answer_of, ask_sites, staged, write_sites};
+ghost use Rattle.desk.specs.Does.{IsProgress};
+ghost use Rattle.desk.specs.Request.{notices};
+ghost use Rattle.desk.specs.Stepped.{goes_to, ticketed};
 ghost use Rattle.desk.specs.Transition.{AreParticipants};
 ghost use Rattle.std.specs.List.{AllByRecursion, Contains, list_any};
 ghost use Rattle.std.specs.Option.{option_copied};
-ghost use Rattle.meaning.specs.declared.answer.Answer.{Answer as AnswerNow};
 ghost use Rattle.desk.specs.declared.reply.Reply.TheVariants.{Answer as Answers};
 ghost use Rattle.protocol.specs.Language.{Name};
 ghost use Rattle.protocol.specs.Serial.{Explained};
@@ -35,7 +36,7 @@ ghost use Rattle.meaning.specs.Statement.{IsStatementOf};
 ghost use Rattle.meaning.specs.Whole.{FitsSchema, Relations, rows_of};
 ghost use Rattle.plan.specs.Given.{AreBrought};
 ghost use Rattle.plan.specs.Reduced.{FindsAll};
-ghost use Rattle.plan.specs.Shape.{shape};
+ghost use Rattle.plan.specs.Postfix.{plan_of};
 ghost use Rattle.plan.specs.Stated.{AreFetchesOf};
 ghost use Rattle.plan.specs.Uniform.{EachRead, IsUniform};
 ghost use Rattle.answers.specs.Moves.{moves_between};
@@ -47,10 +48,11 @@ ghost use Rattle.desk.specs.declared.transaction.Unsent.{Unsent as UnsentNow};
 use crate::fetches::{Ask, unsent_by, unsent_of};
 use crate::participant::{Participant, with_ticket};
 use crate::refusal::Refusal;
-use crate::reply::Reply;
+use crate::reply::{Notice, Reply};
 use crate::send;
-use crate::send::{SentOut, asks_step, writes_step};
+use crate::send::{SentOut, asks_step, is_any_waiting, writes_step};
 use crate::transaction::{Planned, Reading, Stage, Undecided, Unsent, Writing};
+use crate::transition::heard;
 use answers::finish::Outcome;
 use answers::table::{FetchRows, are_all_parts};
 use answers::work;
@@ -60,7 +62,7 @@ use catalog::laws::leaf_names_are_unique;
 use meaning::answer::Answer;
 use meaning::statement::{Refragment, Statement};
 use plan::fetch::Fetch;
-use plan::plan::Plan;
+use plan::postfix::Node;
 use std::alloc::Global;
 use store::letter::Letter;
 use store::name::{Ticket, Txn};
@@ -94,11 +96,11 @@ fn asks_begin(
 {
     let sites = send::ask_sites(alloc, asks.as_slice())?;
     let letters = send::opens(alloc, txn, participants, sites.as_slice())?;
-    let visited = send::visited(alloc, participants, sites.as_slice())?;
-    let going = asks_step(alloc, txn, visited, asks)?;
+    let mut visited = send::visited(alloc, participants, sites.as_slice())?;
+    let more = asks_step(alloc, txn, visited.as_mut_slice(), asks)?;
     Ok(SentOut {
-        participants: going.participants,
-        letters: joined(letters, going.letters)?,
+        participants: visited,
+        letters: joined(letters, more)?,
     })
 }
 
@@ -127,6 +129,7 @@ pub(crate) fn reads(
     ensures within { (db : Database) → sites_of undecided.old.participants ≡ db.sites → AsksAtHome db asks.items → IsOfPlan db version statement plan asks.items → OnOk result (IsIn db version (standings.Undecided undecided.new)) }
     ensures sends { SendsOrStays undecided.old undecided.new (asks_go txn asks.items (visits (ask_sites asks.items) undecided.old.participants)).participants result }
     ensures moves { undecided.new.moves ≡ undecided.old.moves }
+    ensures quiet { IfOk result (λ step. step.replies.items ≡ []) }
 {
     let mut asks = asks;
     let going = asks_begin(alloc, txn, undecided.participants.as_slice(), &mut asks)?;
@@ -140,106 +143,104 @@ pub(crate) fn reads(
             asks,
         },
     );
-    Ok(Progress {
-        letters: going.letters,
-        reply: None,
-    })
+    Ok(quiet(alloc, going.letters))
 }
 
-/// What a step of a statement brings about.
+/// What a step of a statement brings about: the letters put out, and what its client hears.
 #[derive(Debug, Drop)]
 pub(crate) struct Progress {
     pub(crate) letters: Vec<Letter>,
-    pub(crate) reply: Option<Reply>,
+    pub(crate) replies: Vec<Notice>,
 }
 
-/// Writes that went out, and the answer where none waits any more.
-#[derive(Debug, Drop)]
-struct Written {
-    going: SentOut,
-    answer: Option<Answer>,
+/// Letters go out, and the client hears nothing yet.
+fn quiet(alloc: Global, letters: Vec<Letter>) -> Progress
+    ensures letters { result.letters ≡ letters }
+    ensures replies { result.replies.items ≡ [] }
+{
+    Progress {
+        letters,
+        replies: Vec::new(alloc),
+    }
 }
 
 /// Nothing goes out.
 pub(crate) fn no_progress(alloc: Global) -> Progress
     ensures letters { result.letters.items ≡ [] }
-    ensures reply { result.reply ≡ None }
+    ensures replies { result.replies.items ≡ [] }
 {
-    Progress {
-        letters: Vec::new(alloc),
-        reply: None,
+    quiet(alloc, Vec::new(alloc))
+}
+
+/// What the client of a statement hears whose writes go out: the answer, unless one waits.
+fn heard_of(
+    alloc: Global,
+    txn: Txn,
+    participants: &[Participant],
+    writing: &Writing,
+) -> Result<Vec<Notice>, Memory>
+    ensures { IfOk result (λ replies. replies.items ≡ (if list_any (waits_in participants.now) writing.now.unsent.items then [] else notices txn (Some (Answers writing.now.answer)))) }
+{
+    if is_any_waiting(writing.unsent.as_slice(), participants) {
+        return Ok(Vec::new(alloc));
     }
+    heard(alloc, txn, Reply::Answer(writing.answer.copy()?))
 }
 
-/// The transaction has these participants.
-fn set_participants(undecided: &mut Undecided, participants: Vec<Participant>)
-    ensures participants { undecided.new.participants ≡ participants.items }
-    ensures stage { undecided.new.stage ≡ undecided.old.stage }
-    ensures moves { undecided.new.moves ≡ undecided.old.moves }
-{
-    undecided.participants = Seq::new(participants);
-}
-
-/// The statement is answered.
-fn idles(undecided: &mut Undecided)
-    ensures participants { undecided.new.participants ≡ undecided.old.participants }
-    ensures stage { undecided.new.stage ≡ stages.Idle }
-    ensures moves { undecided.new.moves ≡ undecided.old.moves }
-{
-    undecided.stage = Stage::Idle;
-}
-
-/// The writes whose sites have given a ticket go out. The answer, once none waits.
+/// The writes whose sites have given a ticket go out. With the last of them the answer is given.
 fn writing_goes(
     alloc: Global,
     txn: Txn,
-    participants: Vec<Participant>,
+    participants: &mut [Participant],
     writing: &mut Writing,
-) -> Result<Written, Refusal>
-    ensures participants { IfOk result (λ written. written.going.participants.items ≡ (writes_go txn writing.old.unsent.items participants.items).participants) }
-    ensures letters { IfOk result (λ written. written.going.letters.items ≡ (writes_go txn writing.old.unsent.items participants.items).letters) }
-    ensures left { IfOk result (λ _. writing.new.unsent.items ≡ (writes_go txn writing.old.unsent.items participants.items).left) }
+) -> Result<Progress, Refusal>
+    ensures participants { OnOk result (participants.new ≡ (writes_go txn writing.old.unsent.items participants.old).participants) }
+    ensures letters { IfOk result (λ step. step.letters.items ≡ (writes_go txn writing.old.unsent.items participants.old).letters) }
+    ensures left { OnOk result (writing.new.unsent.items ≡ (writes_go txn writing.old.unsent.items participants.old).left) }
     ensures answer { OnOk result (writing.new.answer ≡ writing.old.answer) }
-    ensures done { IfOk result (λ written. written.answer ≡ (if nat_eq (length writing.new.unsent.items) 0 then Some writing.old.answer else None)) }
-    ensures short { AreShort participants.items → IfOk result (λ written. AreShort written.going.participants.items) }
-    ensures full { result ≡ Err refusals.Full → IsPast (writes_go txn writing.old.unsent.items participants.items).participants }
+    ensures replies { IfOk result (λ step. step.replies.items ≡ answer_of txn writing.old.answer writing.new.unsent.items) }
+    ensures short { AreShort participants.old → OnOk result (AreShort participants.new) }
+    ensures full { result ≡ Err refusals.Full → IsPast (writes_go txn writing.old.unsent.items participants.old).participants }
     ensures same { OnErr result (writing.new ≡ writing.old) }
 {
-    let answer = writing.answer.copy()?;
-    let going = writes_step(alloc, txn, participants, &mut writing.unsent)?;
-    let answer = if writing.unsent.is_empty() {
-        Some(answer)
-    } else {
-        None
-    };
-    Ok(Written { going, answer })
+    let replies = heard_of(alloc, txn, participants, writing)?;
+    let letters = writes_step(alloc, txn, participants, &mut writing.unsent)?;
+    Ok(Progress { letters, replies })
 }
 
-/// What became of writes that went out.
-fn wrote(undecided: &mut Undecided, written: Written) -> Progress
-    ensures participants { undecided.new.participants ≡ written.going.participants.items }
-    ensures letters { result.letters ≡ written.going.letters }
-    ensures moves { undecided.new.moves ≡ undecided.old.moves }
-    ensures waits { written.answer ≡ None → (undecided.new.stage ≡ undecided.old.stage) × (result.reply ≡ None) }
-    ensures answered { (answer : AnswerNow) → written.answer ≡ Some answer → (undecided.new.stage ≡ stages.Idle) × (result.reply ≡ Some (Answers answer)) }
+/// The statement is done.
+fn idles(stage: &mut Stage)
+    ensures { stage.new ≡ stages.Idle }
 {
-    let Written { going, answer } = written;
-    let SentOut {
-        participants,
-        letters,
-    } = going;
-    set_participants(undecided, participants);
-    match answer {
-        None => Progress {
-            letters,
-            reply: None,
-        },
-        Some(answer) => {
-            idles(undecided);
-            Progress {
-                letters,
-                reply: Some(Reply::Answer(answer)),
+    *stage = Stage::Idle;
+}
+
+/// What waits for tickets goes out where they have come. With the last write the statement is answered.
+fn stage_goes(
+    alloc: Global,
+    txn: Txn,
+    participants: &mut [Participant],
+    stage: &mut Stage,
+) -> Result<Progress, Refusal>
+    ensures step { (db : Database) (choice : Choice (language db)) (moves : Bool) → IfOk result (λ step. IsProgress db txn (staged participants.new stage.new moves) step
+        (ticket_goes (txn_name txn) (undecided_of db (staged participants.old stage.old moves)) choice (stage_of db participants.old stage.old))) }
+    ensures within { (db : Database) (n : ℕ) (moves : Bool) → IsIn db n (standings.Undecided (staged participants.old stage.old moves)) → OnOk result (IsIn db n (standings.Undecided (staged participants.new stage.new moves))) }
+    ensures short { AreShort participants.old → OnOk result (AreShort participants.new) }
+    ensures full { result ≡ Err refusals.Full → IsPast (goes_to txn participants.old stage.old) }
+    ensures same { OnErr result (stage.new ≡ stage.old) }
+{
+    match stage {
+        Stage::Idle | Stage::Voting => Ok(no_progress(alloc)),
+        Stage::Reading(reading) => {
+            let letters = asks_step(alloc, txn, participants, &mut reading.asks)?;
+            Ok(quiet(alloc, letters))
+        }
+        Stage::Writing(writing) => {
+            let step = writing_goes(alloc, txn, participants, writing)?;
+            if writing.unsent.is_empty() {
+                idles(stage);
             }
+            Ok(step)
         }
     }
 }
@@ -259,24 +260,15 @@ pub(crate) fn ticket_goes(
     ensures sends { SendsOrStays undecided.old undecided.new (goes_to txn (map (changed_at site.now (with_ticket (Some ticket))) undecided.old.participants) undecided.old.stage) result }
 {
     let participants = with_ticket(alloc, undecided.participants.as_slice(), site, ticket)?;
-    match &mut undecided.stage {
-        Stage::Idle | Stage::Voting => {
-            set_participants(undecided, participants);
-            Ok(no_progress(alloc))
-        }
-        Stage::Reading(reading) => {
-            let going = asks_step(alloc, txn, participants, &mut reading.asks)?;
-            set_participants(undecided, going.participants);
-            Ok(Progress {
-                letters: going.letters,
-                reply: None,
-            })
-        }
-        Stage::Writing(writing) => {
-            let written = writing_goes(alloc, txn, participants, writing)?;
-            Ok(wrote(undecided, written))
-        }
-    }
+    let mut participants = participants;
+    let step = stage_goes(
+        alloc,
+        txn,
+        participants.as_mut_slice(),
+        &mut undecided.stage,
+    )?;
+    undecided.participants = Seq::new(participants);
+    Ok(step)
 }
 
 /// What a statement answers, and its writes with their sites.
@@ -306,15 +298,15 @@ pub(crate) fn evaluate(
     if !are_all_parts(fetches, fetched) {
         return Err(Memory);
     }
-    let plan = plan.plan(alloc)?;
+    let nodes = plan.nodes();
     if !statement.is_refragment() {
-        return outcome_of(alloc, catalog, statement, &plan, fetches, fetched);
+        return outcome_of(alloc, catalog, statement, nodes, fetches, fetched);
     }
     // No relation gets another split where no catalogue comes next, so nothing is turned away here.
     let (Statement::Refragment(refragment), Some(next)) = (statement, next) else {
         return Err(Memory);
     };
-    moves_of(alloc, catalog, next, refragment, &plan, fetches, fetched)
+    moves_of(alloc, catalog, next, refragment, nodes, fetches, fetched)
 }
 
 /// So a statement that leaves the split of each relation as it is.
@@ -322,21 +314,21 @@ fn outcome_of(
     alloc: Global,
     catalog: &Catalog,
     statement: &Statement,
-    plan: &Plan,
+    nodes: &[Node],
     fetches: &[Fetch],
     fetched: &[FetchRows],
 ) -> Result<Worked, Memory>
-    requires fetched { EachRead (λ read. Contains fetches.now read) (shape plan.now) }
-    requires uniform { IsUniform (shape plan.now) }
+    requires fetched { EachRead (λ read. Contains fetches.now read) (plan_of nodes.now) }
+    requires uniform { IsUniform (plan_of nodes.now) }
     requires parts { AllByRecursion (λ read. AreParts read.columns (given fetched.now read.leaf)) fetches.now }
-    ensures answer { IsStatementOf (schemas_of (catalogue_of catalog.now)) statement.now → AreFetchesOf (catalogue_of catalog.now) statement.now fetches.now → FindsAll (catalogue_of catalog.now) statement.now fetches.now (shape plan.now)
+    ensures answer { IsStatementOf (schemas_of (catalogue_of catalog.now)) statement.now → AreFetchesOf (catalogue_of catalog.now) statement.now fetches.now → FindsAll (catalogue_of catalog.now) statement.now fetches.now (plan_of nodes.now)
         → IfOk result (λ worked. (whole : Relations) → FitsSchema (schemas_of (catalogue_of catalog.now)) whole → AreBrought (catalogue_of catalog.now) whole fetches.now (given fetched.now) → worked.answer ≡ (meaning statement.now whole).0) }
-    ensures writes { IsStatementOf (schemas_of (catalogue_of catalog.now)) statement.now → AreFetchesOf (catalogue_of catalog.now) statement.now fetches.now → FindsAll (catalogue_of catalog.now) statement.now fetches.now (shape plan.now)
+    ensures writes { IsStatementOf (schemas_of (catalogue_of catalog.now)) statement.now → AreFetchesOf (catalogue_of catalog.now) statement.now fetches.now → FindsAll (catalogue_of catalog.now) statement.now fetches.now (plan_of nodes.now)
         → IfOk result (λ worked. (whole : Relations) → FitsSchema (schemas_of (catalogue_of catalog.now)) whole → AreBrought (catalogue_of catalog.now) whole fetches.now (given fetched.now)
         → worked.unsent.items ≡ map (unsent_from (catalogue_of catalog.now)) (writes_between (catalogue_of catalog.now) whole (meaning statement.now whole).1)) }
     ensures leaves { IfOk result (λ worked. AreUnsentFrom (catalogue_of catalog.now) worked.unsent.items) }
 {
-    let outcome = work(alloc, catalog, statement, plan, fetches, fetched)?;
+    let outcome = work(alloc, catalog, statement, nodes, fetches, fetched)?;
     let Outcome { answer, writes } = outcome;
     let unsent = unsent_of(alloc, catalog, writes.into_vec())?;
     Ok(Worked { answer, unsent })
@@ -348,21 +340,21 @@ fn moves_of(
     catalog: &Catalog,
     next: &Catalog,
     refragment: &Refragment,
-    plan: &Plan,
+    nodes: &[Node],
     fetches: &[Fetch],
     fetched: &[FetchRows],
 ) -> Result<Worked, Memory>
-    requires fetched { EachRead (λ read. Contains fetches.now read) (shape plan.now) }
-    requires uniform { IsUniform (shape plan.now) }
+    requires fetched { EachRead (λ read. Contains fetches.now read) (plan_of nodes.now) }
+    requires uniform { IsUniform (plan_of nodes.now) }
     requires parts { AllByRecursion (λ read. AreParts read.columns (given fetched.now read.leaf)) fetches.now }
-    ensures answer { IsStatementOf (schemas_of (catalogue_of catalog.now)) (statements.Refragment refragment.now) → AreFetchesOf (catalogue_of catalog.now) (statements.Refragment refragment.now) fetches.now → FindsAll (catalogue_of catalog.now) (statements.Refragment refragment.now) fetches.now (shape plan.now)
+    ensures answer { IsStatementOf (schemas_of (catalogue_of catalog.now)) (statements.Refragment refragment.now) → AreFetchesOf (catalogue_of catalog.now) (statements.Refragment refragment.now) fetches.now → FindsAll (catalogue_of catalog.now) (statements.Refragment refragment.now) fetches.now (plan_of nodes.now)
         → IfOk result (λ worked. (whole : Relations) → FitsSchema (schemas_of (catalogue_of catalog.now)) whole → AreBrought (catalogue_of catalog.now) whole fetches.now (given fetched.now) → worked.answer ≡ (meaning (statements.Refragment refragment.now) whole).0) }
-    ensures moves { IsStatementOf (schemas_of (catalogue_of catalog.now)) (statements.Refragment refragment.now) → AreFetchesOf (catalogue_of catalog.now) (statements.Refragment refragment.now) fetches.now → FindsAll (catalogue_of catalog.now) (statements.Refragment refragment.now) fetches.now (shape plan.now)
+    ensures moves { IsStatementOf (schemas_of (catalogue_of catalog.now)) (statements.Refragment refragment.now) → AreFetchesOf (catalogue_of catalog.now) (statements.Refragment refragment.now) fetches.now → FindsAll (catalogue_of catalog.now) (statements.Refragment refragment.now) fetches.now (plan_of nodes.now)
         → IfOk result (λ worked. (whole : Relations) → FitsSchema (schemas_of (catalogue_of catalog.now)) whole → AreBrought (catalogue_of catalog.now) whole fetches.now (given fetched.now)
         → worked.unsent.items ≡ map unsent_by (moves_between (catalogue_of catalog.now) (catalogue_of next.now) refragment.now.relation.name (rows_of whole refragment.now.relation.name))) }
     ensures leaves { IfOk result (λ worked. AreUnsentBy (catalogue_of catalog.now) (catalogue_of next.now) worked.unsent.items) }
 {
-    let made = work::refragment(alloc, catalog, next, refragment, plan, fetches, fetched)?;
+    let made = work::refragment(alloc, catalog, next, refragment, nodes, fetches, fetched)?;
     let unsent = unsent_by(alloc, made.moves)?;
     Ok(Worked {
         answer: made.answer,
@@ -385,34 +377,38 @@ fn writes_begin(
 {
     let sites = send::write_sites(alloc, unsent.as_slice())?;
     let letters = send::opens(alloc, txn, participants, sites.as_slice())?;
-    let visited = send::visited(alloc, participants, sites.as_slice())?;
-    let going = writes_step(alloc, txn, visited, unsent)?;
+    let mut visited = send::visited(alloc, participants, sites.as_slice())?;
+    let more = writes_step(alloc, txn, visited.as_mut_slice(), unsent)?;
     Ok(SentOut {
-        participants: going.participants,
-        letters: joined(letters, going.letters)?,
+        participants: visited,
+        letters: joined(letters, more)?,
     })
 }
 
 /// The answer is given where no write waits.
 fn put_writes(
-    undecided: &mut Undecided,
-    participants: Vec<Participant>,
+    alloc: Global,
+    txn: Txn,
+    stage: &mut Stage,
     answer: Answer,
-    unsent: Vec<Unsent>,
-) -> Option<Reply>
-    ensures participants { undecided.new.participants ≡ participants.items }
-    ensures moves { undecided.new.moves ≡ undecided.old.moves }
-    ensures answered { unsent.items ≡ [] → (undecided.new.stage ≡ stages.Idle) × (result ≡ Some (Answers answer)) }
-    ensures waits { (first : UnsentNow) (rest : List UnsentNow) → unsent.items ≡ first ∷ rest
-        → (undecided.new.stage ≡ stages.Writing (record { answer = answer; unsent = unsent })) × (result ≡ None) }
+    waiting: Vec<Unsent>,
+) -> Result<Vec<Notice>, Memory>
+    ensures replies { IfOk result (λ replies. replies.items ≡ answer_of txn answer waiting.items) }
+    ensures answered { waiting.items ≡ [] → OnOk result (stage.new ≡ stages.Idle) }
+    ensures waits { (first : UnsentNow) (rest : List UnsentNow) → waiting.items ≡ first ∷ rest
+        → OnOk result (stage.new ≡ stages.Writing (record { answer = answer; unsent = waiting })) }
+    ensures same { OnErr result (stage.new ≡ stage.old) }
 {
-    undecided.participants = Seq::new(participants);
-    if unsent.is_empty() {
-        undecided.stage = Stage::Idle;
-        return Some(Reply::Answer(answer));
+    if waiting.is_empty() {
+        let replies = heard(alloc, txn, Reply::Answer(answer))?;
+        idles(stage);
+        return Ok(replies);
     }
-    undecided.stage = Stage::Writing(Writing { answer, unsent });
-    None
+    *stage = Stage::Writing(Writing {
+        answer,
+        unsent: waiting,
+    });
+    Ok(Vec::new(alloc))
 }
 
 /// A statement is evaluated to an answer and writes.
@@ -428,12 +424,19 @@ pub(crate) fn works(
     ensures within { (db : Database) (n : ℕ) → sites_of undecided.old.participants ≡ db.sites → UnsentAtHome db unsent.items → OnOk result (IsIn db n (standings.Undecided undecided.new)) }
     ensures sends { SendsOrStays undecided.old undecided.new (writes_go txn unsent.items (visits (write_sites unsent.items) undecided.old.participants)).participants result }
 {
+    if unsent.is_empty() {
+        let replies = put_writes(alloc, txn, &mut undecided.stage, answer, unsent)?;
+        return Ok(Progress {
+            letters: Vec::new(alloc),
+            replies,
+        });
+    }
     let mut unsent = unsent;
     let going = writes_begin(alloc, txn, undecided.participants.as_slice(), &mut unsent)?;
-    let SentOut {
-        participants,
-        letters,
-    } = going;
-    let reply = put_writes(undecided, participants, answer, unsent);
-    Ok(Progress { letters, reply })
+    let replies = put_writes(alloc, txn, &mut undecided.stage, answer, unsent)?;
+    undecided.participants = Seq::new(going.participants);
+    Ok(Progress {
+        letters: going.letters,
+        replies,
+    })
 }

@@ -6,7 +6,7 @@ ghost use Rattle.meaning.specs.Statement.{IsStatementOf};
 ghost use Rattle.catalog.specs.FragmentLeaf.{schemas_of};
 ghost use Rattle.catalog.specs.Relation.{catalogue_of};
 ghost use Rattle.plan.specs.Reduced.{FindsAll};
-ghost use Rattle.plan.specs.Shape.{shape};
+ghost use Rattle.plan.specs.Postfix.{plan_of};
 ghost use Rattle.plan.specs.Stated.{AreFetchesOf};
 ghost use Rattle.plan.specs.Uniform.{EachRead, IsUniform};
 ghost use Rattle.desk.specs.ReducedPlan.{plan_in};
@@ -18,8 +18,7 @@ use meaning::answer::Answer;
 use meaning::statement::Statement;
 use plan::fetch::Fetch;
 use plan::nodes::{ReducedNodes, reduced_nodes};
-use plan::plan::Plan;
-use plan::postfix::{Node, plan_of};
+use plan::postfix::Node;
 use std::alloc::Global;
 use std::collections::BTreeMap;
 use std::marker::Model;
@@ -113,13 +112,13 @@ impl Planned {
         Ok(Planned { nodes, fetches })
     }
 
-    /// The plan.
-    pub(crate) fn plan(&self, alloc: Global) -> Result<Plan, Memory>
-        ensures same { IfOk result (λ plan. shape plan ≡ plan_in self.now) }
-        ensures fetched { IfOk result (λ plan. EachRead (λ read. Contains self.now.fetches read) (shape plan)) }
-        ensures uniform { IfOk result (λ plan. IsUniform (shape plan)) }
+    /// Its nodes, each behind those that it is made of.
+    pub(crate) fn nodes(&self) -> &[Node]
+        ensures same { plan_of result.now ≡ plan_in self.now }
+        ensures fetched { EachRead (λ read. Contains self.now.fetches read) (plan_of result.now) }
+        ensures uniform { IsUniform (plan_of result.now) }
     {
-        plan_of(alloc, self.nodes.as_slice())
+        self.nodes.as_slice()
     }
 
     /// Its fetches.

@@ -122,6 +122,14 @@ pub(crate) fn noticed(room: Vec<Notice>, txn: Txn, reply: Option<Reply>) -> Vec<
     notices
 }
 
+/// This is what a transaction's client hears.
+pub(crate) fn heard(alloc: Global, txn: Txn, reply: Reply) -> Result<Vec<Notice>, Memory>
+    ensures { IfOk result (λ heard. heard.items ≡ notices txn (Some reply)) }
+{
+    let room = room(alloc)?;
+    Ok(noticed(room, txn, Some(reply)))
+}
+
 /// Whether a client hears that its transaction is committed.
 fn says_committed(reply: &Option<Reply>) -> bool
     ensures { result ≡ says_committed reply.now }

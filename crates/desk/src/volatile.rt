@@ -11,10 +11,13 @@ ghost use Rattle.desk.specs.declared.transaction.TxnState.TheVariants as standin
 ghost use Rattle.desk.specs.declared.transaction.TxnState.{TxnState as TxnStateNow};
 ghost use Rattle.desk.specs.declared.transition.After.TheVariants as afters;
 ghost use Rattle.desk.specs.State.{closes, is_open, settled, volatile_from, volatile_of};
+ghost use Rattle.desk.specs.declared.transaction.Undecided.{Undecided as UndecidedNow};
 ghost use Rattle.desk.specs.Begun.{first_of, next_of};
+ghost use Rattle.desk.specs.Commit.{with_counted};
 ghost use Rattle.desk.specs.Transition.{is_moving};
 ghost use Rattle.std.specs.List.{list_any};
 
+use crate::commit::count_in;
 use crate::participant::Participant;
 use crate::refusal::Refusal;
 use crate::transaction::{Stage, TxnState, TxnStates, Undecided};
@@ -22,7 +25,9 @@ use crate::transition::After;
 use std::alloc::Global;
 use std::collections::BTreeMap;
 use store::name::Txn;
+use store::reply::Vote;
 use terms::seq::Seq;
+use terms::text::Text;
 
 /// How many transactions may be undecided.
 const UNDECIDED: u64 = 256;
@@ -104,6 +109,16 @@ fn forget(standings: &mut TxnStates, txn: &Txn)
 {
     let _count = standings.len();
     let _gone = standings.remove(txn);
+}
+
+/// A vote is counted of an undecided transaction.
+fn count_at(standings: &mut TxnStates, alloc: Global, txn: &Txn, site: &Text, vote: Vote)
+    ensures { (old : UndecidedNow) → tree.get txn_cmp standings.old txn.now ≡ Some (standing.Undecided old)
+        → standings.new.entries ≡ set_value (is_at (txn_cmp txn.now)) standings.old.entries (standing.Undecided (with_counted site.now vote old)) }
+{
+    if let Some(standing) = standings.get_mut(txn) {
+        count_in(alloc, standing, site, vote);
+    }
 }
 
 impl Volatile {
@@ -217,6 +232,16 @@ impl Volatile {
             After::Ends => forget(&mut self.standings, txn),
             After::Becomes(standing) => put(&mut self.standings, txn, standing),
         }
+    }
+
+    /// A vote is counted of an undecided transaction.
+    pub(crate) fn count(&mut self, txn: &Txn, site: &Text, vote: Vote)
+        ensures counted { (old : UndecidedNow) → (volatile_of self.old).standing txn.now ≡ Some (standing.Undecided old)
+            → volatile_of self.new ≡ volatile_from (set_value (is_at (txn_cmp txn.now)) self.old.standings.entries (standing.Undecided (with_counted site.now vote old))) self.old.undecided self.old.life self.old.number self.old.version }
+        ensures ordered { IsOrdered txn_cmp self.old.standings }
+    {
+        let _count = self.standings.len();
+        count_at(&mut self.standings, self.alloc, txn, site, vote);
     }
 
     /// What was in memory is lost, and another life has begun: what stands now are decided transactions.

@@ -29,13 +29,11 @@ use Rattle.catalog.specs.Formed.{IsFormed, IsFormedRelation}
 use Rattle.catalog.specs.FragmentLeaf.{catalogue_leaves, leaf_named, schemas_of}
 use Rattle.catalog.specs.Laws.{LeafNamesAreUnique}
 use Rattle.plan.specs.declared.fetch.Fetch.{Fetch}
-use Rattle.plan.specs.declared.reduce.Reduced.{Reduced}
+use Rattle.plan.specs.declared.nodes.ReducedNodes.{ReducedNodes}
 use Rattle.plan.specs.Given.{AreBrought}
 use Rattle.plan.specs.Need.{places_to}
 use Rattle.plan.specs.Reduced.{FindsAll}
-use Rattle.plan.specs.Postfix.{postfix}
-use Rattle.plan.specs.Shape.{shape}
-use Rattle.plan.proofs.Postfixed.{plan_is}
+use Rattle.plan.specs.Postfix.{plan_of}
 use Rattle.plan.specs.Stated.{AreFetchesOf}
 use Rattle.plan.proofs.JoinFound.{fits_long}
 use Rattle.answers.specs.declared.table.FetchRows.{FetchRows}
@@ -152,13 +150,13 @@ module _ (db : Database) (n : ℕ) (whole : Relations) where
   all_brought [] = refl
   all_brought (fetch ∷ fetches) = ap (λ rest. record { leaf = fetch.leaf; parts = parts fetch.conds (db.content n (placed_in (db.catalogue n) fetch.leaf) whole) } ∷ rest) (all_brought fetches)
 
-pub are_all_brought : (catalogue : Catalogue) → IsBase (database catalogue) → LeafNamesAreUnique → (stated : Statement) (reduced : Reduced) (whole : Relations) → IsStatementOf (schemas_of catalogue) stated → is_refragment stated ≡ false → AreFetchesOf catalogue stated reduced.fetches.items → FindsAll catalogue stated reduced.fetches.items (shape reduced.plan) →
+pub are_all_brought : (catalogue : Catalogue) → IsBase (database catalogue) → LeafNamesAreUnique → (stated : Statement) (reduced : ReducedNodes) (whole : Relations) → IsStatementOf (schemas_of catalogue) stated → is_refragment stated ≡ false → AreFetchesOf catalogue stated reduced.fetches.items → FindsAll catalogue stated reduced.fetches.items (plan_of reduced.nodes.items) →
     FitsSchema (schemas_of catalogue) whole → (rows : List FetchRows) → rows ≡ map (brought_of catalogue whole) reduced.fetches.items → AreBrought catalogue whole reduced.fetches.items (given rows)
 are_all_brought catalogue base unique stated reduced whole of stays fetches finds fits rows are =
     let db = database catalogue in
     let asks = map (ghost_ask db 0 whole) reduced.fetches.items in
-    let plan : ReducedPlan = record { nodes = postfix (shape reduced.plan); fetches = reduced.fetches.items } in
-    let planned : IsOfPlan db 0 stated plan asks = record { statement = stated_plainly db 0 stated (record { of_schemas = of; stays = stays }); fetches = fetches; finds = subst (FindsAll catalogue stated reduced.fetches.items) (sym (plan_is (shape reduced.plan))) finds; in_order = in_order db 0 whole reduced.fetches.items } in
+    let plan : ReducedPlan = record { nodes = reduced.nodes.items; fetches = reduced.fetches.items } in
+    let planned : IsOfPlan db 0 stated plan asks = record { statement = stated_plainly db 0 stated (record { of_schemas = of; stays = stays }); fetches = fetches; finds = finds; in_order = in_order db 0 whole reduced.fetches.items } in
     subst (λ rs. AreBrought catalogue whole reduced.fetches.items (given rs)) (all_brought db 0 whole reduced.fetches.items ∙ sym are)
     (are_brought db base.of_catalogue 0 unique stated plan asks planned whole fits (all_given db 0 whole reduced.fetches.items))
 

@@ -30,6 +30,7 @@ use store::desk_store::DeskStore;
 use store::fault::StoreFault;
 use store::letter::Letter;
 use store::site_store::SiteStore;
+use terms::seq::Seq;
 
 /// The letters that wait, oldest first, and what the client has heard.
 #[derive(Drop)]
@@ -138,17 +139,34 @@ impl Post {
         if is_unsure {
             return Err(Refusal::Store(StoreFault::Refused));
         }
-        let mut letters = VecDeque::from_vec(out.letters.into_vec());
-        if self.waiting.append(&mut letters).is_err() {
-            return Err(Refusal::Memory);
-        }
-        if out.replies.as_slice().is_empty() {
+        let Out {
+            letters,
+            replies,
+            ..
+        } = out;
+        wait_behind(&mut self.waiting, letters)?;
+        if replies.as_slice().is_empty() {
             return Ok(());
         }
-        if self.heard.append(&mut out.replies.into_vec()).is_err() {
+        if self.heard.append(&mut replies.into_vec()).is_err() {
             return Err(Refusal::Memory);
         }
         Ok(())
+    }
+}
+
+/// Letters wait behind others.
+fn wait_behind(waiting: &mut VecDeque<Letter>, letters: Seq<Letter>) -> Result<(), Refusal>
+    ensures waiting { OnOk result (waiting.new.items ≡ waiting.old.items ++ letters) }
+    ensures own { IfErr result (λ refusal. refusal ≡ refusals.Memory) }
+{
+    if letters.as_slice().is_empty() {
+        return Ok(());
+    }
+    let mut letters = VecDeque::from_vec(letters.into_vec());
+    match waiting.append(&mut letters) {
+        Ok(()) => Ok(()),
+        Err(_) => Err(Refusal::Memory),
     }
 }
 

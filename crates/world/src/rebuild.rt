@@ -31,7 +31,7 @@ ghost use Rattle.catalog.specs.FragmentLeaf.{schemas_of};
 ghost use Rattle.plan.specs.Given.{AreBrought};
 ghost use Rattle.plan.specs.Need.{places_to};
 ghost use Rattle.plan.specs.Reduced.{FindsAll};
-ghost use Rattle.plan.specs.Shape.{shape};
+ghost use Rattle.plan.specs.Postfix.{plan_of};
 ghost use Rattle.plan.specs.Stated.{AreFetchesOf};
 ghost use Rattle.plan.specs.Uniform.{EachRead, IsUniform};
 ghost use Rattle.answers.specs.Table.{AreParts, given};
@@ -50,8 +50,7 @@ use meaning::schema::{Column, RelationSchema};
 use meaning::statement::{Select, Source, Statement};
 use plan::fetch::Fetch;
 use plan::laws::contents_ascend;
-use plan::localize::localize;
-use plan::reduce::{Reduced, fetches, reduce};
+use plan::nodes::{ReducedNodes, reduced_nodes};
 use site::fault::SiteFault;
 use site::site::Site;
 use std::alloc::Global;
@@ -280,38 +279,27 @@ fn bring<D: DeskStore, S: SiteStore>(
     Ok(brought)
 }
 
-/// The reduced plan of a statement.
-fn planned(alloc: Global, catalog: &Catalog, statement: &Statement) -> Result<Reduced, Memory>
-    requires { IsStatementOf (schemas_of (catalogue_of catalog.now)) statement.now }
-    ensures fetches { IfOk result (λ less. AreFetchesOf (catalogue_of catalog.now) statement.now less.fetches.items) }
-    ensures finds { IfOk result (λ less. FindsAll (catalogue_of catalog.now) statement.now less.fetches.items (shape less.plan)) }
-    ensures fetched { IfOk result (λ less. EachRead (λ read. Contains less.fetches.items read) (shape less.plan)) }
-    ensures uniform { IfOk result (λ less. IsUniform (shape less.plan)) }
-{
-    let plan = localize(alloc, catalog, statement)?;
-    reduce(alloc, catalog, statement, plan)
-}
-
 /// What a statement answers by what its fetches brought.
 fn answer(
     alloc: Global,
     catalog: &Catalog,
     statement: &Statement,
-    reduced: &Reduced,
+    reduced: &ReducedNodes,
     brought: &[FetchRows],
 ) -> Result<Answer, Fault>
-    requires fetched { EachRead (λ read. Contains reduced.now.fetches.items read) (shape reduced.now.plan) }
-    requires uniform { IsUniform (shape reduced.now.plan) }
+    requires fetched { EachRead (λ read. Contains reduced.now.fetches.items read) (plan_of reduced.now.nodes.items) }
+    requires uniform { IsUniform (plan_of reduced.now.nodes.items) }
     ensures sent { result ≢ Err faults.Unsent }
-    ensures answer { IsStatementOf (schemas_of (catalogue_of catalog.now)) statement.now → AreFetchesOf (catalogue_of catalog.now) statement.now reduced.now.fetches.items → FindsAll (catalogue_of catalog.now) statement.now reduced.now.fetches.items (shape reduced.now.plan)
+    ensures answer { IsStatementOf (schemas_of (catalogue_of catalog.now)) statement.now → AreFetchesOf (catalogue_of catalog.now) statement.now reduced.now.fetches.items → FindsAll (catalogue_of catalog.now) statement.now reduced.now.fetches.items (plan_of reduced.now.nodes.items)
         → IfOk result (λ answer. (whole : Relations) → FitsSchema (schemas_of (catalogue_of catalog.now)) whole → AreBrought (catalogue_of catalog.now) whole reduced.now.fetches.items (given brought.now) → answer ≡ (meaning statement.now whole).0) }
     ensures fails { AllByRecursion (λ read. AreParts read.columns (given brought.now read.leaf)) reduced.now.fetches.items → IfErr result (λ fault. fault ≡ faults.Desk refusals.Memory) }
 {
-    let reads = fetches(reduced);
+    let reads = reduced.fetches.as_slice();
     if !are_all_parts(reads, brought) {
         return Err(Fault::Site(SiteFault::Store(StoreFault::Damaged)));
     }
-    Ok(work(alloc, catalog, statement, &reduced.plan, reads, brought)?.answer)
+    let nodes = reduced.nodes.as_slice();
+    Ok(work(alloc, catalog, statement, nodes, reads, brought)?.answer)
 }
 
 /// The rows of an answer.
@@ -343,9 +331,9 @@ fn answer_settled<D: DeskStore, S: SiteStore>(
     contents_ascend();
     database_is_of_catalogue(machines.desk.catalog());
     let alloc = machines.alloc;
-    let reduced = planned(alloc, machines.desk.catalog(), statement)?;
+    let reduced = reduced_nodes(alloc, machines.desk.catalog(), statement)?;
     let decided = decided(machines)?;
-    let brought = bring(machines, decided.as_slice(), fetches(&reduced))?;
+    let brought = bring(machines, decided.as_slice(), reduced.fetches.as_slice())?;
     answer(
         alloc,
         machines.desk.catalog(),

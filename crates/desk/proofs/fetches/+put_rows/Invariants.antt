@@ -1,4 +1,4 @@
--- What `bringing::put_rows` counts down.
+-- What `put_rows` counts down.
 use Rattle.std.proofs.Common.{length}
 use Rattle.desk.proofs.fetches.+put_rows.Given as goal
 

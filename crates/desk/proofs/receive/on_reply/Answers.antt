@@ -21,7 +21,7 @@ returns-in-Ok-clause-ok c = λ db kept of same next fits among.
     let at = sym (any_mapped (λ other. pointwise nat_eq other c.args.site.now) (λ s. s.site) stands.0.participants) ∙ ap (list_any (λ other. pointwise nat_eq other c.args.site.now)) known.0 ∙ among in
     takes_on db kept volatile c.resume.ensures.ordered fits c.args.txn stands.0 stands.1 (λ choice. on_desk_letter (txn_name c.args.txn) c.args.site.now true choice (replied db c.args.site.now c.args.reply.now) (txn_in db (volatile_of volatile) c.args.txn)) (volatile_of c.resume.new.volatile) c.in-Ok.step
     (c.in-Ok.ensures.resume_on db kept stands.0 of same next fits stands.1 at)
-    (λ choice. letter_keeps (txn_name c.args.txn) choice c.args.site.now true (replied db c.args.site.now c.args.reply.now) (txn_in db (volatile_of volatile) c.args.txn)) c.put_out.result.letters c.put_out.result.replies c.put_out.ensures.letters (c.put_out.ensures.replies c.in_ok-room.ensures.empty)
+    (λ choice. letter_keeps (txn_name c.args.txn) choice c.args.site.now true (replied db c.args.site.now c.args.reply.now) (txn_in db (volatile_of volatile) c.args.txn)) c.put_out.result.letters c.put_out.result.replies c.put_out.ensures.letters c.put_out.ensures.replies
 
 pub returns-in-Err-clause-full : goal.returns-in-Err-clause-full
 returns-in-Err-clause-full c = λ db kept of same next fits among full.

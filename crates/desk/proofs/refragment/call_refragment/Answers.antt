@@ -1,13 +1,15 @@
 -- Why `call_refragment` meets its contract.
-use Rattle.std.proofs.Common.{refl, ◌≡◌, true, ap, sym, ◌∙◌, subst, suc}
+use Rattle.std.proofs.Common.{refl, ◌≡◌, true, Some, ◌++◌, ap, sym, ◌∙◌, subst, suc}
 use Rattle.reader.specs.Printable.{AreDistinct}
 use Rattle.meaning.specs.declared.statement.Statement.TheVariants as statements
 use Rattle.meaning.specs.Statement.{IsStatementOf}
 use Rattle.catalog.specs.Chain.{IsNext}
 use Rattle.catalog.specs.FragmentLeaf.{schemas_of}
 use Rattle.catalog.specs.Relation.{catalogue_of}
+use Rattle.desk.specs.declared.reply.Reply.TheVariants as reply
 use Rattle.desk.specs.OfCatalogue.{InForce, IsNextOf}
 use Rattle.desk.specs.Refragmented.{Refragments}
+use Rattle.desk.specs.Request.{notices}
 use Rattle.desk.specs.State.{volatile_of}
 use Rattle.desk.proofs.Beginning.{past_limit}
 use Rattle.desk.proofs.Refragmenting.{begun_are, begun_idle, begun_is, begun_short, no_keys, refragments_by, stated_by}
@@ -29,11 +31,11 @@ returns-clause-ok c = λ db kept of same next fits.
     let old = c.begun-undecided.result in
     let old_is = begun_is old c.in_ok-participants.participants.items sites c.begun-undecided.ensures c.in_ok-participants.ensures in
     let distinct : AreDistinct db.sites = subst AreDistinct (sym (of.sites n)) (of.formed n).distinct in
-    subst (λ r. Refragments db (volatile_of p) kept (volatile_of c.begin.new.self) r c.put_out.result.letters c.put_out.result.replies) c.in_ok-copy.ensures
+    subst (λ r. Refragments db (volatile_of p) kept (volatile_of c.begin.new.self) r c.out_of_begin.result.letters c.out_of_begin.result.replies) c.in_ok-copy.ensures
     (refragments_by db kept p.standings.entries p.undecided p.life p.number n (c.is_alone.ensures.yes c.if-not-is_alone.false) fits sites those copy is_next c.in_ok-txn-2.ensures.few c.in_ok-txn-2.ensures.low
     c.in_ok-participants.participants.items c.in_ok-participants.ensures old c.start.new.undecided c.begun-undecided.ensures c.in_ok-txn.txn c.in_ok-txn-2.txn c.in_ok-txn.ensures.txn c.in_ok-txn-2.ensures.txn c.in_ok-step.step
     (c.in_ok-step.ensures.does db of same (begun_are db old sites old_is those distinct) (begun_idle old sites old_is) (stated_by db of n (catalogue_of c.args.catalog.now) same copy fits_schema is_next))
-    (c.in_ok-step.ensures.short (begun_short old sites old_is)) (volatile_of c.begin.new.self) c.in_ok-txn-2.ensures.ok c.put_out.result.letters c.put_out.result.replies c.put_out.ensures.letters (c.put_out.ensures.replies c.in_ok-room.ensures.empty))
+    (c.in_ok-step.ensures.short (begun_short old sites old_is)) (volatile_of c.begin.new.self) c.in_ok-txn-2.ensures.ok c.out_of_begin.result.letters c.out_of_begin.result.replies c.out_of_begin.ensures.letters (c.out_of_begin.ensures.replies c.in_ok-room.ensures.empty ∙ ap (λ l. notices c.in_ok-txn-2.txn (Some reply.Begun) ++ l) (sym c.in_ok-step.ensures.quiet)))
 
 pub returns-in_err-txn-clause-full : goal.returns-in_err-txn-clause-full
 returns-in_err-txn-clause-full c = λ db kept fits full.

@@ -9,7 +9,7 @@ returns-in-Ok-clause-ok c = λ db kept over fits.
     let p = c.args.volatile.now in
     let none : anyone_moves (volatile_of p) ≡ false = sym (anyone_is p.standings.entries c.moves.ensures.ordered) ∙ sym c.moves.ensures.moves ∙ c.if-moves.false in
     begins db kept p.standings.entries p.undecided p.life p.number p.version fits c.args.sites.now over.sites false (calm_all db kept (volatile_of p) fits none) (λ moves. cc) (volatile_of c.begin.new.self) c.in_ok-participants.participants.items c.in-Ok.txn c.out_of_begin.result.letters c.out_of_begin.result.replies
-    c.in_ok-participants.ensures (search rules) c.in-Ok.ensures.few c.in-Ok.ensures.low c.in-Ok.ensures.txn c.out_of_begin.ensures.letters (c.out_of_begin.ensures.replies c.in_ok-room.ensures.empty)
+    c.in_ok-participants.ensures (search rules) c.in-Ok.ensures.few c.in-Ok.ensures.low c.in-Ok.ensures.txn (search rules) (c.out_of_begin.ensures.replies c.in_ok-room.ensures.empty)
 
 pub returns-in-Ok-clause-accepted : goal.returns-in-Ok-clause-accepted
 returns-in-Ok-clause-accepted c = sym (anyone_is c.args.volatile.now.standings.entries c.moves.ensures.ordered) ∙ sym c.moves.ensures.moves ∙ c.if-moves.false

@@ -29,14 +29,14 @@ returns-in-Ok-clause-ok c = λ db kept of same fits.
       ordinary = sym c.is_refragment.ensures ∙ c.if-is_refragment.false;
       choice = goes.does.choice;
       steps = steps_on db kept volatile c.start.ensures.ordered fits c.args.txn stands.0 stands.1 (λ choice. on_request (txn_name c.args.txn) choice (State (volatile.version, statement)) (txn_in db (volatile_of volatile) c.args.txn)) (volatile_of c.start.new.volatile) c.in-Ok.step goes
-          (λ choice. request_keeps (txn_name c.args.txn) choice (State (volatile.version, statement)) (txn_in db (volatile_of volatile) c.args.txn)) c.put_out.result.letters c.put_out.result.replies c.put_out.ensures.letters (c.put_out.ensures.replies c.in_ok-room.ensures.empty);
+          (λ choice. request_keeps (txn_name c.args.txn) choice (State (volatile.version, statement)) (txn_in db (volatile_of volatile) c.args.txn)) c.put_out.result.letters c.put_out.result.replies c.put_out.ensures.letters c.put_out.ensures.replies;
       explained = goes.does.explained;
       placed = goes.does.placed;
     }
 
 pub returns-in_err-may_state-clause-told : goal.returns-in_err-may_state-clause-told
 returns-in_err-may_state-clause-told c = λ db.
-    let is : c.from_residual-in_err-may_state.result ≡ Err c.in_err-may_state.field-0.0 = search rules in
+    let is : c.from_residual.result ≡ Err c.in_err-may_state.field-0.0 = search rules in
     told_by _ _ _ _ _ is (c.in_err-may_state.ensures.told db c.args.statement)
 
 pub returns-in-Err-clause-full : goal.returns-in-Err-clause-full

@@ -1,5 +1,5 @@
 -- Why `statement_or_read` meets its contract.
-use Rattle.std.proofs.Common.{Option, Some, IfSome, subst}
+use Rattle.std.proofs.Common.{Option, IfSome, subst}
 use Rattle.meaning.specs.declared.statement.Statement.{Statement}
 use Rattle.catalog.specs.FragmentLeaf.{schemas_of}
 use Rattle.catalog.specs.Relation.{catalogue_of}

@@ -1,14 +1,9 @@
 -- Why `asks_step` meets its contract.
-use Rattle.std.proofs.Common.{rules, ◌≡◌, ◌∙◌, ap, take, drop, ◌++◌, length}
-use Rattle.desk.specs.Send.{with_numbers}
-use Rattle.desk.proofs.Operations.{numbered_back}
+use Rattle.std.proofs.Common.{rules, ◌≡◌}
+use Rattle.desk.proofs.Operations.{on_err, written_same}
 use Rattle.desk.proofs.send.asks_step.Goals as goal
 
-pub returns-clause-left : goal.returns-clause-left
-returns-clause-left c =
-    let items = c.args.asks.now.items in
-    let new = c.set_numbers.new.asks in
-    let numbers = c.in_ok-out.ensures.numbers in
-    let size : c.args.asks.now.len ≡ length items = search rules in
-    let is : new ≡ with_numbers items c.in_ok-out.out.numbers.items = search rules in
-    ap (λ n. take n (new ++ drop (length new) items)) size ∙ numbered_back c.args.txn items c.args.participants.items c.in_ok-out.out.numbers.items new (search rules) is
+pub returns-in_err-asks_out-clause-same : goal.returns-in_err-asks_out-clause-same
+returns-in_err-asks_out-clause-same c =
+    let same : c.asks_out.new.asks ≡ c.args.asks.now.items = search rules in
+    on_err c.from_residual.result (written_same c.args.asks.now c.asks_out.new.asks same)

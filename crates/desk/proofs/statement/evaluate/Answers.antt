@@ -4,7 +4,7 @@ use Rattle.std.specs.List.{Contains}
 use Rattle.std.specs.Option.{option_copied}
 use Rattle.catalog.specs.Relation.{catalogue_of}
 use Rattle.plan.specs.declared.fetch.Fetch.{Fetch}
-use Rattle.plan.specs.Shape.{shape}
+use Rattle.plan.specs.Postfix.{plan_of}
 use Rattle.plan.specs.Uniform.{EachRead}
 use Rattle.meaning.specs.declared.statement.Statement.TheVariants as statements
 use Rattle.desk.specs.OfCatalogue.{InForce, IsNextOf}
@@ -23,15 +23,15 @@ returns-then-not-is_refragment-clause-participants c = λ db n participants of s
 pub returns-then-not-is_refragment-clause-explained : goal.returns-then-not-is_refragment-clause-explained
 returns-then-not-is_refragment-clause-explained c = λ db n t asks rows of same next planned.
     worked_ok db of n c.leaf_names_are_unique.ensures c.args.statement.now c.args.plan.now asks planned t (catalogue_of c.args.catalog.now) same c.args.fetched.now rows c.outcome_of.result
-    c.fetches-fetches.result.now c.fetches-fetches.ensures (shape c.in_ok-plan.plan) c.in_ok-plan.ensures.same (sym c.is_refragment.ensures ∙ c.if-not-is_refragment.true) c.outcome_of.ensures.answer c.outcome_of.ensures.writes
+    c.fetches-fetches.result.now c.fetches-fetches.ensures (plan_of c.nodes-nodes.result.now) c.nodes-nodes.ensures.same (sym c.is_refragment.ensures ∙ c.if-not-is_refragment.true) c.outcome_of.ensures.answer c.outcome_of.ensures.writes
 
 pub outcome_of-requires-clause-fetched : goal.outcome_of-requires-clause-fetched
 outcome_of-requires-clause-fetched c =
-    subst (λ (fetches : List Fetch). EachRead (λ read. Contains fetches read) (shape c.in_ok-plan.plan)) (sym c.fetches-fetches.ensures) c.in_ok-plan.ensures.fetched
+    subst (λ (fetches : List Fetch). EachRead (λ read. Contains fetches read) (plan_of c.nodes-nodes.result.now)) (sym c.fetches-fetches.ensures) c.nodes-nodes.ensures.fetched
 
 pub moves_of-requires-clause-fetched : goal.moves_of-requires-clause-fetched
 moves_of-requires-clause-fetched c =
-    subst (λ (fetches : List Fetch). EachRead (λ read. Contains fetches read) (shape c.in_ok-plan.plan)) (sym c.fetches-fetches.ensures) c.in_ok-plan.ensures.fetched
+    subst (λ (fetches : List Fetch). EachRead (λ read. Contains fetches read) (plan_of c.nodes-nodes.result.now)) (sym c.fetches-fetches.ensures) c.nodes-nodes.ensures.fetched
 
 pub returns-clause-home : goal.returns-clause-home
 returns-clause-home c = λ db n of same next.
@@ -51,4 +51,4 @@ returns-clause-explained c = λ db n t asks rows of same next planned.
     let coming : InForce db (suc n) c.in-Refragment-Some.next.now = subst (IsNextOf db n) there next in
     let is : c.args.statement.now ≡ statements.Refragment c.in-Refragment-Some.refragment = search rules in
     moved_ok db of n c.leaf_names_are_unique.ensures c.args.statement.now c.args.plan.now asks planned t (catalogue_of c.args.catalog.now) same c.args.fetched.now rows c.moves_of.result
-    c.fetches-fetches.result.now c.fetches-fetches.ensures (shape c.in_ok-plan.plan) c.in_ok-plan.ensures.same c.in-Refragment-Some.refragment is (catalogue_of c.in-Refragment-Some.next.now) coming c.moves_of.ensures.answer c.moves_of.ensures.moves
+    c.fetches-fetches.result.now c.fetches-fetches.ensures (plan_of c.nodes-nodes.result.now) c.nodes-nodes.ensures.same c.in-Refragment-Some.refragment is (catalogue_of c.in-Refragment-Some.next.now) coming c.moves_of.ensures.answer c.moves_of.ensures.moves

@@ -8,7 +8,7 @@ use Rattle.desk.proofs.statement.reads.Goals as goal
 
 pub returns-clause-step : goal.returns-clause-step
 returns-clause-step c = λ db choice first rest some are have.
-    reads_is db c.args.txn choice c.args.undecided.now _ (record { version = c.args.version; statement = c.args.statement; plan = c.args.plan; asks = c.args.asks }) first rest some are have (search rules) (record { version = c.args.version; statement = c.args.statement; plan = c.args.plan; asks = c.asks_begin.new.asks }) refl refl (search rules) (search rules) (search rules) _ (search rules) refl
+    reads_is db c.args.txn choice c.args.undecided.now _ (record { version = c.args.version; statement = c.args.statement; plan = c.args.plan; asks = c.args.asks }) first rest some are have (search rules) (record { version = c.args.version; statement = c.args.statement; plan = c.args.plan; asks = c.asks_begin.new.asks }) refl refl (search rules) (search rules) (search rules) _ (search rules) c.quiet.ensures.replies
 
 pub returns-clause-within : goal.returns-clause-within
 returns-clause-within c = λ db those home planned.

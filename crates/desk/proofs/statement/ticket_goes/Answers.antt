@@ -1,74 +1,54 @@
 -- Why `ticket_goes` meets its contract.
-use Rattle.std.proofs.Common.{rules, ◌≡◌, refl, subst, ◌∙◌, map, Some}
-use Rattle.desk.specs.declared.transaction.Stage.TheVariants as stages
-use Rattle.desk.specs.Planned.{IsPlanned}
-use Rattle.desk.specs.Send.{AreShort}
+use Rattle.std.proofs.Common.{rules, ◌≡◌, subst, ap, ◌∙◌, sym, map, Some, take, drop, length, ◌++◌}
+use Rattle.protocol.specs.Desk.{ticket_goes}
+use Rattle.protocol.specs.Letters.{txn_name}
+use Rattle.desk.specs.Database.{language}
+use Rattle.desk.specs.Does.{IsProgress}
 use Rattle.desk.specs.Participants.{changed_at, with_ticket}
-use Rattle.desk.specs.Stepped.{IsAtHome}
-use Rattle.desk.proofs.SentLetters.{ticket_reading, ticket_idle, ticket_wrote}
+use Rattle.desk.specs.Send.{AreShort}
+use Rattle.desk.specs.State.{IsIn}
+use Rattle.desk.specs.Statement.{staged}
+use Rattle.desk.specs.Stepped.{ticketed}
+use Rattle.desk.specs.Transaction.{stage_of, undecided_of}
+use Rattle.desk.specs.declared.transaction.TxnState.TheVariants as standings
+use Rattle.desk.proofs.Operations.{written_back}
+use Rattle.desk.proofs.SentLetters.{ticket_turn}
 use Rattle.desk.proofs.Short.{ticket_short}
-use Rattle.desk.proofs.Within.{reads_in, stays_in, ticket_sites, wrote_in}
+use Rattle.desk.proofs.Within.{ticket_sites}
 use Rattle.desk.proofs.statement.ticket_goes.Goals as goal
 
-pub returns-in_ok-going-in-Reading-clause-step : goal.returns-in_ok-going-in-Reading-clause-step
-returns-in_ok-going-in-Reading-clause-step c = λ db choice there.
-    let is : c.args.undecided.now.stage ≡ stages.Reading c.in-Reading.reading = search rules in
-    ticket_reading db c.args.txn choice c.args.undecided.now _ c.args.site.now c.args.ticket there c.in_ok-participants.participants.items (search rules) (search rules) _ c.in-Reading.reading (record { version = c.in-Reading.reading.version; statement = c.in-Reading.reading.statement; plan = c.in-Reading.reading.plan; asks = c.asks_step.new.asks })
-    is (search rules) refl refl (search rules) (search rules) (search rules) refl
+-- the participants are as they were written
+written : (c : goal.After-drop-undecided) → c.stage_goes.new.participants ≡ c.new.result
+written c =
+    let items = c.in_ok-participants.participants.items in
+    let new = c.stage_goes.new.participants in
+    let size : c.in_ok-participants.participants.len ≡ length items = search rules in
+    let long : length new ≡ length items = search rules in
+    sym (c.new.ensures ∙ ap (λ n. take n (new ++ drop (length new) items)) size ∙ written_back new items long)
 
-pub returns-in_ok-written-in-Writing-clause-step :
-    goal.returns-in_ok-written-in-Writing-clause-step
-returns-in_ok-written-in-Writing-clause-step c = λ db choice there.
-    let is : c.args.undecided.now.stage ≡ stages.Writing c.in-Writing.writing = search rules in
-    ticket_wrote db c.args.txn choice c.args.undecided.now _ c.args.site.now c.args.ticket there c.in_ok-participants.participants.items (search rules) (search rules) _ c.in-Writing.writing c.writing_goes.new.writing
-    is (search rules) (search rules) (search rules) c.in_ok-written-in-Writing.written.answer (search rules) (search rules) (search rules) (search rules)
+pub returns-clause-step : goal.returns-clause-step
+returns-clause-step c = λ db choice there.
+    let u = c.args.undecided.now in
+    let participants = c.as_mut_slice.result.now in
+    let after = c.stage_goes.new.participants in
+    let opened : participants ≡ map (changed_at c.args.site.now (with_ticket (Some c.args.ticket))) u.participants = search rules in
+    let went : IsProgress db c.args.txn (staged after c.stage_goes.new.stage u.moves) c.in_ok-step.step (ticket_goes {L = language db} (txn_name c.args.txn) (undecided_of db (staged participants u.stage u.moves)) choice (stage_of db participants u.stage)) = c.in_ok-step.ensures.step db choice u.moves in
+    subst (λ l. IsProgress db c.args.txn (staged l c.stage_goes.new.stage u.moves) c.in_ok-step.step (ticket_goes {L = language db} (txn_name c.args.txn) (ticketed db u c.args.site.now c.args.ticket) choice (stage_of db u.participants u.stage))) (written c) (subst (IsProgress db c.args.txn (staged after c.stage_goes.new.stage u.moves) c.in_ok-step.step) (ticket_turn db c.args.txn choice u c.args.site.now c.args.ticket there participants opened) went)
 
-pub returns-in-Idle-clause-step : goal.returns-in-Idle-clause-step
-returns-in-Idle-clause-step c = λ db choice there.
-    ticket_idle db c.args.txn choice c.args.undecided.now _ c.args.site.now c.args.ticket there c.in_ok-participants.participants.items (search rules) (search rules) _ (search rules) (search rules) (search rules) (search rules) (search rules)
+pub returns-clause-within : goal.returns-clause-within
+returns-clause-within c = λ db n known.
+    let u = c.args.undecided.now in
+    let participants = c.as_mut_slice.result.now in
+    let opened : participants ≡ map (changed_at c.args.site.now (with_ticket (Some c.args.ticket))) u.participants = search rules in
+    let went : IsIn db n (standings.Undecided (staged c.stage_goes.new.participants c.stage_goes.new.stage u.moves)) =
+    c.in_ok-step.ensures.within db n u.moves (subst (λ l. IsIn db n (standings.Undecided (staged l u.stage u.moves))) (sym opened) (ticket_sites c.args.site.now (Some c.args.ticket) u.participants ∙ known.0, known.1, known.2)) in
+    subst (λ l. IsIn db n (standings.Undecided (staged l c.stage_goes.new.stage u.moves))) (written c) went
 
-pub returns-in_ok-going-in-Reading-clause-within : goal.returns-in_ok-going-in-Reading-clause-within
-returns-in_ok-going-in-Reading-clause-within c = λ db n known.
-    let old = c.args.undecided.now in
-    let reading = c.in-Reading.reading in
-    let opened = map (changed_at c.args.site.now (with_ticket (Some c.args.ticket))) old.participants in
-    let is : old.stage ≡ stages.Reading reading = search rules in
-    let planned = subst (IsPlanned db n) is known.2 in
-    reads_in db n c.args.txn opened (ticket_sites c.args.site.now (Some c.args.ticket) old.participants ∙ known.0) c.set_participants.new.undecided reading.asks.items reading.statement reading.plan (record { version = reading.version; statement = reading.statement; plan = reading.plan; asks = c.asks_step.new.asks })
-    (subst (IsAtHome db) is known.1) planned.1 planned.0 refl refl (search rules) (search rules) (search rules)
-
-pub returns-in_ok-written-in-Writing-clause-within : goal.returns-in_ok-written-in-Writing-clause-within
-returns-in_ok-written-in-Writing-clause-within c = λ db n known.
-    let old = c.args.undecided.now in
-    let writing = c.in-Writing.writing in
-    let opened = map (changed_at c.args.site.now (with_ticket (Some c.args.ticket))) old.participants in
-    let is : old.stage ≡ stages.Writing writing = search rules in
-    wrote_in db n c.args.txn opened (ticket_sites c.args.site.now (Some c.args.ticket) old.participants ∙ known.0) c.wrote.new.undecided writing.unsent.items c.writing_goes.new.writing (subst (IsAtHome db) is known.1) (search rules) (search rules)
-    c.in_ok-written-in-Writing.written.answer writing.answer c.wrote.result.reply (search rules) (search rules) (search rules)
-
-pub returns-in-Idle-clause-within : goal.returns-in-Idle-clause-within
-returns-in-Idle-clause-within c = λ db n known.
-    let old = c.args.undecided.now in
-    let opened = map (changed_at c.args.site.now (with_ticket (Some c.args.ticket))) old.participants in
-    stays_in db n c.args.txn opened (ticket_sites c.args.site.now (Some c.args.ticket) old.participants ∙ known.0) c.set_participants-in-Idle.new.undecided old known (search rules) (search rules)
-
-pub returns-in_ok-going-in-Reading-clause-sends : goal.returns-in_ok-going-in-Reading-clause-sends
-returns-in_ok-going-in-Reading-clause-sends c = record {
-  short = λ short. subst AreShort (search rules) (c.in_ok-going-in-Reading.ensures.short (subst AreShort (search rules) (ticket_short c.args.site.now (Some c.args.ticket) c.args.undecided.now.participants short)));
-  same = tt;
-  full = λ full. cc;
-}
-
-pub returns-in_ok-written-in-Writing-clause-sends : goal.returns-in_ok-written-in-Writing-clause-sends
-returns-in_ok-written-in-Writing-clause-sends c = record {
-  short = λ short. subst AreShort (search rules) (c.in_ok-written-in-Writing.ensures.short (subst AreShort (search rules) (ticket_short c.args.site.now (Some c.args.ticket) c.args.undecided.now.participants short)));
-  same = tt;
-  full = λ full. cc;
-}
-
-pub returns-in-Idle-clause-sends : goal.returns-in-Idle-clause-sends
-returns-in-Idle-clause-sends c = record {
-  short = λ short. subst AreShort (search rules) (ticket_short c.args.site.now (Some c.args.ticket) c.args.undecided.now.participants short);
+pub returns-clause-sends : goal.returns-clause-sends
+returns-clause-sends c = record {
+  short = λ short.
+      let opened : map (changed_at c.args.site.now (with_ticket (Some c.args.ticket))) c.args.undecided.now.participants ≡ c.as_mut_slice.result.now = search rules in
+      subst AreShort (written c) (c.in_ok-step.ensures.short (subst AreShort opened (ticket_short c.args.site.now (Some c.args.ticket) c.args.undecided.now.participants short)));
   same = tt;
   full = λ full. cc;
 }

@@ -2,10 +2,12 @@
 use Rattle.std.proofs.Common.{sym, subst, List}
 use Rattle.std.specs.List.{Contains}
 use Rattle.plan.specs.declared.fetch.Fetch.{Fetch}
-use Rattle.plan.specs.Shape.{shape}
+use Rattle.plan.specs.declared.postfix.Node.{Node}
+use Rattle.plan.specs.Postfix.{plan_of}
 use Rattle.plan.specs.Uniform.{EachRead}
 use Rattle.world.proofs.rebuild.answer.Goals as goal
 
 pub work-requires-clause-fetched : goal.work-requires-clause-fetched
 work-requires-clause-fetched c =
-    subst (λ (fetches : List Fetch). EachRead (λ read. Contains fetches read) (shape c.args.reduced.now.plan)) (sym c.fetches-reads.ensures) c.requires.fetched
+    subst (λ (nodes : List Node). EachRead (λ read. Contains c.as_slice-reads.result.now read) (plan_of nodes)) (sym c.as_slice-nodes.ensures.value)
+    (subst (λ (fetches : List Fetch). EachRead (λ read. Contains fetches read) (plan_of c.args.reduced.now.nodes.items)) (sym c.as_slice-reads.ensures.value) c.requires.fetched)

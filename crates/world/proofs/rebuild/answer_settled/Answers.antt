@@ -7,8 +7,8 @@ use Rattle.catalog.specs.declared.relation.SplitRelation.{SplitRelation}
 use Rattle.catalog.specs.FragmentLeaf.{schemas_of}
 use Rattle.catalog.specs.Relation.{catalogue_of}
 use Rattle.plan.specs.Given.{AreBrought}
+use Rattle.plan.specs.Postfix.{plan_of}
 use Rattle.plan.specs.Reduced.{FindsAll}
-use Rattle.plan.specs.Shape.{shape}
 use Rattle.plan.specs.Stated.{AreFetchesOf}
 use Rattle.answers.specs.Table.{given}
 use Rattle.desk.specs.CatalogueDatabase.{IsBase, database}
@@ -32,18 +32,18 @@ returns-clause-answer g c = λ whole clean sound fit those fits.
     let catalogue = catalogue_of start.desk.catalog in
     let stated = c.args.statement.now in
     let reduced = c.in_ok-reduced.reduced in
-    let rows = c.as_slice-2.result.now in
+    let rows = c.as_slice-3.result.now in
     let decided = c.as_slice.result.now in
-    let fetches = c.fetches.result.now in
+    let fetches = c.as_slice-2.result.now in
     let clean_mid = c.in_ok-brought.ensures.leaves.clean clean in
     let sound_mid = c.in_ok-decided.ensures.leaves.sound clean_mid sound in
     let base = subst (λ x. IsBase (database (catalogue_of x))) c.catalog.ensures c.database_is_of_catalogue.ensures in
     let are = subst (AreDecided (of start).table) (sym c.as_slice.ensures.value) (c.in_ok-decided.ensures.all clean_mid sound fit.rows) in
-    let came = c.as_slice-2.ensures.value ∙ came_so start.desk.catalog mid.desk.catalog (of start) (of mid) whole decided c.in_ok-brought.brought.items fetches c.in_ok-decided.ensures.leaves.catalog (c.in_ok-decided.ensures.same clean_mid sound) (c.in_ok-brought.ensures.brought whole clean sound_mid) fit those are ∙ ap (map (brought_of catalogue whole)) c.fetches.ensures in
+    let came = c.as_slice-3.ensures.value ∙ came_so start.desk.catalog mid.desk.catalog (of start) (of mid) whole decided c.in_ok-brought.brought.items fetches c.in_ok-decided.ensures.leaves.catalog (c.in_ok-decided.ensures.same clean_mid sound) (c.in_ok-brought.ensures.brought whole clean sound_mid) fit those are ∙ ap (map (brought_of catalogue whole)) c.as_slice-2.ensures.value in
     let stated_fetches = subst (λ x. AreFetchesOf (catalogue_of x) stated reduced.fetches.items) c.catalog-2.ensures c.in_ok-reduced.ensures.fetches in
-    let finds = subst (λ x. FindsAll (catalogue_of x) stated reduced.fetches.items (shape reduced.plan)) c.catalog-2.ensures c.in_ok-reduced.ensures.finds in
+    let finds = subst (λ x. FindsAll (catalogue_of x) stated reduced.fetches.items (plan_of reduced.nodes.items)) c.catalog-2.ensures c.in_ok-reduced.ensures.rows in
     let brought = are_all_brought catalogue base c.leaf_names_are_unique.ensures stated reduced whole c.requires.fits c.requires.ordinary stated_fetches finds fits rows came in
-    let Answers : List (List ℕ) × List SplitRelation → Type 0 = λ x. IsStatementOf (schemas_of (catalogue_of x)) stated → AreFetchesOf (catalogue_of x) stated reduced.fetches.items → FindsAll (catalogue_of x) stated reduced.fetches.items (shape reduced.plan) →
+    let Answers : List (List ℕ) × List SplitRelation → Type 0 = λ x. IsStatementOf (schemas_of (catalogue_of x)) stated → AreFetchesOf (catalogue_of x) stated reduced.fetches.items → FindsAll (catalogue_of x) stated reduced.fetches.items (plan_of reduced.nodes.items) →
     IfOk c.answer.result (λ answer. (whole : Relations) → FitsSchema (schemas_of (catalogue_of x)) whole → AreBrought (catalogue_of x) whole reduced.fetches.items (given rows) → answer ≡ (meaning stated whole).0) in
     let answers = subst Answers (c.catalog-3.ensures ∙ c.in_ok-brought.ensures.leaves.catalog ∙ c.in_ok-decided.ensures.leaves.catalog) c.answer.ensures.answer in
     if_ok c.answer.result (λ answer is. is whole fits brought) (answers c.requires.fits stated_fetches finds)
@@ -100,16 +100,16 @@ returns-clause-fails g c = λ whole clean sound fit those fits.
     let catalogue = catalogue_of start.desk.catalog in
     let stated = c.args.statement.now in
     let reduced = c.in_ok-reduced.reduced in
-    let rows = c.as_slice-2.result.now in
+    let rows = c.as_slice-3.result.now in
     let decided = c.as_slice.result.now in
-    let fetches = c.fetches.result.now in
+    let fetches = c.as_slice-2.result.now in
     let clean_mid = c.in_ok-brought.ensures.leaves.clean clean in
     let sound_mid = c.in_ok-decided.ensures.leaves.sound clean_mid sound in
     let base = subst (λ x. IsBase (database (catalogue_of x))) c.catalog.ensures c.database_is_of_catalogue.ensures in
     let are = subst (AreDecided (of start).table) (sym c.as_slice.ensures.value) (c.in_ok-decided.ensures.all clean_mid sound fit.rows) in
-    let came = c.as_slice-2.ensures.value ∙ came_so start.desk.catalog mid.desk.catalog (of start) (of mid) whole decided c.in_ok-brought.brought.items fetches c.in_ok-decided.ensures.leaves.catalog (c.in_ok-decided.ensures.same clean_mid sound) (c.in_ok-brought.ensures.brought whole clean sound_mid) fit those are ∙ ap (map (brought_of catalogue whole)) c.fetches.ensures in
+    let came = c.as_slice-3.ensures.value ∙ came_so start.desk.catalog mid.desk.catalog (of start) (of mid) whole decided c.in_ok-brought.brought.items fetches c.in_ok-decided.ensures.leaves.catalog (c.in_ok-decided.ensures.same clean_mid sound) (c.in_ok-brought.ensures.brought whole clean sound_mid) fit those are ∙ ap (map (brought_of catalogue whole)) c.as_slice-2.ensures.value in
     let stated_fetches = subst (λ x. AreFetchesOf (catalogue_of x) stated reduced.fetches.items) c.catalog-2.ensures c.in_ok-reduced.ensures.fetches in
-    let finds = subst (λ x. FindsAll (catalogue_of x) stated reduced.fetches.items (shape reduced.plan)) c.catalog-2.ensures c.in_ok-reduced.ensures.finds in
+    let finds = subst (λ x. FindsAll (catalogue_of x) stated reduced.fetches.items (plan_of reduced.nodes.items)) c.catalog-2.ensures c.in_ok-reduced.ensures.rows in
     let brought = are_all_brought catalogue base c.leaf_names_are_unique.ensures stated reduced whole c.requires.fits c.requires.ordinary stated_fetches finds fits rows came in
     let before = counts D.refused S.refused start in
     let after = counts D.refused S.refused c.bring.new.machines in

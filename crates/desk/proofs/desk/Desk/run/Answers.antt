@@ -1,5 +1,5 @@
 -- Why `run` meets its contract.
-use Rattle.std.proofs.Common.{◌≡◌, ◌⊎◌, None, true, Err, IfOk, IfErr, sym, subst}
+use Rattle.std.proofs.Common.{◌≡◌, ◌⊎◌, None, true, IfOk, IfErr, sym, subst}
 use Rattle.catalog.specs.FragmentLeaf.{schemas_of}
 use Rattle.catalog.specs.Relation.{catalogue_of}
 use Rattle.meaning.specs.declared.statement.Statement.{Statement}
