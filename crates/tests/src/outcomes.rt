@@ -1,18 +1,18 @@
 //! What statements over fragments answer and write, from parts that are given by hand.
 
 ghost use Rattle.std.specs.List.{Contains};
-ghost use Rattle.plan.specs.Shape.{shape};
+ghost use Rattle.plan.specs.Postfix.{plan_of};
 ghost use Rattle.plan.specs.Uniform.{EachRead, IsUniform};
 
 use crate::catalogues::{EMP_AND_DEPT, ITEM, PAIR};
-use answers::evaluate::{evaluate, evaluate_counted};
+use answers::evaluate::evaluate_counted;
 use answers::finish::{Outcome, finish};
-use answers::table::{FetchRows, are_all_parts};
+use answers::table::{FetchRows, Table, are_all_parts};
 use answers::work::work;
 use catalog::catalogue::Catalog;
+use meaning::statement::Statement;
 use plan::fetch::Fetch;
-use plan::localize::localize;
-use plan::reduce::{Reduced, fetches, reduce};
+use plan::nodes::{ReducedNodes, reduced_nodes};
 use reader::command::Command;
 use reader::print_answer::print_answer;
 use reader::print_statement::print_part;
@@ -77,7 +77,71 @@ fn shown(alloc: Global, outcome: &Outcome) -> Result<String, Memory> {
     Ok(text)
 }
 
-/// What a statement answers and writes by these parts: by `work`, and by `evaluate` and `finish`.
+/// What a statement answers and writes by what its fetches brought.
+fn worked(
+    alloc: Global,
+    catalog: &Catalog,
+    statement: &Statement,
+    less: &ReducedNodes,
+    rows: &[FetchRows],
+) -> Result<Outcome, Memory>
+    requires fetched { EachRead (λ read. Contains less.now.fetches.items read) (plan_of less.now.nodes.items) }
+    requires uniform { IsUniform (plan_of less.now.nodes.items) }
+{
+    let reads = less.fetches.as_slice();
+    if !are_all_parts(reads, rows) {
+        return Err(Memory);
+    }
+    let nodes = less.nodes.as_slice();
+    work(alloc, catalog, statement, nodes, reads, rows)
+}
+
+/// The table of a statement's plan by what its fetches brought, and the steps of its evaluation.
+fn evaluated(alloc: Global, less: &ReducedNodes, rows: &[FetchRows]) -> Result<(Table, u64), Memory>
+    requires fetched { EachRead (λ read. Contains less.now.fetches.items read) (plan_of less.now.nodes.items) }
+    requires uniform { IsUniform (plan_of less.now.nodes.items) }
+{
+    let reads = less.fetches.as_slice();
+    if !are_all_parts(reads, rows) {
+        return Err(Memory);
+    }
+    let nodes = less.nodes.as_slice();
+    evaluate_counted(alloc, nodes, rows)
+}
+
+/// The same by the table, which is evaluated first.
+fn worked_by_table(
+    alloc: Global,
+    catalog: &Catalog,
+    statement: &Statement,
+    less: &ReducedNodes,
+    rows: &[FetchRows],
+) -> Result<Outcome, Memory>
+    requires fetched { EachRead (λ read. Contains less.now.fetches.items read) (plan_of less.now.nodes.items) }
+    requires uniform { IsUniform (plan_of less.now.nodes.items) }
+{
+    let (table, _) = evaluated(alloc, less, rows)?;
+    finish(alloc, catalog, statement, &table)
+}
+
+/// What a statement answers and writes by these parts, as text: by `work`, and by its table.
+fn shown_both(
+    alloc: Global,
+    catalog: &Catalog,
+    statement: &Statement,
+    less: &ReducedNodes,
+    parts: &[Given],
+) -> Result<(String, String), Memory>
+    requires fetched { EachRead (λ read. Contains less.now.fetches.items read) (plan_of less.now.nodes.items) }
+    requires uniform { IsUniform (plan_of less.now.nodes.items) }
+{
+    let rows = brought(alloc, less.fetches.as_slice(), parts)?;
+    let one = worked(alloc, catalog, statement, less, rows.as_slice())?;
+    let other = worked_by_table(alloc, catalog, statement, less, rows.as_slice())?;
+    Ok((shown(alloc, &one)?, shown(alloc, &other)?))
+}
+
+/// So by the texts of the catalogue and of the statement.
 fn outcomes(
     alloc: Global,
     text: &str,
@@ -88,18 +152,8 @@ fn outcomes(
     let Ok(Command::Run(statement)) = read(alloc, statement, catalog.schema()) else {
         return Err(Memory);
     };
-    let plan = localize(alloc, &catalog, &statement)?;
-    let less = reduce(alloc, &catalog, &statement, plan)?;
-    let reads = fetches(&less);
-    let rows = brought(alloc, reads, parts)?;
-    let rows = rows.as_slice();
-    if !are_all_parts(reads, rows) {
-        return Err(Memory);
-    }
-    let one = work(alloc, &catalog, &statement, &less.plan, reads, rows)?;
-    let table = evaluate(alloc, &less.plan, rows)?;
-    let other = finish(alloc, &catalog, &statement, &table)?;
-    Ok((shown(alloc, &one)?, shown(alloc, &other)?))
+    let less = reduced_nodes(alloc, &catalog, &statement)?;
+    shown_both(alloc, &catalog, &statement, &less, parts)
 }
 
 fn is_outcome(alloc: Global, text: &str, statement: &str, parts: &[Given], wanted: &str) -> bool {
@@ -214,24 +268,18 @@ fn put_together(alloc: Global, counts: [i64; 2]) -> Result<(usize, u64), Memory>
     else {
         return Err(Memory);
     };
-    let plan = localize(alloc, &catalog, &statement)?;
-    let less = reduce(alloc, &catalog, &statement, plan)?;
+    let less = reduced_nodes(alloc, &catalog, &statement)?;
     steps_of(alloc, &less, counts)
 }
 
 /// The rows of a reduced plan and the steps of its evaluation, where its leaves have parts at so many first keys.
-fn steps_of(alloc: Global, less: &Reduced, counts: [i64; 2]) -> Result<(usize, u64), Memory>
-    requires fetched { EachRead (λ read. Contains less.now.fetches.items read) (shape less.now.plan) }
-    requires uniform { IsUniform (shape less.now.plan) }
+fn steps_of(alloc: Global, less: &ReducedNodes, counts: [i64; 2]) -> Result<(usize, u64), Memory>
+    requires fetched { EachRead (λ read. Contains less.now.fetches.items read) (plan_of less.now.nodes.items) }
+    requires uniform { IsUniform (plan_of less.now.nodes.items) }
 {
-    let reads = fetches(less);
-    let rows = first_parts(alloc, reads, counts)?;
-    let rows = rows.as_slice();
-    if !are_all_parts(reads, rows) {
-        return Err(Memory);
-    }
-    let (table, steps) = evaluate_counted(alloc, &less.plan, rows)?;
-    Ok((table.rows.as_slice().len(), steps))
+    let rows = first_parts(alloc, less.fetches.as_slice(), counts)?;
+    let (table, steps) = evaluated(alloc, less, rows.as_slice())?;
+    Ok((table.count(), steps))
 }
 
 #[test]
