@@ -1,5 +1,5 @@
 -- Lemmas on the catalogues of files.
-use Rattle.std.proofs.Common.{◌≡◌, ◌<◌, ◌∷◌, ◌++◌, ℕ, Bor, List, [], Option, None, Some, Result, Ok, Err, IfErr, IfOk, IfSome, arith, inl, inr, length, map, refl, subst}
+use Rattle.std.proofs.Common.{◌≡◌, ◌∷◌, ◌++◌, ℕ, Bor, List, [], Option, None, Some, Result, Ok, Err, IfErr, IfOk, IfSome, arith, inl, inr, map, refl, subst}
 use Rattle.catalog.specs.declared.relation.SplitRelation.{SplitRelation}
 use Rattle.catalog.specs.Catalogue.{Catalogue}
 use Rattle.catalog.specs.Relation.{catalogue_of}
@@ -10,9 +10,9 @@ use Rattle.lines.specs.declared.fault.ProgramFault.TheVariants.{Memory}
 use Rattle.lines.specs.CatalogFile as file
 use Rattle.lines.specs.Input.{IsOfInput}
 use Rattle.commands.specs.declared.catalog_files.ChainFault.{ChainFault}
-use Rattle.commands.specs.declared.catalog_files.ChainFault.TheVariants.{Program, Unchained}
+use Rattle.commands.specs.declared.catalog_files.ChainFault.TheVariants.{Closed, Program, Refused, Unchained}
 use Rattle.commands.specs.declared.catalog_files.Source.{Source}
-use Rattle.commands.specs.CatalogFiles.{DoesOver, GivesCatalogues, GivesChain, IsFaultOf, IsSourceOf, fault_of_catalogue, IsUnopened}
+use Rattle.commands.specs.CatalogFiles.{DoesOver, GivesCatalogues, GivesChain, IsFaultOf, IsOfCatalogues, IsSourceOf, fault_of_catalogue, IsUnopened}
 use Rattle.commands.proofs.SoloLemmas.{Keeps-same}
 
 module _ {C : Type 0} (remaining : C → Option (List ℕ)) where
@@ -121,7 +121,25 @@ module _ {C : Type 0} (remaining : C → Option (List ℕ)) where
       IfErr input (λ error. IsOfInput script fault) → IfErr input (λ error. IfSome known (λ bytes. DoesOver remaining file bytes sources old new (λ catalogues. IsUnopened script) result))
   told_unopened {T = T} known input file script sources chain old new fault result told gives of = rw told (unopened T known input file script sources chain old new fault gives of)
 
+  -- no machine is lost while sources are read
+  none_lost : (read : List Catalogue) (sources : List (Source C)) → GivesChain remaining read sources (Err Closed) → ⊥
+  none_lost read [] gives = gives
+  none_lost read (source ∷ sources) (inl stops) = stops
+  none_lost read (source ∷ sources) (inr later) = none_lost (read ++ later.0 ∷ []) sources later.2
+
   -- one catalogue is a chain, so others come next where there is none
-  pub some_next : (catalogue : Catalogue) (sources : List (Source C)) (result : Result (List (List (List ℕ) × List SplitRelation)) ChainFault) → GivesChain remaining (catalogue ∷ []) sources result → result ≡ Err Unchained → 0 < length sources
-  some_next catalogue [] result gives none = absurd (subst (GivesChain remaining (catalogue ∷ []) []) none gives tt)
-  some_next catalogue (source ∷ sources) result gives none = omega arith
+  of_next : (catalogue : Catalogue) (sources : List (Source C)) (fault : ChainFault) → GivesChain remaining (catalogue ∷ []) sources (Err fault) → IsOfCatalogues sources fault
+  of_next catalogue sources (Program fault) gives = tt
+  of_next catalogue sources (Refused fault) gives = tt
+  of_next catalogue [] Unchained gives = absurd (gives tt)
+  of_next catalogue (source ∷ sources) Unchained gives = omega arith
+  of_next catalogue sources Closed gives = absurd (none_lost (catalogue ∷ []) sources gives)
+
+  pub told_next : (catalogue : Catalogue) (sources : List (Source C)) (result : Result (List (List (List ℕ) × List SplitRelation)) ChainFault) → GivesChain remaining (catalogue ∷ []) sources result → IfErr result (IsOfCatalogues sources)
+  told_next catalogue sources (Ok chain) gives = tt
+  told_next catalogue sources (Err fault) gives = of_next catalogue sources fault gives
+
+-- a first catalogue at fault is a fault of catalogues
+pub of_first : {C : Type 0} (sources : List (Source C)) (fault : CatalogFault) → IsOfCatalogues sources (fault_of_catalogue fault)
+of_first sources (catalog.Program fault) = tt
+of_first sources (catalog.Refused fault) = tt

@@ -1,9 +1,10 @@
 -- Lemmas on what the program does of a request.
-use Rattle.std.proofs.Common.{◌≡◌, ◌<◌, ℕ, Bool, true, List, Option, Some, None, Result, Ok, Err, IfErr, IfOk, IfSome, ap, is_err, length, refl, subst, sym}
+use Rattle.std.proofs.Common.{◌≡◌, ℕ, Bool, List, Option, Some, None, Result, Ok, Err, IfErr, IfOk, IfSome, IsErrAnd, subst, sym}
 use Rattle.commands.specs.declared.catalog_files.ChainFault.{ChainFault}
-use Rattle.commands.specs.declared.catalog_files.ChainFault.TheVariants.{Program, Refused, Unchained}
+use Rattle.commands.specs.declared.catalog_files.ChainFault.TheVariants.{Closed, Program, Refused, Unchained}
 use Rattle.commands.specs.declared.catalog_files.Source.{Source}
 use Rattle.lines.specs.declared.outcome.Outcome.{Outcome}
+use Rattle.commands.specs.CatalogFiles.{IsOfCatalogues}
 use Rattle.commands.specs.Perform.{ComesTo, IsStopped, outcome_of_end, outcome_of_fault, outcome_of_script}
 
 -- a command came to this end of a file
@@ -26,20 +27,21 @@ came_idle (Some bytes) (Ok reader) outcome_of Ends end outcome is ended = tt
 came_idle (Some bytes) (Err error) outcome_of Ends end outcome is ended = record { end = end; ended = ended; is = is }
 
 -- a script that did not end well is stopped
-stopped_by : {C : Type 0} (next : List (Source C)) (fault : ChainFault) → (fault ≡ Unchained → 0 < length next) → IsStopped next (outcome_of_fault fault)
-stopped_by next (Program fault) several = tt
-stopped_by next (Refused fault) several = tt
-stopped_by next Unchained several = several refl
+stopped_by : {C : Type 0} (next : List (Source C)) (fault : ChainFault) → IsOfCatalogues next fault → IsStopped next (outcome_of_fault fault)
+stopped_by next (Program fault) of = tt
+stopped_by next (Refused fault) of = tt
+stopped_by next Unchained of = of
+stopped_by next Closed of = of
 
-pub stopped_script : {C : Type 0} (next : List (Source C)) (end : Result Bool ChainFault) (outcome : Outcome) → outcome ≡ outcome_of_script end → is_err end ≡ true → (end ≡ Err Unchained → 0 < length next) → IsStopped next outcome
-stopped_script next (Ok any_refused) outcome is failed several = absurd (cc)
-stopped_script next (Err fault) outcome is failed several = subst (IsStopped next) (sym is) (stopped_by next fault (λ same. several (ap Err same)))
+pub stopped_script : {C : Type 0} (next : List (Source C)) (end : Result Bool ChainFault) (outcome : Outcome) → outcome ≡ outcome_of_script end → IsErrAnd end (IsOfCatalogues next) → IsStopped next outcome
+stopped_script next (Ok any_refused) outcome is failed = absurd failed
+stopped_script next (Err fault) outcome is failed = subst (IsStopped next) (sym is) (stopped_by next fault failed)
 
-pub stopped_end : {C : Type 0} (next : List (Source C)) (end : Result Unit ChainFault) (outcome : Outcome) → outcome ≡ outcome_of_end end → is_err end ≡ true → (end ≡ Err Unchained → 0 < length next) → IsStopped next outcome
-stopped_end next (Ok done) outcome is failed several = absurd (cc)
-stopped_end next (Err fault) outcome is failed several = subst (IsStopped next) (sym is) (stopped_by next fault (λ same. several (ap Err same)))
+pub stopped_end : {C : Type 0} (next : List (Source C)) (end : Result Unit ChainFault) (outcome : Outcome) → outcome ≡ outcome_of_end end → IsErrAnd end (IsOfCatalogues next) → IsStopped next outcome
+stopped_end next (Ok done) outcome is failed = absurd failed
+stopped_end next (Err fault) outcome is failed = subst (IsStopped next) (sym is) (stopped_by next fault failed)
 
 -- what follows where a file can't be opened
-pub on_err : {R E : Type 0} (A B C K : Type 0) (input : Result R E) → (A → B → C) → IfErr input (λ error. A × B × K) → IfErr input (λ error. C × K)
-on_err A B C K (Ok reader) follows so = tt
-on_err A B C K (Err error) follows so = (follows so.0 so.1, so.2)
+pub on_err : {R E : Type 0} (A C K : Type 0) (input : Result R E) → (A → C) → IfErr input (λ error. A × K) → IfErr input (λ error. C × K)
+on_err A C K (Ok reader) follows so = tt
+on_err A C K (Err error) follows so = (follows so.0, so.1)

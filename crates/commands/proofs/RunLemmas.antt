@@ -1,7 +1,6 @@
 -- Lemmas on sessions at once.
-use Rattle.std.proofs.Common.{◌≡◌, ◌∷◌, ◌<◌, [], ℕ, zero, suc, Bool, List, IfErr, IfOk, IfSome, Option, Some, None, Result, Ok, Err, inl, inr, ap, length, map, refl, slice_index_or, subst, sym, arith, ◌∙◌}
+use Rattle.std.proofs.Common.{◌≡◌, ◌∷◌, ◌<◌, [], ℕ, zero, suc, List, IfOk, Option, None, Result, Ok, Err, ap, length, map, refl, slice_index_or, subst, sym, arith, ◌∙◌}
 use Rattle.std.specs.Bool.{⊤}
-use Rattle.std.specs.Borrow.{Bor}
 use Rattle.std.specs.List.{AllZip}
 use Rattle.catalog.specs.declared.relation.SplitRelation.{SplitRelation}
 use Rattle.catalog.specs.Catalogue.{Catalogue}
@@ -25,16 +24,11 @@ use Rattle.history.specs.Catalogues.{HasFrom, IsOfCatalogues}
 use Rattle.history.specs.DeskHistory.{desk_from}
 use Rattle.history.specs.Records.{pasts_in}
 use Rattle.history.specs.Woven.{WeavesListRun}
-use Rattle.commands.specs.declared.catalog_files.ChainFault.{ChainFault}
-use Rattle.commands.specs.declared.catalog_files.Source.{Source}
 use Rattle.commands.specs.declared.conversation.Conversation.{Conversation}
 use Rattle.commands.specs.Conversations.{AreHeld, AreOfParts}
-use Rattle.commands.specs.declared.run_fault.RunFault.{RunFault}
-use Rattle.commands.specs.CatalogFiles.{GivesCatalogues}
-use Rattle.commands.specs.Run.{IsVerdict, RunsFiles, fault_of_chain}
+use Rattle.commands.specs.Run.{IsVerdict}
 use Rattle.lines.specs.RunScript.{SessionPart}
 use Rattle.commands.proofs.PlayLemmas.{first_is}
-use Rattle.commands.proofs.SoloLemmas.{Keeps-same}
 
 -- what holds of two lists at each place holds of them one by one; of: what is looked at of an element of the first one
 pub zip_each : {A B C : Type 0} (P : B → C → Type 0) (of : A → B) (xs : List A) (ys : List C) → length ys ≡ length xs → ((i : ℕ) (d : C) → i < length xs → (x : A) × ((e : A) → slice_index_or xs i e ≡ x) × P (of x) (slice_index_or ys i d)) → AllZip P (map of xs) ys
@@ -63,55 +57,6 @@ all_held [] [] held = tt
 all_held [] (one ∷ all) held = held
 all_held (part ∷ parts) [] held = held
 all_held (part ∷ parts) (one ∷ all) held = (held.0, all_held parts all held.1)
-
-module _ {C : Type 0} (remaining : C → Option (List ℕ)) where
-  -- what is done over catalogues that are a chain
-  done_over : (Does : List Catalogue → Result Bool RunFault → Type 0) (file : Bor (List ℕ)) (bytes : List ℕ) (next : List (Source C)) (old new : Option (List ℕ)) (catalogs : List (List (List ℕ) × List SplitRelation)) (result : Result Bool RunFault)
-      → GivesCatalogues remaining file bytes next (Ok catalogs) → Does (map catalogue_of catalogs) result → RunsFiles remaining Does file bytes next old new result
-  done_over Does file bytes next old new catalogs (Ok is_woven) given done = record { catalogs = catalogs; given = given; done = done }
-  done_over Does file bytes next old new catalogs (Err fault) given done = inr (record { catalogs = catalogs; given = given; done = done })
-
-  -- so where the bytes of its first catalogue are known, and those of a script
-  pub done_known : (known : Option (List ℕ)) (Does : List Catalogue → Result Bool RunFault → Type 0) (file : Bor (List ℕ)) (next : List (Source C)) (old new : Option (List ℕ)) (catalogs : List (List (List ℕ) × List SplitRelation)) (result : Result Bool RunFault)
-      → IfSome known (λ bytes. GivesCatalogues remaining file bytes next (Ok catalogs)) → Does (map catalogue_of catalogs) result → IfSome known (λ bytes. RunsFiles remaining Does file bytes next old new result)
-  done_known None Does file next old new catalogs result given done = tt
-  done_known (Some bytes) Does file next old new catalogs result given done = done_over Does file bytes next old new catalogs result given done
-
-  pub done_script : (known script : Option (List ℕ)) (Does : List ℕ → List Catalogue → Result Bool RunFault → Type 0) (file : Bor (List ℕ)) (next : List (Source C)) (old new : Option (List ℕ)) (catalogs : List (List (List ℕ) × List SplitRelation)) (result : Result Bool RunFault)
-      → IfSome known (λ bytes. GivesCatalogues remaining file bytes next (Ok catalogs)) → IfSome script (λ script. Does script (map catalogue_of catalogs) result)
-      → IfSome known (λ bytes. IfSome script (λ script. RunsFiles remaining (Does script) file bytes next old new result))
-  done_script None script Does file next old new catalogs result given done = tt
-  done_script (Some bytes) None Does file next old new catalogs result given done = tt
-  done_script (Some bytes) (Some script) Does file next old new catalogs result given done = done_over (Does script) file bytes next old new catalogs result given done
-
-  -- where the catalogues are no chain nothing is written
-  undone : (Does : List Catalogue → Result Bool RunFault → Type 0) (file : Bor (List ℕ)) (bytes : List ℕ) (next : List (Source C)) (old : Option (List ℕ)) (told : ChainFault) → GivesCatalogues remaining file bytes next (Err told) → RunsFiles remaining Does file bytes next old old (Err (fault_of_chain told))
-  undone Does file bytes next old told given = inl (record { told = told; given = given; is = refl; kept = Keeps-same old })
-
-  undone_opened : {R E : Type 0} (known : Option (List ℕ)) (input : Result R E) (script_of : R → Option (List ℕ)) (Does : List ℕ → List Catalogue → Result Bool RunFault → Type 0) (file : Bor (List ℕ)) (next : List (Source C)) (old : Option (List ℕ)) (told : ChainFault)
-      → IfSome known (λ bytes. GivesCatalogues remaining file bytes next (Err told)) → IfSome known (λ bytes. IfOk input (λ reader. IfSome (script_of reader) (λ script. RunsFiles remaining (Does script) file bytes next old old (Err (fault_of_chain told)))))
-  undone_opened None input script_of Does file next old told given = tt
-  undone_opened (Some bytes) (Err error) script_of Does file next old told given = tt
-  undone_opened (Some bytes) (Ok reader) script_of Does file next old told given = over (script_of reader)
-    where
-      over : (script : Option (List ℕ)) → IfSome script (λ script. RunsFiles remaining (Does script) file bytes next old old (Err (fault_of_chain told)))
-      over None = tt
-      over (Some script) = undone (Does script) file bytes next old told given
-
-  pub told_undone : {R E : Type 0} (known : Option (List ℕ)) (input : Result R E) (script_of : R → Option (List ℕ)) (Does : List ℕ → List Catalogue → Result Bool RunFault → Type 0) (file : Bor (List ℕ)) (next : List (Source C)) (old : Option (List ℕ)) (told : ChainFault) (result : Result Bool RunFault)
-      → result ≡ Err (fault_of_chain told) → IfSome known (λ bytes. GivesCatalogues remaining file bytes next (Err told)) → IfSome known (λ bytes. IfOk input (λ reader. IfSome (script_of reader) (λ script. RunsFiles remaining (Does script) file bytes next old old result)))
-  told_undone known input script_of Does file next old told result is given = rw is (undone_opened known input script_of Does file next old told given)
-
-  -- so where the script can't be opened
-  undone_idle : {R E : Type 0} (known : Option (List ℕ)) (input : Result R E) (Does : List Catalogue → Result Bool RunFault → Type 0) (file : Bor (List ℕ)) (next : List (Source C)) (old : Option (List ℕ)) (told : ChainFault)
-      → IfSome known (λ bytes. GivesCatalogues remaining file bytes next (Err told)) → IfErr input (λ error. IfSome known (λ bytes. RunsFiles remaining Does file bytes next old old (Err (fault_of_chain told))))
-  undone_idle known (Ok reader) Does file next old told given = tt
-  undone_idle None (Err error) Does file next old told given = tt
-  undone_idle (Some bytes) (Err error) Does file next old told given = undone Does file bytes next old told given
-
-  pub told_idle : {R E : Type 0} (known : Option (List ℕ)) (input : Result R E) (Does : List Catalogue → Result Bool RunFault → Type 0) (file : Bor (List ℕ)) (next : List (Source C)) (old : Option (List ℕ)) (told : ChainFault) (result : Result Bool RunFault)
-      → result ≡ Err (fault_of_chain told) → IfSome known (λ bytes. GivesCatalogues remaining file bytes next (Err told)) → IfErr input (λ error. IfSome known (λ bytes. RunsFiles remaining Does file bytes next old old result))
-  told_idle known input Does file next old told result is given = rw is (undone_idle known input Does file next old told given)
 
 -- stores that have the leaves of the first catalogue have those of the first one of its chain
 pub leaves_over : {S : Type 0} (is_clean : S → Type 0) (kept : S → SiteContent) (stores : List S) (chain : List (List (List ℕ) × List SplitRelation)) (first : List (List ℕ) × List SplitRelation) (others : List (List (List ℕ) × List SplitRelation)) → chain ≡ first ∷ others → HaveLeaves is_clean kept (catalogue_of first) stores

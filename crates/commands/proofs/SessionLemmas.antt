@@ -14,7 +14,7 @@ use Rattle.world.specs.ListServed.{ListHeardIsSerial}
 use Rattle.world.specs.Replies.{Tells}
 use Rattle.lines.specs.declared.fault.ProgramFault.{ProgramFault}
 use Rattle.commands.specs.declared.catalog_files.ChainFault.{ChainFault}
-use Rattle.commands.specs.declared.catalog_files.ChainFault.TheVariants.{Program, Refused, Unchained}
+use Rattle.commands.specs.declared.catalog_files.ChainFault.TheVariants.{Closed, Program, Refused, Unchained}
 use Rattle.commands.specs.CatalogFiles.{IsOfOpening}
 use Rattle.commands.specs.Client.{GoesOn, IsAnswered, Seen, Standing, standing_of}
 use Rattle.commands.specs.ListClient.{GoesOnOver, Happened, IsAnsweredOver, ListStanding, in_force, list_standing_of, unhappened}
@@ -209,6 +209,7 @@ module _ {B : Type 0} (seen : Seen B) (IsOrigin : Origin → Type 0) where
   unopened file known catalogues (Program fault) why = inl (inl why)
   unopened file known catalogues (Refused fault) why = absurd why
   unopened file known catalogues Unchained why = (why, Keeps-same known)
+  unopened file known catalogues Closed why = absurd why
 
   pub told_unopened : (file : Bor (List ℕ)) (known : Option (List ℕ)) (catalogues : List Catalogue) (fault : ChainFault) (result : Result Unit ChainFault) → result ≡ Err fault → IsOfOpening catalogues fault → RunsSession seen IsOrigin file known known catalogues result
   told_unopened file known catalogues fault result told why = rw told (unopened file known catalogues fault why)

@@ -1,5 +1,5 @@
 -- What the files of several catalogues give, one after another.
-use Rattle.std.specs.Prelude.{◌≡◌, ◌⊎◌, ◌<◌, ℕ, List, [], ◌∷◌, ◌++◌, length, map, IfErr, IfOk, IfSome, Option, Result, Ok, Err}
+use Rattle.std.specs.Prelude.{◌≡◌, ◌⊎◌, ◌<◌, ⊤, ℕ, List, [], ◌∷◌, ◌++◌, length, map, IfErr, IfOk, IfSome, Option, Result, Ok, Err}
 use Rattle.std.specs.Borrow.{Bor}
 use Rattle.std.specs.Io.KnownBytes.{Keeps}
 use Rattle.catalog.specs.declared.relation.SplitRelation.{SplitRelation}
@@ -9,18 +9,26 @@ use Rattle.catalog.specs.Relation.{catalogue_of}
 use Rattle.lines.specs.declared.catalog_file.CatalogFault.{CatalogFault}
 use Rattle.lines.specs.declared.catalog_file.CatalogFault.TheVariants as catalog
 use Rattle.lines.specs.declared.fault.ProgramFault.{ProgramFault}
-use Rattle.lines.specs.declared.fault.ProgramFault.TheVariants.{Memory}
+use Rattle.lines.specs.declared.fault.ProgramFault.TheVariants.{Memory, Store}
 use Rattle.lines.specs.CatalogFile.{IsCatalogueFile, RefusesFile}
 use Rattle.lines.specs.Input.{IsOfInput}
+use Rattle.wire.specs.declared.fault.CallFault.{CallFault}
+use Rattle.wire.specs.declared.fault.CallFault.TheVariants as call
 use Rattle.commands.specs.Client.{IsOfClient}
 use Rattle.commands.specs.declared.catalog_files.ChainFault.{ChainFault}
-use Rattle.commands.specs.declared.catalog_files.ChainFault.TheVariants.{Program, Refused, Unchained}
+use Rattle.commands.specs.declared.catalog_files.ChainFault.TheVariants.{Closed, Program, Refused, Unchained}
 use Rattle.commands.specs.declared.catalog_files.Source.{Source}
 
 -- the fault of a file that gives no catalogue, as one of several
 abbrev pub fault_of_catalogue : CatalogFault → ChainFault
 fault_of_catalogue (catalog.Program fault) = Program fault
 fault_of_catalogue (catalog.Refused fault) = Refused fault
+
+-- the fault of a session's call that ends a script
+abbrev pub fault_of_call : CallFault → ChainFault
+fault_of_call call.Memory = Program Memory
+fault_of_call (call.Store why) = Program (Store why)
+fault_of_call other = Closed
 
 -- there is more than one
 abbrev pub AreSeveral : {A : Type 0} → List A → Type 0
@@ -31,6 +39,14 @@ abbrev pub IsOfOpening : List Catalogue → ChainFault → Type 0
 IsOfOpening catalogues (Program fault) = IsOfClient fault
 IsOfOpening catalogues (Refused fault) = ⊥
 IsOfOpening catalogues Unchained = AreSeveral catalogues
+IsOfOpening catalogues Closed = ⊥
+
+-- a fault that may come while catalogues are read, of which these come after the first: that they are no chain where there are some
+abbrev pub IsOfCatalogues : {C : Type 0} → List (Source C) → ChainFault → Type 0
+IsOfCatalogues next (Program fault) = ⊤
+IsOfCatalogues next (Refused fault) = ⊤
+IsOfCatalogues next Unchained = 0 < length next
+IsOfCatalogues next Closed = ⊥
 
 -- remaining: the bytes that a reader of a catalogue still gives, where they are known
 module _ {C : Type 0} (remaining : C → Option (List ℕ)) where
@@ -50,6 +66,7 @@ module _ {C : Type 0} (remaining : C → Option (List ℕ)) where
   IsFaultOf source (Program fault) = IsUnread source fault
   IsFaultOf source (Refused fault) = (reader : C) × (source.catalog ≡ Ok reader) × IfSome (remaining reader) (λ bytes. RefusesFile bytes fault.relation fault.rule)
   IsFaultOf source Unchained = ⊥
+  IsFaultOf source Closed = ⊥
 
   -- that ends it
   abbrev pub StopsAt : {T : Type 0} → Source C → Result T ChainFault → Type 0
@@ -62,6 +79,7 @@ module _ {C : Type 0} (remaining : C → Option (List ℕ)) where
   GivesChain read [] (Err (Program fault)) = fault ≡ Memory
   GivesChain read [] (Err (Refused fault)) = ⊥
   GivesChain read [] (Err Unchained) = ¬ (IsChain read)
+  GivesChain read [] (Err Closed) = ⊥
   GivesChain read (source ∷ sources) result = StopsAt source result ⊎ ((catalogue : Catalogue) × IsSourceOf source catalogue × GivesChain (read ++ catalogue ∷ []) sources result)
 
   -- the first one, of these bytes, is none
@@ -70,6 +88,7 @@ module _ {C : Type 0} (remaining : C → Option (List ℕ)) where
   StopsAtFirst file bytes (Err (Program fault)) = IsOfInput file fault
   StopsAtFirst file bytes (Err (Refused fault)) = RefusesFile bytes fault.relation fault.rule
   StopsAtFirst file bytes (Err Unchained) = ⊥
+  StopsAtFirst file bytes (Err Closed) = ⊥
 
   -- what a first catalogue, of these bytes, and sources come to
   abbrev pub GivesCatalogues : Bor (List ℕ) → List ℕ → List (Source C) → Result (List (List (List ℕ) × List SplitRelation)) ChainFault → Type 0
@@ -88,3 +107,4 @@ IsUnopened file (Ok done) = ⊥
 IsUnopened file (Err (Program fault)) = IsOfInput file fault
 IsUnopened file (Err (Refused fault)) = ⊥
 IsUnopened file (Err Unchained) = ⊥
+IsUnopened file (Err Closed) = ⊥

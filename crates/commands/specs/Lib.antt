@@ -7,6 +7,7 @@ pub mod Client
 pub mod ListClient
 pub mod Serves
 pub mod CatalogFiles
+pub mod Opened
 pub mod Origin
 pub mod SqlStores
 pub mod Solo
@@ -24,7 +25,7 @@ pub mod ScriptFile
 pub mod RunText
 pub mod Conversation
 pub mod Conversations
-pub mod Run
 pub mod Perform
+pub mod Run
 
 -- Helpers.

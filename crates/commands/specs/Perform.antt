@@ -33,6 +33,7 @@ abbrev pub outcome_of_fault : ChainFault → Outcome
 outcome_of_fault (chain.Program fault) = Stopped fault
 outcome_of_fault (chain.Refused fault) = Refused fault
 outcome_of_fault chain.Unchained = Unchained
+outcome_of_fault chain.Closed = Lost
 
 -- what the end of a script comes to, that of a session or a schedule, and that of a check
 abbrev pub outcome_of_script : Result Bool ChainFault → Outcome

@@ -19,7 +19,7 @@ use Rattle.lines.specs.declared.play_items.Placed.{Placed}
 use Rattle.lines.specs.declared.play_script.Item.{Item}
 use Rattle.lines.specs.declared.play_script.Item.TheVariants as item
 use Rattle.commands.specs.declared.catalog_files.ChainFault.{ChainFault}
-use Rattle.commands.specs.declared.catalog_files.ChainFault.TheVariants.{Program, Refused, Unchained}
+use Rattle.commands.specs.declared.catalog_files.ChainFault.TheVariants.{Closed, Program, Refused, Unchained}
 use Rattle.commands.specs.declared.schedule.Schedule.{Schedule}
 use Rattle.lines.specs.Cast.{name_of}
 use Rattle.commands.specs.Delivering.{Delivers, DeliversAll}
@@ -159,3 +159,4 @@ module _ {D S : Type 0} (seen : SeenWorld (World D S)) (Fails : StoreFault → T
   PlaysOver file script old new catalogues (Err (Program fault)) = (first : Catalogue) (rest : List Catalogue) → catalogues ≡ first ∷ rest → PlaysScript first rest file script old new (Err fault)
   PlaysOver file script old new catalogues (Err (Refused fault)) = ⊥
   PlaysOver file script old new catalogues (Err Unchained) = ⊥
+  PlaysOver file script old new catalogues (Err Closed) = ⊥

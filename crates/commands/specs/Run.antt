@@ -38,23 +38,17 @@ use Rattle.history.specs.Told.{IsNotTold}
 use Rattle.history.specs.Weaving.{Rebuilds}
 use Rattle.history.specs.Woven.{IsNotARun, IsSettled, IsWoven, WeavesListRun, WeavesRun}
 use Rattle.shell.specs.declared.mode.Mode.TheVariants.{Tabs}
-use Rattle.wire.specs.declared.fault.CallFault.{CallFault}
-use Rattle.wire.specs.declared.fault.CallFault.TheVariants as call
 use Rattle.commands.specs.declared.catalog_files.ChainFault.{ChainFault}
-use Rattle.commands.specs.declared.catalog_files.ChainFault.TheVariants as chain
-use Rattle.commands.specs.declared.catalog_files.Source.{Source}
+use Rattle.commands.specs.declared.catalog_files.ChainFault.TheVariants.{Closed, Program, Refused, Unchained}
 use Rattle.commands.specs.declared.conversation.Conversation.{Conversation}
 use Rattle.lines.specs.declared.fault.ProgramFault.TheVariants.{CannotRead, CannotWrite, Malformed, Memory, ScriptTooLong, Store}
 use Rattle.lines.specs.declared.outcome.Outcome.{Outcome}
-use Rattle.lines.specs.declared.outcome.Outcome.TheVariants as outcome
-use Rattle.lines.specs.declared.outcome.Outcome.TheVariants.{Done, Lost, SomeRefused, Stopped}
-use Rattle.commands.specs.declared.run_fault.RunFault.{RunFault}
-use Rattle.commands.specs.declared.run_fault.RunFault.TheVariants.{Closed, Program, Refused, Unchained}
-use Rattle.commands.specs.CatalogFiles.{AreSeveral, GivesCatalogues}
+use Rattle.lines.specs.declared.outcome.Outcome.TheVariants.{Done, SomeRefused}
+use Rattle.commands.specs.CatalogFiles.{AreSeveral}
 use Rattle.commands.specs.Client.{IsOfClient}
 use Rattle.commands.specs.Conversations.{AreOfParts}
-use Rattle.lines.specs.Input.{IsOfInput}
 use Rattle.lines.specs.RunScript.{SessionPart, first_malformed, sessions_of}
+use Rattle.commands.specs.Perform.{outcome_of_fault}
 use Rattle.commands.specs.RunText.{verdict_text}
 use Rattle.lines.specs.Script.{lines_of}
 use Rattle.commands.specs.Shown.{relation_text}
@@ -156,27 +150,15 @@ pub record IsAccepted (script : List ℕ) : Type 0 where
   pub short : length script ≤ longest
   pub readable : first_malformed (lines_of script) ≡ None
 
--- the fault of a session's call that ends a script, as sessions' own
-abbrev pub fault_of_call : CallFault → RunFault
-fault_of_call call.Memory = Program Memory
-fault_of_call (call.Store why) = Program (Store why)
-fault_of_call other = Closed
-
--- a fault of catalogues, or of their opening, as sessions' own
-abbrev pub fault_of_chain : ChainFault → RunFault
-fault_of_chain (chain.Program fault) = Program fault
-fault_of_chain (chain.Refused fault) = Refused fault
-fault_of_chain chain.Unchained = Unchained
-
 -- what stops sessions over these catalogues before anything is printed: of several the coordinator's store may keep the number of none
-abbrev pub StopsRun : List Catalogue → RunFault → Type 0
+abbrev pub StopsRun : List Catalogue → ChainFault → Type 0
 StopsRun catalogues (Program fault) = IsOfClient fault
 StopsRun catalogues Closed = ⊤
 StopsRun catalogues Unchained = AreSeveral catalogues
 StopsRun catalogues (Refused fault) = ⊥
 
 -- what stops sessions that may run: memory ran out, a store failed, nobody reads what is printed, all of which is written at the end, or a machine can't be had back
-abbrev pub StopsSessions : List Catalogue → Option (List ℕ) → Option (List ℕ) → RunFault → Type 0
+abbrev pub StopsSessions : List Catalogue → Option (List ℕ) → Option (List ℕ) → ChainFault → Type 0
 StopsSessions catalogues old new (Program Memory) = ⊤
 StopsSessions catalogues old new (Program (Store why)) = Keeps old new
 StopsSessions catalogues old new (Program CannotWrite) = ⊤
@@ -186,7 +168,7 @@ StopsSessions catalogues old new Unchained = AreSeveral catalogues × Keeps old 
 StopsSessions catalogues old new (Refused fault) = ⊥
 
 -- what stopped the script of this file
-abbrev pub StopsScript : List Catalogue → Bor (List ℕ) → List ℕ → Option (List ℕ) → Option (List ℕ) → RunFault → Type 0
+abbrev pub StopsScript : List Catalogue → Bor (List ℕ) → List ℕ → Option (List ℕ) → Option (List ℕ) → ChainFault → Type 0
 StopsScript catalogues file script old new (Program (CannotRead name)) = (name ≡ file) × Keeps old new
 StopsScript catalogues file script old new (Program ScriptTooLong) = (longest < length script) × Keeps old new
 StopsScript catalogues file script old new (Program (Malformed line)) = (length script ≤ longest) × (first_malformed (lines_of script) ≡ Some line) × Keeps old new
@@ -197,21 +179,11 @@ StopsScript catalogues file script old new Closed = IsAccepted script × Keeps o
 StopsScript catalogues file script old new Unchained = AreSeveral catalogues × IsAccepted script × Keeps old new
 StopsScript catalogues file script old new (Refused fault) = ⊥
 
--- a fault of the file of this name, as it was read
-abbrev pub IsOfFile : Bor (List ℕ) → RunFault → Type 0
-IsOfFile file (Program fault) = IsOfInput file fault
-IsOfFile file Closed = ⊥
-IsOfFile file Unchained = ⊥
-IsOfFile file (Refused fault) = ⊥
-
 -- what sessions came to, as an outcome; a verdict that says no counts as a refusal
-abbrev pub outcome_of : Result Bool RunFault → Outcome
+abbrev pub outcome_of : Result Bool ChainFault → Outcome
 outcome_of (Ok true) = Done
 outcome_of (Ok false) = SomeRefused
-outcome_of (Err (Refused fault)) = outcome.Refused fault
-outcome_of (Err Unchained) = outcome.Unchained
-outcome_of (Err (Program fault)) = Stopped fault
-outcome_of (Err Closed) = Lost
+outcome_of (Err fault) = outcome_of_fault fault
 
 module _ {D S : Type 0} (desk_is_clean desk_is_sound : D → Type 0) (desk_content : D → DeskContent) (site_is_clean site_is_sound : S → Type 0) (site_content : S → SiteContent) where
   -- what was printed was written
@@ -221,31 +193,6 @@ module _ {D S : Type 0} (desk_is_clean desk_is_sound : D → Type 0) (desk_conte
     pub written : Appends old new printed
 
   -- the script of a file ran to its end, or was stopped
-  abbrev pub RunsScript : List Catalogue → Bor (List ℕ) → List ℕ → Option (List ℕ) → Option (List ℕ) → Result Bool RunFault → Type 0
-  RunsScript catalogues file script old new (Ok is_woven) = IsAccepted script × HasWritten catalogues (sessions_of (lines_of script)) old new is_woven
-  RunsScript catalogues file script old new (Err fault) = StopsScript catalogues file script old new fault
-
--- remaining: the bytes that a reader of a catalogue still gives, where they are known. Does: what is done over the chain of catalogues
-module _ {C : Type 0} (remaining : C → Option (List ℕ)) (Does : List Catalogue → Result Bool RunFault → Type 0) where
-  -- a first catalogue, of these bytes, and those that come next are a chain, and this was done over it
-  pub record IsDoneOver (file : Bor (List ℕ)) (bytes : List ℕ) (next : List (Source C)) (result : Result Bool RunFault) : Type 0 where
-    pub catalogs : List (List (List ℕ) × List SplitRelation)
-    pub given : GivesCatalogues remaining file bytes next (Ok catalogs)
-    pub done : Does (map catalogue_of catalogs) result
-
-  -- they are none, and nothing was done
-  pub record IsUndone (file : Bor (List ℕ)) (bytes : List ℕ) (next : List (Source C)) (old new : Option (List ℕ)) (fault : RunFault) : Type 0 where
-    pub told : ChainFault
-    pub given : GivesCatalogues remaining file bytes next (Err told)
-    pub is : fault ≡ fault_of_chain told
-    pub kept : Keeps old new
-
-  -- The catalogues are looked at first, and where they are no chain nothing is written.
-  abbrev pub RunsFiles : Bor (List ℕ) → List ℕ → List (Source C) → Option (List ℕ) → Option (List ℕ) → Result Bool RunFault → Type 0
-  RunsFiles file bytes next old new (Ok is_woven) = IsDoneOver file bytes next (Ok is_woven)
-  RunsFiles file bytes next old new (Err fault) = IsUndone file bytes next old new fault ⊎ IsDoneOver file bytes next (Err fault)
-
--- the file of a script can't be opened
-abbrev pub IsUnopened : Bor (List ℕ) → Result Bool RunFault → Type 0
-IsUnopened file (Ok is_woven) = ⊥
-IsUnopened file (Err fault) = IsOfFile file fault
+  abbrev pub RunsScript : Bor (List ℕ) → List ℕ → Option (List ℕ) → Option (List ℕ) → List Catalogue → Result Bool ChainFault → Type 0
+  RunsScript file script old new catalogues (Ok is_woven) = IsAccepted script × HasWritten catalogues (sessions_of (lines_of script)) old new is_woven
+  RunsScript file script old new catalogues (Err fault) = StopsScript catalogues file script old new fault

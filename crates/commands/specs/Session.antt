@@ -16,7 +16,7 @@ use Rattle.shell.specs.declared.mode.Mode.{Mode}
 use Rattle.shell.specs.declared.mode.Mode.TheVariants.{Tabs}
 use Rattle.lines.specs.declared.fault.ProgramFault.{ProgramFault}
 use Rattle.commands.specs.declared.catalog_files.ChainFault.{ChainFault}
-use Rattle.commands.specs.declared.catalog_files.ChainFault.TheVariants.{Program, Refused, Unchained}
+use Rattle.commands.specs.declared.catalog_files.ChainFault.TheVariants.{Closed, Program, Refused, Unchained}
 use Rattle.commands.specs.CatalogFiles.{AreSeveral}
 use Rattle.commands.specs.Client.{AnswersTask, GoesOn, Seen, Standing, standing_of}
 use Rattle.commands.specs.ListClient.{AnswersTaskOver, GoesOnOver, Happened, IsTold, ListStanding, in_force, list_standing_of}
@@ -226,3 +226,4 @@ module _ {B : Type 0} (seen : Seen B) (IsOrigin : Origin → Type 0) where
   RunsSession file old new catalogues (Err (Program fault)) = IsOfSession file fault
   RunsSession file old new catalogues (Err (Refused fault)) = ⊥
   RunsSession file old new catalogues (Err Unchained) = AreSeveral catalogues × Keeps old new
+  RunsSession file old new catalogues (Err Closed) = ⊥

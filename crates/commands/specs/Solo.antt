@@ -18,7 +18,7 @@ use Rattle.shell.specs.declared.mode.Mode.{Mode}
 use Rattle.lines.specs.declared.fault.ProgramFault.{ProgramFault}
 use Rattle.lines.specs.declared.fault.ProgramFault.TheVariants.{CannotRead, CannotWrite, Malformed, Memory, ScriptTooLong, Store}
 use Rattle.commands.specs.declared.catalog_files.ChainFault.{ChainFault}
-use Rattle.commands.specs.declared.catalog_files.ChainFault.TheVariants.{Program, Refused, Unchained}
+use Rattle.commands.specs.declared.catalog_files.ChainFault.TheVariants.{Closed, Program, Refused, Unchained}
 use Rattle.commands.specs.CatalogFiles.{AreSeveral}
 use Rattle.commands.specs.Client.{AnswersTask, GoesOn, IsOfClient, Seen, Standing, standing_of}
 use Rattle.commands.specs.ListClient.{AnswersTaskOver, GoesOnOver, Happened, IsTold, ListStanding, list_standing_of, unhappened}
@@ -44,6 +44,7 @@ abbrev pub IsOfRunOver : List Catalogue → ChainFault → Type 0
 IsOfRunOver catalogues (Program fault) = IsOfRun fault
 IsOfRunOver catalogues (Refused fault) = ⊥
 IsOfRunOver catalogues Unchained = AreSeveral catalogues
+IsOfRunOver catalogues Closed = ⊥
 
 -- a fault that may come while the script is read from this file
 abbrev pub IsOfRead : Bor (List ℕ) → ProgramFault → Type 0
@@ -188,6 +189,7 @@ module _ {B : Type 0} (seen : Seen B) (IsOrigin : Origin → Type 0) where
   RunsOrStops mode catalogues script old new (Err (Program fault)) = StopsRun script old new fault
   RunsOrStops mode catalogues script old new (Err (Refused fault)) = ⊥
   RunsOrStops mode catalogues script old new (Err Unchained) = AreSeveral catalogues × IsAccepted script × Keeps old new
+  RunsOrStops mode catalogues script old new (Err Closed) = ⊥
 
   -- the script of a file ran to its end, or was stopped: of several catalogues also since the coordinator's store keeps the number of none
   abbrev pub RunsScript : Mode → Bor (List ℕ) → List ℕ → Option (List ℕ) → Option (List ℕ) → List Catalogue → Result Bool ChainFault → Type 0
@@ -195,3 +197,4 @@ module _ {B : Type 0} (seen : Seen B) (IsOrigin : Origin → Type 0) where
   RunsScript mode file script old new catalogues (Err (Program fault)) = StopsScript file script old new fault
   RunsScript mode file script old new catalogues (Err (Refused fault)) = ⊥
   RunsScript mode file script old new catalogues (Err Unchained) = AreSeveral catalogues × IsAccepted script × Keeps old new
+  RunsScript mode file script old new catalogues (Err Closed) = ⊥

@@ -1,9 +1,9 @@
 //! The catalogues that the program is given one after another, each the text of a file.
 
-ghost use Rattle.std.specs.Prelude.{◌≡◌, ◌<◌, [], ◌∷◌, IfErr, IfOk, IfSome, length};
+ghost use Rattle.std.specs.Prelude.{◌≡◌, [], ◌∷◌, IfErr, IfOk, IfSome};
 ghost use Rattle.catalog.specs.Relation.{catalogue_of};
 ghost use Rattle.commands.specs.CatalogFiles as spec;
-ghost use Rattle.commands.specs.CatalogFiles.{GivesCatalogues, GivesChain, IsFaultOf, IsSourceOf};
+ghost use Rattle.commands.specs.CatalogFiles.{GivesCatalogues, GivesChain, IsFaultOf, IsOfCatalogues, IsSourceOf};
 
 use catalog::catalogue::Catalog;
 use catalog::chain::Chain;
@@ -11,11 +11,11 @@ use catalog::fault::CatFault;
 use lines::catalog_file::{CatalogFault, read_catalog};
 use lines::fault::ProgramFault;
 use lines::script::ScriptFault;
-use std::alloc::{AllocError, AllocFailed, Global};
-use std::fs::File;
+use std::alloc::{AllocFailed, Global};
+use std::io;
 use std::io::Read;
-use std::{fs, io};
 use terms::memory::Memory;
+use wire::fault::CallFault;
 
 /// A file that is to give a catalogue.
 #[derive(Drop)]
@@ -26,7 +26,7 @@ pub struct Source<'a, C> {
     pub catalog: io::Result<C>,
 }
 
-/// Why there is no database over a chain of catalogues.
+/// Why a command over a chain of catalogues doesn't come to its end.
 #[derive(Drop)]
 pub enum ChainFault<'a> {
     /// The program stops.
@@ -35,6 +35,8 @@ pub enum ChainFault<'a> {
     Refused(CatFault),
     /// The catalogues are no chain, or the coordinator's store keeps the number of none of them.
     Unchained,
+    /// A machine of a database that was closed can't be had back.
+    Closed,
 }
 
 impl<'a> From<ProgramFault<'a>> for ChainFault<'a> {
@@ -54,6 +56,18 @@ impl<'a> From<CatalogFault<'a>> for ChainFault<'a> {
         match fault {
             CatalogFault::Program(fault) => ChainFault::Program(fault),
             CatalogFault::Refused(fault) => ChainFault::Refused(fault),
+        }
+    }
+}
+
+impl From<CallFault> for ChainFault<'_> {
+    ghost from_gives = { λ told fault. fault ≡ spec.fault_of_call told };
+
+    fn from(fault: CallFault) -> Self {
+        match fault {
+            CallFault::Memory => ChainFault::Program(ProgramFault::Memory),
+            CallFault::Store(fault) => ChainFault::Program(ProgramFault::Store { fault }),
+            _ => ChainFault::Closed,
         }
     }
 }
@@ -100,7 +114,7 @@ pub fn read_catalogs<'a, C: Read + Drop, N: Read + Drop>(
     next: Vec<Source<'a, N>>,
 ) -> Result<Chain, ChainFault<'a>>
     ensures gives { IfSome (C.remaining catalog) (λ bytes. GivesCatalogues N.remaining file.entry bytes next.entry.items result) }
-    ensures unchained { result ≡ Err ChainFault.Unchained → 0 < length next.entry.items }
+    ensures faults { IfErr result (IsOfCatalogues next.entry.items) }
 {
     let first = read_catalog(alloc, file, catalog)?;
     read_chain(alloc, first, next)
@@ -139,21 +153,4 @@ fn read_source<'a, C: Read + Drop>(
         Ok(catalog) => Ok(read_catalog(alloc, file, catalog)?),
         Err(error) => Err(ChainFault::Program(ProgramFault::reading(file, &error))),
     }
-}
-
-/// The files of the catalogues that come next, as far as they can be opened. No clause says which can, since no contract can say
-/// what files there are.
-pub fn open_next<'a>(
-    rt: &HostRuntime,
-    next: &[&'a str],
-) -> Result<Vec<Source<'a, File>>, AllocError> {
-    let mut sources = Vec::new(rt.alloc());
-    for file in next {
-        let catalog = fs::open(rt, *file);
-        sources.push(Source {
-            file: *file,
-            catalog,
-        })?;
-    }
-    Ok(sources)
 }

@@ -273,13 +273,15 @@ fn of_end(ended: Result<(), ChainFault<'_>>) -> Outcome<'_>
     }
 }
 
-fn of_fault(fault: ChainFault<'_>) -> Outcome<'_>
+/// What a fault of a command over catalogues comes to.
+pub fn of_fault(fault: ChainFault<'_>) -> Outcome<'_>
     ensures { result ≡ spec.outcome_of_fault fault.entry }
 {
     match fault {
         ChainFault::Program(fault) => Outcome::Stopped(fault),
         ChainFault::Refused(fault) => Outcome::Refused(fault),
         ChainFault::Unchained => Outcome::Unchained,
+        ChainFault::Closed => Outcome::Lost,
     }
 }
 

@@ -1,12 +1,12 @@
 //! The command `play`: a script of schedules over a world of its own, of a chain of catalogues.
 
-ghost use Rattle.std.specs.Prelude.{◌≡◌, ◌<◌, ◌∷◌, List, IfErr, IfOk, IfSome, OnOk, is_err, length, map, true, string_bytes};
+ghost use Rattle.std.specs.Prelude.{◌≡◌, ◌∷◌, List, IfErr, IfOk, IfSome, IsErrAnd, OnOk, is_err, map, true, string_bytes};
 ghost use Rattle.std.specs.Io.KnownBytes.{Keeps};
 ghost use Rattle.meaning.specs.Whole.{FitsSchema};
 ghost use Rattle.catalog.specs.Catalogue.{Catalogue};
 ghost use Rattle.catalog.specs.FragmentLeaf.{schemas_of};
 ghost use Rattle.catalog.specs.Relation.{catalogue_of};
-ghost use Rattle.commands.specs.CatalogFiles.{DoesOver, IsUnopened};
+ghost use Rattle.commands.specs.CatalogFiles.{DoesOver, IsOfCatalogues, IsUnopened};
 ghost use Rattle.commands.specs.Play.{IsPlayedOver, PlaysItem, PlaysItems, PlaysOrStops, PlaysOver, PlaysScript, StopsItems};
 ghost use Rattle.lines.specs.Input.{IsOfInput, IsOfOutput};
 ghost use Rattle.commands.specs.Schedule.{IsCounted, LeavesWorld, stage_of, world_over};
@@ -55,7 +55,7 @@ pub fn play_files<
 ) -> Result<(), ChainFault<'a>>
     ensures opened { IfSome (C.remaining catalog) (λ bytes. IfOk input (λ reader. IfSome (R.remaining reader) (λ script. DoesOver N.remaining catalog_file.entry bytes next.entry.items (W.contents output.old) (W.contents output.new) (PlaysOver (world_over D.is_clean S.is_clean D.is_sound S.is_sound D.kept S.kept D.refused S.refused) O.fails_for file.entry script (W.contents output.old) (W.contents output.new)) result))) }
     ensures unread { IfErr input (λ error. IfSome (C.remaining catalog) (λ bytes. DoesOver N.remaining catalog_file.entry bytes next.entry.items (W.contents output.old) (W.contents output.new) (λ catalogues. IsUnopened file.entry) result)) }
-    ensures idle { IfErr input (λ error. (is_err result ≡ true) × (result ≡ Err ChainFault.Unchained → 0 < length next.entry.items) × Keeps (W.contents output.old) (W.contents output.new)) }
+    ensures idle { IfErr input (λ error. IsErrAnd result (IsOfCatalogues next.entry.items) × Keeps (W.contents output.old) (W.contents output.new)) }
 {
     let chain = read_catalogs(alloc, catalog_file, catalog, next)?;
     Ok(play_opened(alloc, opener, &chain, file, input, output)?)

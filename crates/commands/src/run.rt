@@ -8,17 +8,17 @@ ghost use Rattle.history.specs.Records.{AreRecords};
 ghost use Rattle.lines.specs.RunScript.{part_of};
 ghost use Rattle.wire.specs.Opening.{HaveLeaves};
 ghost use Rattle.world.specs.Chain.{sites_of};
+ghost use Rattle.commands.specs.CatalogFiles.{DoesOver, IsUnopened};
 ghost use Rattle.commands.specs.Conversations.{AreOfParts};
 ghost use Rattle.commands.specs.Perform.{ComesTo, IsUnread};
-ghost use Rattle.commands.specs.Run.{HasRun, HasWritten, IsUnopened, RunsFiles, RunsScript, StopsRun, StopsSessions, outcome_of};
+ghost use Rattle.commands.specs.Run.{HasRun, HasWritten, RunsScript, StopsRun, StopsSessions, outcome_of};
 
-use crate::catalog_files::{Source, read_catalogs};
+use crate::catalog_files::{ChainFault, Source, read_catalogs};
 use crate::conversation::{Conversation, Manner};
 use crate::conversations::converse_at_once;
 use crate::opener::unchained;
-use crate::perform::unread;
+use crate::perform::{of_fault, unread};
 use crate::progress::Watches;
-use crate::run_fault::{RunFault, outcome_of};
 use crate::run_records::{Ran, conclude};
 use crate::solo::read_script;
 use crate::sql_stores::OpenStores;
@@ -69,9 +69,9 @@ pub fn run_files<
     output: &mut W,
     errors: &mut E,
 ) -> Outcome<'a>
-    ensures ran { IfOk catalog (λ opened. IfSome (C.remaining opened) (λ bytes. IfOk input (λ reader. IfSome (R.remaining reader) (λ script. ComesTo outcome_of (RunsFiles N.remaining (λ catalogues. RunsScript D.is_clean D.is_sound D.kept S.is_clean S.is_sound S.kept catalogues file.entry script (W.contents output.old) (W.contents output.new)) catalog_file.entry bytes next.entry.items (W.contents output.old) (W.contents output.new)) result)))) }
+    ensures ran { IfOk catalog (λ opened. IfSome (C.remaining opened) (λ bytes. IfOk input (λ reader. IfSome (R.remaining reader) (λ script. ComesTo outcome_of (DoesOver N.remaining catalog_file.entry bytes next.entry.items (W.contents output.old) (W.contents output.new) (RunsScript D.is_clean D.is_sound D.kept S.is_clean S.is_sound S.kept file.entry script (W.contents output.old) (W.contents output.new))) result)))) }
     ensures uncatalogued { IfErr catalog (λ error. IsUnread catalog_file.entry result × Keeps (W.contents output.old) (W.contents output.new)) }
-    ensures idle { IfOk catalog (λ opened. IfSome (C.remaining opened) (λ bytes. IfErr input (λ error. ComesTo outcome_of (RunsFiles N.remaining (λ catalogues. IsUnopened file.entry) catalog_file.entry bytes next.entry.items (W.contents output.old) (W.contents output.new)) result))) }
+    ensures idle { IfOk catalog (λ opened. IfSome (C.remaining opened) (λ bytes. IfErr input (λ error. ComesTo outcome_of (DoesOver N.remaining catalog_file.entry bytes next.entry.items (W.contents output.old) (W.contents output.new) (λ catalogues. IsUnopened file.entry)) result))) }
     ensures unread { IfErr input (λ error. Keeps (W.contents output.old) (W.contents output.new)) }
 {
     match catalog {
@@ -89,6 +89,17 @@ pub fn run_files<
             errors,
         )),
         Err(error) => unread(catalog_file, &error),
+    }
+}
+
+/// What sessions came to. A verdict that says no counts as a refusal.
+fn outcome_of(ended: Result<bool, ChainFault<'_>>) -> Outcome<'_>
+    ensures { result ≡ outcome_of ended.entry }
+{
+    match ended {
+        Ok(true) => Outcome::Done,
+        Ok(false) => Outcome::SomeRefused,
+        Err(fault) => of_fault(fault),
     }
 }
 
@@ -117,9 +128,9 @@ fn run_read<
     input: io::Result<R>,
     output: &mut W,
     errors: &mut E,
-) -> Result<bool, RunFault<'a>>
-    ensures opened { IfSome (C.remaining catalog) (λ bytes. IfOk input (λ reader. IfSome (R.remaining reader) (λ script. RunsFiles N.remaining (λ catalogues. RunsScript D.is_clean D.is_sound D.kept S.is_clean S.is_sound S.kept catalogues file.entry script (W.contents output.old) (W.contents output.new)) catalog_file.entry bytes next.entry.items (W.contents output.old) (W.contents output.new) result))) }
-    ensures unread { IfErr input (λ error. IfSome (C.remaining catalog) (λ bytes. RunsFiles N.remaining (λ catalogues. IsUnopened file.entry) catalog_file.entry bytes next.entry.items (W.contents output.old) (W.contents output.new) result)) }
+) -> Result<bool, ChainFault<'a>>
+    ensures opened { IfSome (C.remaining catalog) (λ bytes. IfOk input (λ reader. IfSome (R.remaining reader) (λ script. DoesOver N.remaining catalog_file.entry bytes next.entry.items (W.contents output.old) (W.contents output.new) (RunsScript D.is_clean D.is_sound D.kept S.is_clean S.is_sound S.kept file.entry script (W.contents output.old) (W.contents output.new)) result))) }
+    ensures unread { IfErr input (λ error. IfSome (C.remaining catalog) (λ bytes. DoesOver N.remaining catalog_file.entry bytes next.entry.items (W.contents output.old) (W.contents output.new) (λ catalogues. IsUnopened file.entry) result)) }
     ensures idle { IfErr input (λ error. Keeps (W.contents output.old) (W.contents output.new)) }
 {
     let chain = read_catalogs(alloc, catalog_file, catalog, next)?;
@@ -127,7 +138,7 @@ fn run_read<
         Ok(input) => run(
             rt, alloc, opener, manner, &chain, file, input, output, errors,
         ),
-        Err(error) => Err(RunFault::Program(ProgramFault::reading(file, &error))),
+        Err(error) => Err(ChainFault::Program(ProgramFault::reading(file, &error))),
     }
 }
 
@@ -153,14 +164,11 @@ fn run<
     input: R,
     output: &mut W,
     errors: &mut E,
-) -> Result<bool, RunFault<'a>>
-    ensures { IfSome (R.remaining input) (λ script. RunsScript D.is_clean D.is_sound D.kept S.is_clean S.is_sound S.kept (map catalogue_of chain.now) file.entry script (W.contents output.old) (W.contents output.new) result) }
+) -> Result<bool, ChainFault<'a>>
+    ensures { IfSome (R.remaining input) (λ script. RunsScript D.is_clean D.is_sound D.kept S.is_clean S.is_sound S.kept file.entry script (W.contents output.old) (W.contents output.new) (map catalogue_of chain.now) result) }
 {
     let script = read_script(alloc, file, input)?;
-    let parts = match parts(alloc, script.as_slice()) {
-        Ok(parts) => parts,
-        Err(fault) => return Err(RunFault::Program(ProgramFault::from(fault))),
-    };
+    let parts = parts(alloc, script.as_slice())?;
     run_parts(
         rt,
         alloc,
@@ -193,7 +201,7 @@ fn run_parts<
     parts: &[Part<'_>],
     output: &mut W,
     errors: &mut E,
-) -> Result<bool, RunFault<'a>>
+) -> Result<bool, ChainFault<'a>>
     ensures ok { IfOk result (λ is_woven. HasWritten D.is_clean D.is_sound D.kept S.is_clean S.is_sound S.kept (map catalogue_of chain.now) (map part_of parts.now) (W.contents output.old) (W.contents output.new) is_woven) }
     ensures err { IfErr result (StopsSessions (map catalogue_of chain.now) (W.contents output.old) (W.contents output.new)) }
 {
@@ -234,7 +242,7 @@ fn run_over<
     manner: &Manner<'_, P>,
     chain: &Chain,
     parts: &[Part<'_>],
-) -> Result<Ran, RunFault<'a>>
+) -> Result<Ran, ChainFault<'a>>
     requires one_each { length stores.sites.items ≡ length (sites_of chain.now) }
     requires leaves { (first : Catalogue) (rest : List Catalogue) → map catalogue_of chain.now ≡ first ∷ rest → HaveLeaves S.is_clean S.kept first stores.sites.items }
     ensures ok { IfOk result (λ ran. HasRun D.is_clean D.is_sound D.kept S.is_clean S.is_sound S.kept (map catalogue_of chain.now) (map part_of parts.now) (string_bytes ran.printed) ran.is_woven) }
@@ -246,7 +254,7 @@ fn run_over<
     } = hold(rt, alloc, stores, manner, chain, parts)?;
     match conclude(alloc, chain, conversations.as_slice(), records)? {
         Some(ran) => Ok(ran),
-        None => Err(RunFault::Closed),
+        None => Err(ChainFault::Closed),
     }
 }
 
@@ -271,7 +279,7 @@ fn hold<
     manner: &Manner<'_, P>,
     chain: &Chain,
     parts: &[Part<'_>],
-) -> Result<Held<D, S>, RunFault<'a>>
+) -> Result<Held<D, S>, ChainFault<'a>>
     requires one_each { length stores.sites.items ≡ length (sites_of chain.now) }
     requires leaves { (first : Catalogue) (rest : List Catalogue) → map catalogue_of chain.now ≡ first ∷ rest → HaveLeaves S.is_clean S.kept first stores.sites.items }
     ensures held { IfOk result (λ held. AreOfParts (map part_of parts.now) held.conversations.items) }
@@ -281,7 +289,7 @@ fn hold<
     let OpenStores { sites, desk } = stores;
     let database = match Database::open(rt, alloc, chain, sites, desk, Ungated) {
         Ok(database) => database,
-        Err(fault) => return Err(RunFault::from(unchained(chain, fault))),
+        Err(fault) => return Err(unchained(chain, fault)),
     };
     let conversations = converse_at_once(rt, alloc, manner, &database, parts);
     let closed = database.close(rt);

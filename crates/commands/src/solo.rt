@@ -1,10 +1,10 @@
 //! The command `solo`: a script over a database of its own, of a chain of catalogues.
 
-ghost use Rattle.std.specs.Prelude.{◌≡◌, ◌≤◌, ◌<◌, true, IfErr, IfOk, IfSome, is_err, length, map};
+ghost use Rattle.std.specs.Prelude.{◌≡◌, ◌≤◌, ◌<◌, IfErr, IfOk, IfSome, IsErrAnd, length, map};
 ghost use Rattle.std.specs.Io.KnownBytes.{Keeps};
 ghost use Rattle.catalog.specs.Relation.{catalogue_of};
 ghost use Rattle.lines.specs.Script.{task_of};
-ghost use Rattle.commands.specs.CatalogFiles.{DoesOver, IsUnopened};
+ghost use Rattle.commands.specs.CatalogFiles.{DoesOver, IsOfCatalogues, IsUnopened};
 ghost use Rattle.commands.specs.Solo.{IsOfRead, IsOfRun, IsOfRunOver, IsRunOver, RunsOrStops, RunsScript, Stretches, longest};
 
 use crate::catalog_files::{ChainFault, Source, read_catalogs};
@@ -46,7 +46,7 @@ pub fn solo_files<
 ) -> Result<bool, ChainFault<'a>>
     ensures opened { IfSome (C.remaining catalog) (λ bytes. IfOk input (λ reader. IfSome (R.remaining reader) (λ script. DoesOver N.remaining catalog_file.entry bytes next.entry.items (W.contents output.old) (W.contents output.new) (RunsScript B.seen O.origin mode file.entry script (W.contents output.old) (W.contents output.new)) result))) }
     ensures unread { IfErr input (λ error. IfSome (C.remaining catalog) (λ bytes. DoesOver N.remaining catalog_file.entry bytes next.entry.items (W.contents output.old) (W.contents output.new) (λ catalogues. IsUnopened file.entry) result)) }
-    ensures idle { IfErr input (λ error. (is_err result ≡ true) × (result ≡ Err ChainFault.Unchained → 0 < length next.entry.items) × Keeps (W.contents output.old) (W.contents output.new)) }
+    ensures idle { IfErr input (λ error. IsErrAnd result (IsOfCatalogues next.entry.items) × Keeps (W.contents output.old) (W.contents output.new)) }
 {
     let chain = read_catalogs(alloc, catalog_file, catalog, next)?;
     match input {

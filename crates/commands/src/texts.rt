@@ -1,10 +1,10 @@
 //! The files that are named in a session, and who is told how far their rows are.
 
+use crate::opened::{Opened, open_file};
 use crate::row_progress::RowProgress;
-use std::fs::File;
+use std::io;
 use std::io::Read;
 use std::rt::HostRuntime;
-use std::{fs, io};
 
 /// Opens files by their names, and knows who is told how far their rows are.
 pub trait OpensText<T: Read> {
@@ -15,9 +15,9 @@ pub trait OpensText<T: Read> {
     fn row_progress(&self) -> RowProgress<'_>;
 }
 
-impl OpensText<File> for HostRuntime {
-    fn open_text(&self, name: &str) -> io::Result<File> {
-        fs::open(self, name)
+impl OpensText<Opened<'static>> for HostRuntime {
+    fn open_text(&self, name: &str) -> io::Result<Opened<'static>> {
+        open_file(self, name)
     }
 
     fn row_progress(&self) -> RowProgress<'_> {

@@ -3,25 +3,25 @@
 //! which of them a statement reads; `fragdb play SCRIPT` plays a schedule, letter by letter; `fragdb run SCRIPT`
 //! runs many sessions, each in a thread of its own.
 //!
-//! Here files are opened, and the crate `commands` is called. The contract that carries the program is that of its
-//! `perform::perform`: what is written and what comes of each request.
+//! Here the words are read, and the crate `commands` is called, which opens what they name. The contract that carries the
+//! program is that of its `perform::perform`: what is written and what comes of each request.
 #![tactic(auto)]
 
 mod explanation;
-mod task;
 
 use crate::explanation::explain;
-use crate::task::{Task, outcome_of, outcome_of_session};
+use commands::catalog_files::Source;
 use commands::database::Database;
 use commands::dump_command::do_dump;
 use commands::import_command::do_import;
+use commands::opened::{Opened, open_catalog, open_input, open_next};
 use commands::opener::{Folder, InMemory, Lists, Opens};
+use commands::perform::{perform, perform_session};
 use commands::sessions::do_run;
 use commands::solo::SCRIPT_LIMIT;
 use commands::sql_stores::{Files, OpensFiles};
 use commands::suggest_command::do_suggest;
 use commands::world_opener::OpensWorld;
-use lines::built_in::{BUILT_IN, BUILT_IN_NAME};
 use lines::fault::ProgramFault;
 use lines::outcome::{Outcome, Status, exit};
 use lines::usage::{Asked, Given, Request, Stores, read_words, show_usage, unreadable_words};
@@ -32,7 +32,7 @@ use std::process::ExitCode;
 use std::sync::Wait;
 use std::thread::Threads;
 use std::time::Clock;
-use std::{env, fs, io};
+use std::{env, io};
 use store::desk_store::DeskStore;
 use store::site_store::SiteStore;
 
@@ -40,7 +40,7 @@ fn main(rt: HostRuntime) -> ExitCode {
     ExitCode::from(do_words(&rt, &rt).code())
 }
 
-/// Reads the command line, opens the file that it names, and does what it asks for. Sessions have threads from the
+/// Reads the command line, and does what it asks for. Sessions have threads from the
 /// handle beside the runtime, which has none itself outside `main`.
 fn do_words<H: Threads + Wait + Clock + Copy + Send + Sync + 'static>(
     rt: &HostRuntime,
@@ -74,7 +74,7 @@ fn do_asked<H: Threads + Wait + Clock + Copy + Send + Sync + 'static, W: Write, 
 ) -> Status {
     let next = given.next.as_slice();
     match given.asked {
-        Asked::Alone(request) => do_request(rt, Task { request, next }, output, errors),
+        Asked::Alone(request) => do_request(rt, request, next, output, errors),
         Asked::Sessions(sessions) => do_run(rt, threads, sessions, next, output, errors),
         Asked::Dump(dump) => do_dump(rt, dump, output, errors),
         Asked::Import(import) => do_import(rt, import, output, errors),
@@ -85,32 +85,35 @@ fn do_asked<H: Threads + Wait + Clock + Copy + Send + Sync + 'static, W: Write, 
 /// Does what a request asks for, over the stores that it names, and tells what it came to.
 fn do_request<W: Write, E: Write>(
     rt: &HostRuntime,
-    task: Task<'_>,
+    request: Request<'_>,
+    next: &[&str],
     output: &mut W,
     errors: &mut E,
 ) -> Status {
-    match task.request.stores() {
-        Stores::Lists => do_request_over(rt, &Lists, &Lists, task, output, errors),
-        Stores::InMemory => do_request_over(rt, &InMemory, &InMemory, task, output, errors),
-        Stores::Folder(dir) => { do_request_in(rt, &Files::new(rt), dir, task, output, errors) }
+    match request.stores() {
+        Stores::Lists => do_over(rt, &Lists, &Lists, request, next, output, errors),
+        Stores::InMemory => do_over(rt, &InMemory, &InMemory, request, next, output, errors),
+        Stores::Folder(dir) => do_in(rt, &Files::new(rt), dir, request, next, output, errors),
     }
 }
 
 /// Does what a request asks for, over the stores of a folder, and tells what it came to.
-fn do_request_in<M: Alter + Drop, F: OpensFiles<M>, W: Write, E: Write>(
+fn do_in<M: Alter + Drop, F: OpensFiles<M>, W: Write, E: Write>(
     rt: &HostRuntime,
     files: &F,
     dir: &str,
-    task: Task<'_>,
+    request: Request<'_>,
+    next: &[&str],
     output: &mut W,
     errors: &mut E,
 ) -> Status {
-    let folder = Folder::new(rt, files, dir, task.request.catalog());
-    do_request_over(rt, &folder, &Lists, task, output, errors)
+    let folder = Folder::new(rt, files, dir, request.catalog());
+    do_over(rt, &folder, &Lists, request, next, output, errors)
 }
 
-/// Does what a request asks for, over the catalogue that it names or the built-in one, and tells what it came to.
-fn do_request_over<
+/// Opens the catalogue and the input that a request names, does what it asks for, and tells what it came to. Where refusals are
+/// to be explained the input is read whole first, as it is looked at once more afterwards.
+fn do_over<
     B: Database + Drop,
     O: Opens<B>,
     D: DeskStore + Drop,
@@ -122,161 +125,32 @@ fn do_request_over<
     rt: &HostRuntime,
     opener: &O,
     worlds: &P,
-    task: Task<'_>,
+    request: Request<'_>,
+    next: &[&str],
     output: &mut W,
     errors: &mut E,
 ) -> Status {
-    match task.request.catalog() {
-        Some(file) => perform_over(
-            rt,
-            opener,
-            worlds,
-            task,
-            file,
-            fs::open(rt, file),
-            output,
-            errors,
-        ),
-        None => {
-            let catalog = Ok(BUILT_IN.as_bytes());
-            perform_over(
-                rt,
-                opener,
-                worlds,
-                task,
-                BUILT_IN_NAME,
-                catalog,
-                output,
-                errors,
-            )
-        }
+    let catalog = open_catalog(rt, request.catalog());
+    let input = open_input(rt, request.is_of_input(), request.file());
+    if begins_session(rt, &request) {
+        let outcome = outcome_of_session(rt, opener, request, catalog, next, input, output, errors);
+        return tell_explained(rt, request, next, &outcome, &[], errors);
     }
-}
-
-/// Opens the file that a request names, and does what it asks for, over this catalogue where it runs or plays a script.
-fn perform_over<
-    B: Database + Drop,
-    O: Opens<B>,
-    D: DeskStore + Drop,
-    S: SiteStore + Drop,
-    P: OpensWorld<D, S>,
-    C: Read + Drop,
-    W: Write,
-    E: Write,
->(
-    rt: &HostRuntime,
-    opener: &O,
-    worlds: &P,
-    task: Task<'_>,
-    catalog_file: &str,
-    catalog: io::Result<C>,
-    output: &mut W,
-    errors: &mut E,
-) -> Status {
-    if task.request.is_of_input() {
-        let input = Ok(rt.stdin());
-        perform_on(
-            rt,
-            opener,
-            worlds,
-            task,
-            catalog_file,
-            catalog,
-            input,
-            output,
-            errors,
-        )
-    } else {
-        let input = fs::open(rt, task.request.file());
-        perform_on(
-            rt,
-            opener,
-            worlds,
-            task,
-            catalog_file,
-            catalog,
-            input,
-            output,
-            errors,
-        )
-    }
-}
-
-/// Does what a request asks for over this input. Where refusals are to be explained the input is read whole first, as
-/// it is looked at once more afterwards.
-fn perform_on<
-    B: Database + Drop,
-    O: Opens<B>,
-    D: DeskStore + Drop,
-    S: SiteStore + Drop,
-    P: OpensWorld<D, S>,
-    C: Read + Drop,
-    R: Read + Drop,
-    W: Write,
-    E: Write,
->(
-    rt: &HostRuntime,
-    opener: &O,
-    worlds: &P,
-    task: Task<'_>,
-    catalog_file: &str,
-    catalog: io::Result<C>,
-    input: io::Result<R>,
-    output: &mut W,
-    errors: &mut E,
-) -> Status {
-    if begins_session(rt, &task.request) {
-        return have_session(
-            rt,
-            opener,
-            task,
-            catalog_file,
-            catalog,
-            input,
-            output,
-            errors,
-        );
-    }
-    if !is_explained(rt, &task.request) {
-        let outcome = outcome_of(
-            rt,
-            opener,
-            worlds,
-            task,
-            catalog_file,
-            catalog,
-            input,
-            output,
-        );
+    if !is_explained(rt, &request) {
+        let outcome = outcome_of(rt, opener, worlds, request, catalog, next, input, output);
         return exit(errors, &outcome);
     }
     match read_whole(rt.alloc(), input) {
         Ok(bytes) => {
             let bytes = bytes.as_slice();
-            explain_performed(
-                rt,
-                opener,
-                worlds,
-                task,
-                catalog_file,
-                catalog,
-                Ok(bytes),
-                output,
-                errors,
-            )
+            let input = Ok(Opened::Text(bytes));
+            let outcome = outcome_of(rt, opener, worlds, request, catalog, next, input, output);
+            tell_explained(rt, request, next, &outcome, bytes, errors)
         }
         Err(error) => {
-            explain_performed(
-                rt,
-                opener,
-                worlds,
-                task,
-                catalog_file,
-                catalog,
-                Err(error),
-                output,
-                errors,
-            )
+            let input = Err(error);
+            let outcome = outcome_of(rt, opener, worlds, request, catalog, next, input, output);
+            tell_explained(rt, request, next, &outcome, &[], errors)
         }
     }
 }
@@ -297,82 +171,88 @@ fn is_at_terminal(rt: &HostRuntime) -> bool {
     rt.stdin().is_terminal() && rt.stdout().is_terminal()
 }
 
-/// Has a session, and explains why a catalogue of it is refused, if one is.
-fn have_session<
-    B: Database + Drop,
-    O: Opens<B>,
-    C: Read + Drop,
-    R: Read + Drop,
-    W: Write,
-    E: Write,
->(
-    rt: &HostRuntime,
-    opener: &O,
-    task: Task<'_>,
-    catalog_file: &str,
-    catalog: io::Result<C>,
-    input: io::Result<R>,
-    output: &mut W,
-    errors: &mut E,
-) -> Status {
-    let outcome = outcome_of_session(
-        rt,
-        opener,
-        task,
-        catalog_file,
-        catalog,
-        input,
-        output,
-        errors,
-    );
-    let status = exit(errors, &outcome);
-    let _ = explain(rt, task, &outcome, &[], errors);
-    status
-}
-
 /// All that an input gives, or one byte more than a script may have.
-fn read_whole<R: Read + Drop>(alloc: Global, input: io::Result<R>) -> io::Result<Vec<u8>> {
+fn read_whole(alloc: Global, input: io::Result<Opened<'_>>) -> io::Result<Vec<u8>> {
     let mut bytes = Vec::new(alloc);
     input?.take(SCRIPT_LIMIT + 1).read_to_end(&mut bytes)?;
     Ok(bytes)
 }
 
-/// Does what a request asks for over these bytes, and explains what was refused of it.
-fn explain_performed<
+/// What a session comes to, over its catalogue and those that come next.
+fn outcome_of_session<'a, B: Database + Drop, O: Opens<B>, W: Write, E: Write>(
+    rt: &HostRuntime,
+    opener: &O,
+    request: Request<'a>,
+    catalog: Source<'a, Opened<'_>>,
+    next: &[&'a str],
+    input: io::Result<Opened<'_>>,
+    output: &mut W,
+    errors: &mut E,
+) -> Outcome<'a> {
+    let Source { file, catalog } = catalog;
+    match open_next(rt, next) {
+        Ok(next) => perform_session(
+            rt.alloc(),
+            opener,
+            rt,
+            request,
+            file,
+            catalog,
+            next,
+            input,
+            output,
+            errors,
+        ),
+        Err(_) => Outcome::Stopped(ProgramFault::Memory),
+    }
+}
+
+/// What a request comes to, over its catalogue and those that come next.
+fn outcome_of<
+    'a,
     B: Database + Drop,
     O: Opens<B>,
     D: DeskStore + Drop,
     S: SiteStore + Drop,
     P: OpensWorld<D, S>,
-    C: Read + Drop,
     W: Write,
-    E: Write,
 >(
     rt: &HostRuntime,
     opener: &O,
     worlds: &P,
-    task: Task<'_>,
-    catalog_file: &str,
-    catalog: io::Result<C>,
-    input: io::Result<&[u8]>,
+    request: Request<'a>,
+    catalog: Source<'a, Opened<'_>>,
+    next: &[&'a str],
+    input: io::Result<Opened<'_>>,
     output: &mut W,
+) -> Outcome<'a> {
+    let Source { file, catalog } = catalog;
+    match open_next(rt, next) {
+        Ok(next) => perform(
+            rt.alloc(),
+            opener,
+            worlds,
+            request,
+            file,
+            catalog,
+            next,
+            input,
+            output,
+        ),
+        Err(_) => Outcome::Stopped(ProgramFault::Memory),
+    }
+}
+
+/// Tells what a request came to, and explains what was refused of it, whose input had these bytes.
+fn tell_explained<E: Write>(
+    rt: &HostRuntime,
+    request: Request<'_>,
+    next: &[&str],
+    outcome: &Outcome<'_>,
+    bytes: &[u8],
     errors: &mut E,
 ) -> Status {
-    let bytes: &[u8] = match &input {
-        Ok(bytes) => bytes,
-        Err(_) => &[],
-    };
-    let outcome = outcome_of(
-        rt,
-        opener,
-        worlds,
-        task,
-        catalog_file,
-        catalog,
-        input,
-        output,
-    );
-    let status = exit(errors, &outcome);
-    let _ = explain(rt, task, &outcome, bytes, errors);
+    let status = exit(errors, outcome);
+    let _ = explain(rt, request, next, outcome, bytes, errors);
     status
 }

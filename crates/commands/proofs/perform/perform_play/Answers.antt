@@ -21,4 +21,4 @@ returns-in-Ok-clause-idle g c =
     (came_idle (g.C.Read.remaining c.in-Ok.catalog) c.args.input outcome_of_end (λ bytes. DoesOver g.N.Read.remaining c.args.file bytes c.args.next.items old new (λ catalogues. IsUnopened c.args.script)) c.play_files.result c.of_end.result c.of_end.ensures c.play_files.ensures.unread)
 
 pub returns-in-Ok-clause-unread : goal.returns-in-Ok-clause-unread
-returns-in-Ok-clause-unread g c = on_err _ _ _ _ c.args.input (stopped_end c.args.next.items c.play_files.result c.of_end.result c.of_end.ensures) c.play_files.ensures.idle
+returns-in-Ok-clause-unread g c = on_err _ _ _ c.args.input (stopped_end c.args.next.items c.play_files.result c.of_end.result c.of_end.ensures) c.play_files.ensures.idle

@@ -20,4 +20,4 @@ returns-in-Ok-clause-idle g c =
     (came_idle (g.C.Read.remaining c.in-Ok.catalog) c.args.input outcome_of_script (λ bytes. DoesOver g.N.Read.remaining c.args.file bytes c.args.next.items old new (λ catalogues. IsUnopened c.args.script)) c.solo_files.result c.of_script.result c.of_script.ensures c.solo_files.ensures.unread)
 
 pub returns-in-Ok-clause-unread : goal.returns-in-Ok-clause-unread
-returns-in-Ok-clause-unread g c = on_err _ _ _ _ c.args.input (stopped_script c.args.next.items c.solo_files.result c.of_script.result c.of_script.ensures) c.solo_files.ensures.idle
+returns-in-Ok-clause-unread g c = on_err _ _ _ c.args.input (stopped_script c.args.next.items c.solo_files.result c.of_script.result c.of_script.ensures) c.solo_files.ensures.idle
