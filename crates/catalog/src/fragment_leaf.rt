@@ -5,6 +5,7 @@ ghost use Rattle.std.specs.Option.{option_copied};
 ghost use Rattle.catalog.specs.FragmentLeaf.{leaf_counts, leaf_named, leaf_of, leaves_from, leaves_in, leaves_of, names_at, relation_named};
 ghost use Rattle.catalog.specs.Relation.{relation_of};
 
+use crate::column_list::ColumnList;
 use crate::path::{Path, Step, path_columns, path_conds};
 use crate::relation::{SplitRelation, beside_key};
 use crate::tree_paths::tree_paths;
@@ -23,7 +24,7 @@ pub struct FragmentLeaf {
     pub name: Leaf,
     pub steps: Seq<Step>,
     pub conds: Conds,
-    pub columns: Seq<usize>,
+    pub columns: ColumnList,
     pub site: usize,
 }
 
@@ -114,7 +115,7 @@ fn leaf(
     Ok(FragmentLeaf {
         name,
         conds,
-        columns: Seq::new(all),
+        columns: ColumnList::new(all)?,
         site: path.site,
         steps: path.steps,
     })

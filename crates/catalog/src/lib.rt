@@ -21,6 +21,7 @@
 
 pub mod catalogue;
 pub mod chain;
+pub mod column_list;
 mod column_texts;
 pub mod exact;
 pub mod fault;

@@ -4,19 +4,19 @@ ghost use Rattle.std.specs.Prelude.{◌≡◌, ◌<◌, length, IfOk, IfSome};
 ghost use Rattle.plan.specs.Fetch as spec;
 
 use crate::need::{Need, on_column};
+use catalog::column_list::ColumnList;
 use catalog::fragment_leaf::FragmentLeaf;
 use std::alloc::Global;
 use terms::cond::{Cond, Conds};
 use terms::copy::TryCopy;
 use terms::leaf::Leaf;
 use terms::memory::Memory;
-use terms::seq::Seq;
 
 /// A read of a leaf: the leaf's columns, the key first, and conditions on the places of its parts.
 #[derive(Debug, Drop)]
 pub struct Fetch {
     pub leaf: Leaf,
-    pub columns: Seq<usize>,
+    pub columns: ColumnList,
     pub conds: Conds,
 }
 
