@@ -1,7 +1,7 @@
 -- How the rows of tables show what the rows of which they are made have.
-use Rattle.std.proofs.Common.{◌≡◌, ℕ, ℤ, zero, suc, ◌+◌, ◌-◌, ◌<◌, ◌==◌, ◌&&◌, not, Bool, true, false, cond, drop, List, [], ◌∷◌, ◌++◌, length, filter, get_or, map, Option, Some, None, option_map, option_and_then, refl, ap, ap₂, sym, ◌∙◌, append_assoc, arith}
+use Rattle.std.proofs.Common.{◌≡◌, ℕ, ℤ, zero, suc, ◌+◌, ◌-◌, ◌<◌, ◌==◌, ◌&&◌, not, Bool, true, false, cond, drop, List, [], ◌∷◌, ◌++◌, length, filter, get_or, map, Option, Some, None, is_some, if◌then◌else◌, option_map, option_and_then, refl, ap, ap₂, sym, ◌∙◌, append_assoc, arith}
 use Rattle.std.specs.List.{AllByRecursion, cons_option, slice_get}
-use Rattle.std.proofs.lemmas.List.{length-map, map-append}
+use Rattle.std.proofs.lemmas.List.{append-nil, length-append, length-map, map-append}
 use Rattle.std.proofs.lemmas.Option.{slice_get-map}
 use Rattle.terms.specs.declared.cond.Cond.{Cond}
 use Rattle.terms.specs.declared.value.Value.{Value}
@@ -271,3 +271,32 @@ partner_none col columns others_columns front rest others left row left_is is =
     ap (λ (m : List (List Value)). front ++ m)
     (sym (ap (λ (l : List (List Value)). partner_pairs col (numbers columns) (numbers others_columns) l (map (row_of others_columns) others)) left_is
     ∙ ap (λ (o : Option (List Value)). cons_option (option_map (pair (numbers columns) (numbers others_columns) (row_of columns row)) o) more) is))
+
+module _ (col count : ℕ) (columns others_columns : List Column) (rest others : List Joined) (left : List (List Value)) (row : Joined) (left_is : left ≡ row_of columns row ∷ map (row_of columns) rest) where
+  abbrev pub partner_seen : Option (List Value)
+  partner_seen = partner (map (row_of others_columns) others) (seen_part (numbers columns) (row_of columns row) col)
+
+  abbrev pub with_other : Option Joined → Option (List (List Value))
+  with_other other = option_map (λ partner. padded count (sources row) ++ sources partner) other
+
+  abbrev pub laid : List Joined → List (List Value)
+  laid found = map (row_of (laid_beside count columns others_columns)) found
+
+  -- a row that was put together with its partner, if it has one
+  pub put_with : (found made : List Joined) (other both : Option Joined) → made ≡ found ++ cons_option both [] → option_map sources both ≡ with_other other → AllByRecursion (λ column. column.source < count) columns → partner_seen ≡ option_map (row_of others_columns) other →
+      laid made ++ partner_pairs col (numbers columns) (numbers others_columns) (map (row_of columns) rest) (map (row_of others_columns) others) ≡ laid found ++ partner_pairs col (numbers columns) (numbers others_columns) left (map (row_of others_columns) others)
+  put_with found made None None made_is is within there =
+      ap (λ (all : List Joined). laid all ++ partner_pairs col (numbers columns) (numbers others_columns) (map (row_of columns) rest) (map (row_of others_columns) others)) (made_is ∙ append-nil found)
+      ∙ partner_none col columns others_columns (laid found) rest others left row left_is there
+  put_with found made None (Some both) made_is is within there = cc
+  put_with found made (Some other) None made_is is within there = cc
+  put_with found made (Some other) (Some both) made_is is within there =
+      let both_is : sources both ≡ padded count (sources row) ++ sources other = cc in
+      partner_put col count columns others_columns found made rest others left row other both made_is both_is within left_is there
+
+-- it is longer by one then, and by none otherwise
+pub longer_with : {R : Type 0} (f : R → Joined) (with_other : Joined → List (List Value)) (found made : List Joined) (other : Option R) (both : Option Joined) → made ≡ found ++ cons_option both [] → option_map sources both ≡ option_map with_other (option_map f other) → length made ≡ length found + (if is_some other then 1 else 0)
+longer_with f with_other found made None None made_is is = ap (λ (all : List Joined). length all) made_is ∙ length-append found []
+longer_with f with_other found made None (Some both) made_is is = cc
+longer_with f with_other found made (Some other) None made_is is = cc
+longer_with f with_other found made (Some other) (Some both) made_is is = ap (λ (all : List Joined). length all) made_is ∙ length-append found (both ∷ [])

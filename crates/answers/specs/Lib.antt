@@ -1,4 +1,5 @@
 -- Tables, answers and writes, in reading order.
+pub mod FetchRows
 pub mod Laid
 pub mod Table
 pub mod Merged

@@ -12,7 +12,7 @@ use Rattle.plan.specs.Reduced.{same_leaf}
 use Rattle.plan.specs.Rows.{Seen, rows, seen_part}
 use Rattle.plan.specs.Shape.{Shape}
 use Rattle.plan.specs.Uniform.{AreOnce}
-use Rattle.answers.specs.declared.table.FetchRows.{FetchRows}
+use Rattle.answers.specs.FetchRows.{FetchRows}
 use Rattle.answers.specs.Laid.{Table}
 
 -- the row of a key, seen in columns

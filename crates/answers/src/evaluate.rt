@@ -71,7 +71,7 @@ fn table_of<'a>(
         }
         Node::Project(columns) => {
             let (table, before) = table_of(alloc, ledger, below, fetched)?;
-            Ok((cut(alloc, columns.as_slice(), table)?, before))
+            Ok((cut(columns.as_slice(), table), before))
         }
         Node::Union => {
             let (others, below) = table_of(alloc, ledger, below, fetched)?;

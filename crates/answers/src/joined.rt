@@ -179,6 +179,24 @@ impl Joined {
             .with_all(alloc, other.behind.as_slice())?;
         Ok(Joined { first, behind })
     }
+
+    /// So behind them those of one that stays, with copies of its rows.
+    pub(crate) fn beside_copy(
+        self,
+        alloc: Global,
+        count: usize,
+        other: &Joined,
+    ) -> Result<Joined, Memory>
+        requires { 0 < count }
+        ensures { IfOk result (λ both. sources both ≡ padded count (sources self) ++ sources other.now) }
+    {
+        let Joined { first, behind } = self;
+        let own = behind.padded(alloc, count - 1)?;
+        let behind = own
+            .with(alloc, other.first.copy()?)?
+            .with_all(alloc, other.behind.as_slice())?;
+        Ok(Joined { first, behind })
+    }
 }
 
 /// The column of this number.

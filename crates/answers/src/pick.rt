@@ -78,20 +78,12 @@ pub(crate) fn are_once(columns: &[usize]) -> bool
 }
 
 /// Those of the columns that are the key or among the wanted ones.
-pub(crate) fn columns_cut(
-    alloc: Global,
-    wanted: &[usize],
-    columns: &[Column],
-) -> Result<Vec<Column>, Memory>
-    ensures { IfOk result (λ found. found.items ≡ filter (λ column. is_seen wanted.now column.number) columns.now) }
+pub(crate) fn columns_cut(wanted: &[usize], columns: Vec<Column>) -> Vec<Column>
+    ensures { result.items ≡ filter (λ column. is_seen wanted.now column.number) columns.items }
 {
-    let mut found = Vec::with_capacity(alloc, columns.len())?;
-    for column in columns {
-        if is_seen(wanted, column.number) {
-            found.push(*column)?;
-        }
-    }
-    Ok(found)
+    let mut columns = columns;
+    columns.retain(|column| is_seen(wanted, column.number));
+    columns
 }
 
 /// Columns of rows made of so many, and behind them those others that are not among them, of rows that stand behind.

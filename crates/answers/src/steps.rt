@@ -68,14 +68,15 @@ fn meeting(conds: &[Cond], columns: &[Column], rows: Vec<Joined>) -> Vec<Joined>
 }
 
 /// The rows cut to the key and the wanted columns.
-pub(crate) fn cut(alloc: Global, wanted: &[usize], table: Table) -> Result<Table, Memory>
-    ensures { IfOk result (λ made. made ≡ cut wanted.now table) }
+pub(crate) fn cut(wanted: &[usize], table: Table) -> Table
+    ensures { result ≡ cut wanted.now table }
 {
-    let columns = columns_cut(alloc, wanted, table.columns.as_slice())?;
-    Ok(Table {
+    let Table { columns, rows } = table;
+    let columns = columns_cut(wanted, columns.into_vec());
+    Table {
         columns: Seq::new(columns),
-        rows: table.rows,
-    })
+        rows,
+    }
 }
 
 /// The rows of both tables that have one key, put together.
@@ -125,13 +126,14 @@ pub(crate) fn partnered(
     ensures made { IfOk result (λ made. made ≡ partnered col width left right.now) }
     ensures most { OnOk result (ledger.new.steps ≤ ledger.old.steps + (length left.rows + length right.now.rows)) }
 {
+    let Table { columns, rows } = left;
     if right.rows.as_slice().is_empty() {
         return Ok(Table {
-            columns: left.columns,
+            columns,
             rows: Seq::new(Vec::new(alloc)),
         });
     }
-    let columns = left.columns.as_slice();
+    let columns = columns.as_slice();
     let count = sources_of(columns)?;
     let others = columns_past(alloc, width, right.columns.as_slice())?;
     let made = columns_beside(alloc, count, columns, others.as_slice())?;
@@ -142,7 +144,7 @@ pub(crate) fn partnered(
         count,
         columns,
         others.as_slice(),
-        left.rows.as_slice(),
+        rows.into_vec(),
         right.rows.as_slice(),
     )?;
     Ok(Table::new(made, rows))

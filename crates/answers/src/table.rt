@@ -1,6 +1,6 @@
 //! Tables, and the rows that fetches bring.
 
-ghost use Rattle.std.specs.Prelude.{◌≡◌, ◌↔◌, IsTrue, None, length};
+ghost use Rattle.std.specs.Prelude.{◌≡◌, ◌↔◌, IfOk, IsTrue, None, length};
 ghost use Rattle.std.specs.List.{AllByRecursion};
 ghost use Rattle.answers.specs.Evaluated.{is_above, parts_climb};
 ghost use Rattle.answers.specs.Laid.{table_seen};
@@ -8,16 +8,80 @@ ghost use Rattle.answers.specs.Table.{AreParts, given};
 
 use crate::joined::{Column, Joined};
 use plan::fetch::Fetch;
+use std::alloc::Global;
 use std::marker::Model;
 use terms::leaf::Leaf;
+use terms::memory::Memory;
 use terms::part::Part;
 use terms::seq::Seq;
 
-/// What a fetch of a leaf brought: parts in the leaf's columns, by ascending keys.
+/// What a fetch of a leaf brought: parts in the leaf's columns, by ascending keys. They stay where they were brought to.
 #[derive(Debug, Drop)]
-pub struct FetchRows {
-    pub leaf: Leaf,
-    pub parts: Seq<Part>,
+pub struct FetchRows<'a> {
+    leaf: &'a Leaf,
+    parts: &'a [Part],
+}
+
+impl<'a> Model for FetchRows<'a> {
+    ghost use Rattle.answers.specs.FetchRows as brought;
+
+    ghost Value = { brought.FetchRows };
+
+    ghost view = { λ f. record { leaf = f.leaf.now; parts = f.parts.now } };
+}
+
+impl<'a> FetchRows<'a> {
+    /// These parts of a leaf.
+    pub fn new(leaf: &'a Leaf, parts: &'a [Part]) -> FetchRows<'a>
+        ensures { result ≡ record { leaf = leaf.now; parts = parts.now } }
+    {
+        FetchRows { leaf, parts }
+    }
+}
+
+/// The same by itself, where nothing else keeps the parts.
+#[derive(Debug, Drop)]
+pub struct Brought {
+    leaf: Leaf,
+    parts: Seq<Part>,
+}
+
+impl Model for Brought {
+    ghost use Rattle.answers.specs.FetchRows as brought;
+
+    ghost Value = { brought.FetchRows };
+
+    ghost view = { λ b. record { leaf = b.leaf; parts = b.parts } };
+}
+
+impl Brought {
+    /// These parts of a leaf.
+    pub fn new(leaf: Leaf, parts: Vec<Part>) -> Brought
+        ensures { result ≡ record { leaf = leaf; parts = parts.items } }
+    {
+        Brought {
+            leaf,
+            parts: Seq::new(parts),
+        }
+    }
+
+    /// What was brought, where it stands.
+    fn rows(&self) -> FetchRows<'_>
+        ensures { result ≡ self.now }
+    {
+        FetchRows::new(&self.leaf, self.parts.as_slice())
+    }
+}
+
+/// What each fetch brought, where it stands.
+pub fn lent(alloc: Global, brought: &[Brought]) -> Result<Vec<FetchRows<'_>>, Memory>
+    ensures { IfOk result (λ rows. rows.items ≡ brought.now) }
+{
+    let mut rows = Vec::with_capacity(alloc, brought.len())?;
+    for one in brought {
+        rows.push(one.rows())?;
+    }
+    Ok(rows)
 }
 
 /// Rows over columns that go by their numbers, the key (0) first and never a second time. Each row has a
@@ -57,14 +121,14 @@ impl Table {
 }
 
 /// The parts that were given of a leaf; none where there are none.
-pub fn given<'a>(fetched: &'a [FetchRows], leaf: &Leaf) -> &'a [Part]
+pub fn given<'a>(fetched: &[FetchRows<'a>], leaf: &Leaf) -> &'a [Part]
     ensures { result.now ≡ given fetched.now leaf.now }
 {
     let Some((first, rest)) = fetched.split_first() else {
         return &[];
     };
-    if first.leaf == *leaf {
-        return first.parts.as_slice();
+    if *first.leaf == *leaf {
+        return first.parts;
     }
     given(rest, leaf)
 }

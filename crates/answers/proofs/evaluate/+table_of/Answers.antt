@@ -111,12 +111,12 @@ returns-in_ok-table-in-Filter t c =
     let split : c.args.nodes.now ≡ below ++ node.Filter conds ∷ [] = c.in-Some.ensures.cases.0 ∙ ap (λ (last : Node). below ++ last ∷ []) (c.in-Filter.is ∙ ap node.Filter (sym c.as_slice.ensures)) in
     filter_on_top c.args.nodes.now below c.in_ok-table-in-Filter.before.now conds (given c.args.fetched.now) c.in_ok-table-in-Filter.table c.filtered.result c.args.ledger.now.steps c.table_of.new.ledger.steps split c.in-Some.ensures.cases.1 c.in_ok-table-in-Filter.ensures c.filtered.ensures
 
-pub returns-in_ok-cut-in-Project : goal.returns-in_ok-cut-in-Project
-returns-in_ok-cut-in-Project t c =
+pub returns-in_ok-table-in-Project : goal.returns-in_ok-table-in-Project
+returns-in_ok-table-in-Project t c =
     let below = c.in-Some.below.now in
     let columns = c.as_slice-in-Project.result.now in
     let split : c.args.nodes.now ≡ below ++ node.Project columns ∷ [] = c.in-Some.ensures.cases.0 ∙ ap (λ (last : Node). below ++ last ∷ []) (c.in-Project.is ∙ ap node.Project (sym c.as_slice-in-Project.ensures)) in
-    project_on_top c.args.nodes.now below c.in_ok-table-in-Project.before.now columns (given c.args.fetched.now) c.in_ok-table-in-Project.table c.in_ok-cut-in-Project.field-0 c.args.ledger.now.steps c.table_of-in-Project.new.ledger.steps split c.in-Some.ensures.cases.1 c.in_ok-table-in-Project.ensures c.in_ok-cut-in-Project.ensures
+    project_on_top c.args.nodes.now below c.in_ok-table-in-Project.before.now columns (given c.args.fetched.now) c.in_ok-table-in-Project.table c.cut.result c.args.ledger.now.steps c.table_of-in-Project.new.ledger.steps split c.in-Some.ensures.cases.1 c.in_ok-table-in-Project.ensures c.cut.ensures
 
 pub returns-in_ok-united-in-Union : goal.returns-in_ok-united-in-Union
 returns-in_ok-united-in-Union t c =

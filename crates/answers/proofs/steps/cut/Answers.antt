@@ -8,4 +8,4 @@ use Rattle.answers.proofs.steps.cut.Goals as goal
 pub returns : goal.returns
 returns c =
     let wanted = c.args.wanted.now in
-    cut_made_is wanted c.table.inside.columns c.new.result c.table.inside.rows c.args.table (sym c.table.view_is) (c.new.ensures ∙ c.in_ok-columns.ensures ∙ ap (λ (all : List Column). filter (λ column. is_seen wanted column.number) all) c.as_slice.ensures)
+    cut_made_is wanted c.table.inside.columns c.new.result c.table.inside.rows c.args.table (sym c.table.view_is) (c.new.ensures ∙ c.columns_cut-columns.ensures ∙ ap (λ (all : List Column). filter (λ column. is_seen wanted column.number) all) c.into_vec.ensures)
