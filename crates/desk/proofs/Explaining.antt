@@ -23,7 +23,7 @@ use Rattle.plan.specs.Reduced.{FindsAll, is_fetched, same_leaf}
 use Rattle.plan.specs.Rows.{met}
 use Rattle.plan.specs.Shape.{Shape}
 use Rattle.plan.proofs.Fetched.{one_name}
-use Rattle.answers.specs.declared.table.FetchRows.{FetchRows}
+use Rattle.answers.specs.FetchRows.{FetchRows}
 use Rattle.answers.specs.Moves.{moves_between}
 use Rattle.answers.specs.Table.{given}
 use Rattle.answers.specs.Writes.{writes_between}

@@ -1,5 +1,5 @@
 -- Rows that come, and what is evaluated once all are in.
-use Rattle.std.specs.Prelude.{ℕ, nat_eq, Bool, false, ◌&&◌, ◌||◌, if◌then◌else◌, List, [], ◌∷◌, Option, Some, None, is_none, is_some, length}
+use Rattle.std.specs.Prelude.{ℕ, nat_eq, Bool, false, ◌&&◌, ◌||◌, if◌then◌else◌, List, Option, Some, None, is_none, is_some, length}
 use Rattle.std.specs.Cmp.Lexicographic.{pointwise}
 use Rattle.std.specs.List.{filter_map, list_all}
 use Rattle.std.specs.Option.{option_map}
@@ -7,7 +7,7 @@ use Rattle.terms.specs.declared.value.Value.{Value}
 use Rattle.catalog.specs.declared.fragment_leaf.FragmentLeaf.{FragmentLeaf}
 use Rattle.catalog.specs.Catalogue.{Catalogue}
 use Rattle.catalog.specs.FragmentLeaf.{catalogue_leaves, leaf_named}
-use Rattle.answers.specs.declared.table.FetchRows.{FetchRows}
+use Rattle.answers.specs.FetchRows.{FetchRows}
 use Rattle.answers.specs.Evaluated.{parts_climb}
 use Rattle.protocol.specs.Desk.{is_numbered}
 use Rattle.desk.specs.declared.fetches.Ask.{Ask}
@@ -47,3 +47,12 @@ brought_by ask = option_map (λ rows. record { leaf = ask.leaf; parts = rows }) 
 
 abbrev pub brought : List Ask → List FetchRows
 brought asks = filter_map brought_by asks
+
+-- the parts that a fetch has, and these where it has none
+abbrev pub own_or : List (List Value) → Option (List (List Value)) → List (List Value)
+own_or rows None = rows
+own_or rows (Some own) = own
+
+-- what a fetch brought where it waited for these rows, or had its own
+abbrev pub fetched_with : List (List Value) → Ask → FetchRows
+fetched_with rows ask = record { leaf = ask.leaf; parts = own_or rows ask.rows }

@@ -29,9 +29,9 @@ use Rattle.desk.specs.declared.transition.Transition.{Transition}
 use Rattle.desk.specs.declared.volatile.Volatile.{Volatile}
 use Rattle.desk.specs.Acknowledge.{kept_voters}
 use Rattle.desk.specs.Called.{CallsStore}
-use Rattle.desk.specs.Request.{IsAt, IsOver, txn_in}
+use Rattle.desk.specs.Request.{IsAt, IsOver, WhyNotStated, txn_in}
 use Rattle.desk.specs.Database.{Database, language, replied}
-use Rattle.desk.specs.Does.{IsPastLimits, Takes}
+use Rattle.desk.specs.Does.{IsNoStatement, IsPastLimits, States, StatesPastLimits, Takes}
 use Rattle.desk.specs.OfCatalogue.{InForce, IsNextOf, IsOfCatalogue, first_in, follow}
 use Rattle.desk.specs.Recovery.{IsStrange, Restarts, Rises}
 use Rattle.desk.specs.State.{Fits, desk_of, volatile_of}
@@ -81,6 +81,16 @@ pub record StatesPlainly {S : Type 0} (old new : Desk S) (txn : Txn) (result : R
   pub still : OnOk result (is_moving ((volatile_of old.volatile).standing txn) ≡ false)
   pub plainly : StepsPlainly old new result
   pub accepted : (db : Database) (statement : Statement) → OnOk result (protocol.refusal (protocol.State ((volatile_of old.volatile).version, statement)) (txn_in db (volatile_of old.volatile) txn) ≡ None)
+
+-- a call states the text of a transaction's statement: what it does, why it is refused, and what it leaves. kept: what a store keeps
+pub record StatesDesk {S : Type 0} (kept : S → DeskContent) (old new : Desk S) (txn : Txn) (text : List ℕ) (result : Result Out Refusal) : Type 0 where
+  pub ok : (db : Database) → IsOfCatalogue db → InForce db old.volatile.version old.catalog → Fits db (kept old.store) (volatile_of old.volatile)
+      → IfOk result (λ out. States db (volatile_of old.volatile) (kept new.store) (volatile_of new.volatile) txn text out.letters out.replies)
+  pub states : StatesPlainly old new txn result
+  pub told : (db : Database) (statement : Statement) → IfErr result (λ told. (told ≡ refusals.Memory) ⊎ WhyNotStated db (volatile_of old.volatile) txn statement told
+      ⊎ ((protocol.refusal (protocol.State (old.volatile.version, statement)) (txn_in db (volatile_of old.volatile) txn) ≡ None) × (IsNoStatement (schemas_of (catalogue_of old.catalog)) text told ⊎ (told ≡ refusals.Full))))
+  pub full : (db : Database) → IsOfCatalogue db → InForce db old.volatile.version old.catalog → Fits db (kept old.store) (volatile_of old.volatile) → result ≡ Err refusals.Full
+      → StatesPastLimits db (volatile_of old.volatile) txn text
 
 -- a step that calls no store leaves what stands there, and nobody hears that it is committed
 pub record LeavesStanding (result : Result Transition Memory) : Type 0 where

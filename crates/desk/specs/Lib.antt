@@ -16,6 +16,7 @@ pub mod Statement
 pub mod ReducedPlan
 pub mod Planned
 pub mod Fetches
+pub mod Evaluated
 pub mod Stepped
 pub mod Commit
 pub mod Called

@@ -3,7 +3,6 @@
 ghost use Rattle.std.specs.Prelude.{◌≡◌, ◌≢◌, ◌⊎◌, ◌+◌, ◌≤◌, ◌^◌, ◌==◌, ◌∷◌, [], List, map, None, Some, true, false, Err, IfOk, IfErr, IfSome, OnOk, if◌then◌else◌};
 ghost use Rattle.std.specs.BTreeMap.{IsOrdered};
 ghost use Rattle.std.specs.Option.{option_copied, option_map};
-ghost use Rattle.meaning.specs.declared.statement.Statement.{Statement as StatementNow};
 ghost use Rattle.meaning.specs.Statement.{IsStatementOf, is_refragment};
 ghost use Rattle.catalog.specs.Catalogue.{Catalogue};
 ghost use Rattle.catalog.specs.FragmentLeaf.{schemas_of};
@@ -19,8 +18,8 @@ ghost use Rattle.store.specs.declared.reply.Reply.{Reply};
 ghost use Rattle.desk.specs.declared.refusal.Refusal.TheVariants as refusals;
 ghost use Rattle.desk.specs.Request.{IsOver, WhyNotStated, refused_as, txn_in};
 ghost use Rattle.desk.specs.Database.{Database, language};
-ghost use Rattle.desk.specs.Does.{IsNoStatement, IsReadAs, Runs, RunsPastLimits, States, StatesPastLimits};
-ghost use Rattle.desk.specs.Frame.{RefragmentsDesk, RestartsDesk, StatesPlainly, StepsPlainly, TakesLetter, TakesUnder};
+ghost use Rattle.desk.specs.Does.{IsReadAs, Runs, RunsPastLimits};
+ghost use Rattle.desk.specs.Frame.{RefragmentsDesk, RestartsDesk, StatesDesk, StatesPlainly, StepsPlainly, TakesLetter, TakesUnder};
 ghost use Rattle.desk.specs.OfCatalogue.{InForce, IsOfCatalogue, first_in, follow, from_number};
 ghost use Rattle.desk.specs.Recovery.{IsStrange, Rises};
 ghost use Rattle.desk.specs.State.{Begins, Fits, Steps, anyone_moves, desk_of, volatile_from, volatile_of};
@@ -189,13 +188,7 @@ impl<S: DeskStore> Desk<S> {
     /// A statement of a transaction, by its text. The text is read under the catalogue's schema; one of BEGIN, COMMIT or ROLLBACK
     /// is no statement's, and for a REFRAGMENT the transaction is too busy. After a refusal nothing has changed.
     pub fn statement(&mut self, txn: Txn, text: &str) -> Result<Out, Refusal>
-        ensures ok { (db : Database) → IsOfCatalogue db → InForce db self.old.volatile.version self.old.catalog → Fits db (S.kept self.old.store) (volatile_of self.old.volatile)
-            → IfOk result (λ out. States db (volatile_of self.old.volatile) (S.kept self.new.store) (volatile_of self.new.volatile) txn text.now out.letters out.replies) }
-        ensures states { StatesPlainly self.old self.new txn result }
-        ensures told { (db : Database) (statement : StatementNow) → IfErr result (λ told. (told ≡ refusals.Memory) ⊎ WhyNotStated db (volatile_of self.old.volatile) txn statement told
-            ⊎ ((refusal (State (self.old.volatile.version, statement)) (txn_in db (volatile_of self.old.volatile) txn) ≡ None) × (IsNoStatement (schemas_of (catalogue_of self.old.catalog)) text.now told ⊎ (told ≡ refusals.Full)))) }
-        ensures full { (db : Database) → IsOfCatalogue db → InForce db self.old.volatile.version self.old.catalog → Fits db (S.kept self.old.store) (volatile_of self.old.volatile) → result ≡ Err refusals.Full
-            → StatesPastLimits db (volatile_of self.old.volatile) txn text.now }
+        ensures { StatesDesk S.kept self.old self.new txn text.now result }
     {
         self.state(txn, text, None)
     }
@@ -203,13 +196,7 @@ impl<S: DeskStore> Desk<S> {
     /// So where it may be known what the text was read as before under this catalogue's schema: then it isn't read again.
     pub fn state(&mut self, txn: Txn, text: &str, known: Option<Statement>) -> Result<Out, Refusal>
         requires { IfSome known (IsReadAs (schemas_of (catalogue_of self.old.catalog)) text.now) }
-        ensures ok { (db : Database) → IsOfCatalogue db → InForce db self.old.volatile.version self.old.catalog → Fits db (S.kept self.old.store) (volatile_of self.old.volatile)
-            → IfOk result (λ out. States db (volatile_of self.old.volatile) (S.kept self.new.store) (volatile_of self.new.volatile) txn text.now out.letters out.replies) }
-        ensures states { StatesPlainly self.old self.new txn result }
-        ensures told { (db : Database) (statement : StatementNow) → IfErr result (λ told. (told ≡ refusals.Memory) ⊎ WhyNotStated db (volatile_of self.old.volatile) txn statement told
-            ⊎ ((refusal (State (self.old.volatile.version, statement)) (txn_in db (volatile_of self.old.volatile) txn) ≡ None) × (IsNoStatement (schemas_of (catalogue_of self.old.catalog)) text.now told ⊎ (told ≡ refusals.Full)))) }
-        ensures full { (db : Database) → IsOfCatalogue db → InForce db self.old.volatile.version self.old.catalog → Fits db (S.kept self.old.store) (volatile_of self.old.volatile) → result ≡ Err refusals.Full
-            → StatesPastLimits db (volatile_of self.old.volatile) txn text.now }
+        ensures { StatesDesk S.kept self.old self.new txn text.now result }
     {
         call_statement(&mut self.volatile, &self.catalog, txn, text, known)
     }

@@ -7,7 +7,7 @@ ghost use Rattle.protocol.specs.Letters.{leaf_of};
 ghost use Rattle.desk.specs.Place.{home_in, site_in};
 ghost use Rattle.desk.specs.Planned.{ask_from, unsent_by, unsent_from};
 ghost use Rattle.catalog.specs.FragmentLeaf.{catalogue_leaves, leaf_named};
-ghost use Rattle.desk.specs.Fetches.{are_in_with, awaits, brought, brought_by, fits_leaf, has_rows_with, rows_for, with_rows};
+ghost use Rattle.desk.specs.Fetches.{are_in_with, awaits, fetched_with, fits_leaf, has_rows_with, rows_for, with_rows};
 
 use crate::transaction::Unsent;
 use answers::moves::Move;
@@ -208,53 +208,37 @@ fn has_rows_with(catalog: &Catalog, site: &Text, rows: &Rows, ask: &Ask) -> bool
     ask.rows.is_some() || awaits(catalog, site, rows, ask)
 }
 
-/// Whether all rows are in once these have come.
+/// Whether all rows are in once these have come. The last fetch is looked at first: it mostly waits the longest.
 pub(crate) fn are_in_with(catalog: &Catalog, site: &Text, rows: &Rows, asks: &[Ask]) -> bool
     ensures { result ≡ are_in_with (catalogue_of catalog.now) site.now rows.now.op rows.now.parts asks.now }
 {
-    asks.iter()
-        .all(|ask| has_rows_with(catalog, site, rows, ask))
+    let Some((ask, rest)) = asks.split_first() else {
+        return true;
+    };
+    are_in_with(catalog, site, rows, rest) && has_rows_with(catalog, site, rows, ask)
 }
 
-/// What a fetch has brought once these rows have come.
-fn brought_by(
-    catalog: &Catalog,
-    site: &Text,
-    rows: &Rows,
-    ask: &Ask,
-) -> Result<Option<FetchRows>, Memory>
-    ensures { IfOk result (λ found. found ≡ brought_by (with_rows (catalogue_of catalog.now) site.now rows.now.op rows.now.parts ask.now)) }
+/// What a fetch has brought, where it waited for these rows or had its own. The rows stay where they are.
+fn brought_by<'a>(rows: &'a Rows, ask: &'a Ask) -> FetchRows<'a>
+    ensures { result ≡ fetched_with rows.now.parts ask.now }
 {
-    if awaits(catalog, site, rows, ask) {
-        return Ok(Some(FetchRows {
-            leaf: ask.leaf.copy()?,
-            parts: rows.parts.copy()?,
-        }));
-    }
     match &ask.rows {
-        Some(parts) => Ok(Some(FetchRows {
-            leaf: ask.leaf.copy()?,
-            parts: parts.copy()?,
-        })),
-        None => Ok(None),
+        Some(own) => FetchRows::new(&ask.leaf, own.as_slice()),
+        None => FetchRows::new(&ask.leaf, rows.parts.as_slice()),
     }
 }
 
-/// What fetches have brought once these rows have come.
-pub(crate) fn brought_with(
+/// What fetches have brought, each of which waited for these rows or had its own.
+pub(crate) fn brought_with<'a>(
     alloc: Global,
-    catalog: &Catalog,
-    site: &Text,
-    rows: &Rows,
-    asks: &[Ask],
-) -> Result<Vec<FetchRows>, Memory>
-    ensures { IfOk result (λ fetched. fetched.items ≡ brought (map (with_rows (catalogue_of catalog.now) site.now rows.now.op rows.now.parts) asks.now)) }
+    rows: &'a Rows,
+    asks: &'a [Ask],
+) -> Result<Vec<FetchRows<'a>>, Memory>
+    ensures { IfOk result (λ fetched. fetched.items ≡ map (fetched_with rows.now.parts) asks.now) }
 {
-    let mut fetched = Vec::new(alloc);
+    let mut fetched = Vec::with_capacity(alloc, asks.len())?;
     for ask in asks {
-        if let Some(found) = brought_by(catalog, site, rows, ask)? {
-            fetched.push(found)?;
-        }
+        fetched.push(brought_by(rows, ask))?;
     }
     Ok(fetched)
 }

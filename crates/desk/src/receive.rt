@@ -34,12 +34,12 @@ ghost use Rattle.desk.specs.OfCatalogue.{InForce, IsNextOf, IsOfCatalogue};
 use crate::abort::on_refusal;
 use crate::acknowledge::on_row;
 use crate::commit::{early_vote, gave_first, is_first, on_vote};
-use crate::fetches::{are_in_with, bring, brought_with};
+use crate::fetches::{are_in_with, bring};
 use crate::refusal::Refusal;
 use crate::reply::Out;
 use crate::request::{limit_or_memory, put_out};
 use crate::send::ticket_of;
-use crate::statement::{Progress, Worked, evaluate, no_progress, ticket_goes, works};
+use crate::statement::{Progress, Worked, no_progress, ticket_goes, worked_out, works};
 use crate::transaction::{Stage, TxnState, Undecided};
 use crate::transition::{Transition, make, room, stays, tells};
 use crate::volatile::Volatile;
@@ -255,14 +255,14 @@ fn rows_come(
         bring(catalog, site, rows, &mut reading.asks)?;
         return Ok(no_progress(alloc));
     }
-    let fetched = brought_with(alloc, catalog, site, rows, reading.asks.as_slice())?;
-    let worked = evaluate(
+    let worked = worked_out(
         alloc,
         catalog,
         next,
         &reading.statement,
         &reading.plan,
-        fetched.as_slice(),
+        reading.asks.as_slice(),
+        rows,
     )?;
     let Worked { answer, unsent } = worked;
     works(alloc, txn, undecided, answer, unsent)

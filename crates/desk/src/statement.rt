@@ -8,7 +8,8 @@ ghost use Rattle.desk.specs.declared.refusal.Refusal.TheVariants as refusals;
 ghost use Rattle.desk.specs.declared.transaction.TxnState.TheVariants as standings;
 ghost use Rattle.desk.specs.declared.transaction.Stage.TheVariants as stages;
 ghost use Rattle.desk.specs.Database.{Database, language};
-ghost use Rattle.desk.specs.Fetches.{brought};
+ghost use Rattle.desk.specs.Evaluated.{ComesTo};
+ghost use Rattle.desk.specs.Fetches.{fetched_with};
 ghost use Rattle.desk.specs.Frame.{SendsOrStays};
 ghost use Rattle.desk.specs.Opening.{HaveParticipants, opens, visits};
 ghost use Rattle.desk.specs.Planned.{AreUnsentBy, AreUnsentFrom, IsOfPlan, unsent_by, unsent_from};
@@ -45,7 +46,7 @@ ghost use Rattle.answers.specs.Writes.{writes_between};
 ghost use Rattle.meaning.specs.declared.statement.Statement.{Statement};
 ghost use Rattle.desk.specs.declared.transaction.Unsent.{Unsent as UnsentNow};
 
-use crate::fetches::{Ask, unsent_by, unsent_of};
+use crate::fetches::{Ask, brought_with, unsent_by, unsent_of};
 use crate::participant::{Participant, with_ticket};
 use crate::refusal::Refusal;
 use crate::reply::{Notice, Reply};
@@ -66,6 +67,7 @@ use plan::postfix::Node;
 use std::alloc::Global;
 use store::letter::Letter;
 use store::name::{Ticket, Txn};
+use store::reply::Rows;
 use terms::copy::TryCopy;
 use terms::memory::Memory;
 use terms::seq::Seq;
@@ -287,10 +289,7 @@ pub(crate) fn evaluate(
     plan: &Planned,
     fetched: &[FetchRows],
 ) -> Result<Worked, Memory>
-    ensures home { (db : Database) (n : ℕ) → IsOfCatalogue db → InForce db n catalog.now → IsNextOf db n (option_copied next.entry) → IfOk result (λ worked. UnsentAtHome db worked.unsent.items) }
-    ensures participants { (db : Database) (n : ℕ) (participants : List Participant) → IsOfCatalogue db → InForce db n catalog.now → IsNextOf db n (option_copied next.entry) → sites_of participants ≡ db.sites → IfOk result (λ worked. HaveParticipants participants (write_sites worked.unsent.items)) }
-    ensures explained { (db : Database) (n : ℕ) (t : Name) (asks : List AskNow) → fetched.now ≡ brought asks → IsOfCatalogue db → InForce db n catalog.now → IsNextOf db n (option_copied next.entry) → IsOfPlan db n statement.now plan.now asks
-        → IfOk result (λ worked. Explained {L = language db} (WorkedDeed t (n, statement.now) (map (ask_of db) asks) (worked.answer, map write_of worked.unsent.items))) }
+    ensures { ComesTo catalog.now (option_copied next.entry) statement.now plan.now fetched.now result }
 {
     leaf_names_are_unique();
     let fetches = plan.fetches();
@@ -307,6 +306,22 @@ pub(crate) fn evaluate(
         return Err(Memory);
     };
     moves_of(alloc, catalog, next, refragment, nodes, fetches, fetched)
+}
+
+/// What a statement comes to once these rows have come, which were the last that it waited for.
+pub(crate) fn worked_out<'a>(
+    alloc: Global,
+    catalog: &Catalog,
+    next: Option<&Catalog>,
+    statement: &Statement,
+    plan: &Planned,
+    asks: &'a [Ask],
+    rows: &'a Rows,
+) -> Result<Worked, Memory>
+    ensures { ComesTo catalog.now (option_copied next.entry) statement.now plan.now (map (fetched_with rows.now.parts) asks.now) result }
+{
+    let fetched = brought_with(alloc, rows, asks)?;
+    evaluate(alloc, catalog, next, statement, plan, fetched.as_slice())
 }
 
 /// So a statement that leaves the split of each relation as it is.

@@ -4,10 +4,10 @@ use Rattle.catalog.specs.Relation.{catalogue_of}
 use Rattle.protocol.specs.Letters.{txn_name}
 use Rattle.desk.specs.declared.transaction.Stage.TheVariants as stages
 use Rattle.desk.specs.Commit.{is_first}
-use Rattle.desk.specs.Fetches.{are_in_with, brought, with_rows}
+use Rattle.desk.specs.Fetches.{are_in_with, brought, fetched_with, with_rows}
 use Rattle.desk.specs.Participants.{participant_in}
 use Rattle.desk.specs.Transaction.{ask_of}
-use Rattle.desk.proofs.Arriving.{in_with}
+use Rattle.desk.proofs.Arriving.{all_brought, in_with}
 use Rattle.desk.proofs.Doing.{planned_given_by, rows_strange, rows_unread, rows_wait_by, works_rows}
 use Rattle.desk.proofs.Full.{rows_long}
 use Rattle.desk.proofs.PastLimit.{writes_past}
@@ -48,8 +48,8 @@ returns-clause-does c = λ db n of same next are known.
     let here : u.stage ≡ stages.Reading reading = search rules in
     let first : is_first c.args.rows.now.ticket (participant_in c.args.site.now u.participants).ticket ≡ true = search rules in
     let list = map (with_rows (catalogue_of c.args.catalog.now) c.args.site.now c.args.rows.now.op c.args.rows.now.parts) reading.asks.items in
-    let rows : c.as_slice-4.result.now ≡ brought list = search rules in
     let full_in : are_in_with (catalogue_of c.args.catalog.now) c.args.site.now c.args.rows.now.op c.args.rows.now.parts reading.asks.items ≡ true = search rules in
+    let rows : map (fetched_with c.args.rows.now.parts) c.as_slice-3.result.now ≡ brought list = ap (map (fetched_with c.args.rows.now.parts)) c.as_slice-3.ensures.value ∙ all_brought (catalogue_of c.args.catalog.now) c.args.site.now c.args.rows.now.op c.args.rows.now.parts reading.asks.items full_in in
     let all = sym (in_with (catalogue_of c.args.catalog.now) c.args.site.now c.args.rows.now.op c.args.rows.now.parts reading.asks.items) ∙ full_in in
     let same_list = ap (λ cat. map (with_rows cat c.args.site.now c.args.rows.now.op c.args.rows.now.parts) reading.asks.items) (sym same) in
     let home = c.in_ok-worked.ensures.home db n of same next in
@@ -66,8 +66,8 @@ returns-clause-full c = λ db n of same next are known full.
     let here : u.stage ≡ stages.Reading reading = search rules in
     let first : is_first c.args.rows.now.ticket (participant_in c.args.site.now u.participants).ticket ≡ true = search rules in
     let list = map (with_rows (catalogue_of c.args.catalog.now) c.args.site.now c.args.rows.now.op c.args.rows.now.parts) reading.asks.items in
-    let rows : c.as_slice-4.result.now ≡ brought list = search rules in
     let full_in : are_in_with (catalogue_of c.args.catalog.now) c.args.site.now c.args.rows.now.op c.args.rows.now.parts reading.asks.items ≡ true = search rules in
+    let rows : map (fetched_with c.args.rows.now.parts) c.as_slice-3.result.now ≡ brought list = ap (map (fetched_with c.args.rows.now.parts)) c.as_slice-3.ensures.value ∙ all_brought (catalogue_of c.args.catalog.now) c.args.site.now c.args.rows.now.op c.args.rows.now.parts reading.asks.items full_in in
     let all = sym (in_with (catalogue_of c.args.catalog.now) c.args.site.now c.args.rows.now.op c.args.rows.now.parts reading.asks.items) ∙ full_in in
     let same_list = ap (λ cat. map (with_rows cat c.args.site.now c.args.rows.now.op c.args.rows.now.parts) reading.asks.items) (sym same) in
     let planned = planned_given_by db n c.args.txn u c.args.site.now c.args.rows.now of c.leaf_names_are_unique.ensures reading here first known list same_list in

@@ -13,17 +13,15 @@ use Rattle.desk.proofs.Explaining.{moved_ok, worked_ok}
 use Rattle.desk.proofs.Unread.{if_ok}
 use Rattle.desk.proofs.statement.evaluate.Goals as goal
 
-pub returns-then-not-is_refragment-clause-home : goal.returns-then-not-is_refragment-clause-home
-returns-then-not-is_refragment-clause-home c = λ db n of same next. if_ok c.outcome_of.result (λ w from. from_home db of n (catalogue_of c.args.catalog.now) same w.unsent.items from) c.outcome_of.ensures.leaves
-
-pub returns-then-not-is_refragment-clause-participants : goal.returns-then-not-is_refragment-clause-participants
-returns-then-not-is_refragment-clause-participants c = λ db n participants of same next those.
-    if_ok c.outcome_of.result (λ w from. from_participants db of n (catalogue_of c.args.catalog.now) same participants those w.unsent.items from) c.outcome_of.ensures.leaves
-
-pub returns-then-not-is_refragment-clause-explained : goal.returns-then-not-is_refragment-clause-explained
-returns-then-not-is_refragment-clause-explained c = λ db n t asks rows of same next planned.
-    worked_ok db of n c.leaf_names_are_unique.ensures c.args.statement.now c.args.plan.now asks planned t (catalogue_of c.args.catalog.now) same c.args.fetched.now rows c.outcome_of.result
-    c.fetches-fetches.result.now c.fetches-fetches.ensures (plan_of c.nodes-nodes.result.now) c.nodes-nodes.ensures.same (sym c.is_refragment.ensures ∙ c.if-not-is_refragment.true) c.outcome_of.ensures.answer c.outcome_of.ensures.writes
+pub returns-then-not-is_refragment : goal.returns-then-not-is_refragment
+returns-then-not-is_refragment c = record {
+  home = λ db n of same next. if_ok c.outcome_of.result (λ w from. from_home db of n (catalogue_of c.args.catalog.now) same w.unsent.items from) c.outcome_of.ensures.leaves;
+  participants = λ db n participants of same next those.
+      if_ok c.outcome_of.result (λ w from. from_participants db of n (catalogue_of c.args.catalog.now) same participants those w.unsent.items from) c.outcome_of.ensures.leaves;
+  explained = λ db n t asks rows of same next planned.
+      worked_ok db of n c.leaf_names_are_unique.ensures c.args.statement.now c.args.plan.now asks planned t (catalogue_of c.args.catalog.now) same c.args.fetched.now rows c.outcome_of.result
+      c.fetches-fetches.result.now c.fetches-fetches.ensures (plan_of c.nodes-nodes.result.now) c.nodes-nodes.ensures.same (sym c.is_refragment.ensures ∙ c.if-not-is_refragment.true) c.outcome_of.ensures.answer c.outcome_of.ensures.writes;
+}
 
 pub outcome_of-requires-clause-fetched : goal.outcome_of-requires-clause-fetched
 outcome_of-requires-clause-fetched c =
@@ -33,22 +31,19 @@ pub moves_of-requires-clause-fetched : goal.moves_of-requires-clause-fetched
 moves_of-requires-clause-fetched c =
     subst (λ (fetches : List Fetch). EachRead (λ read. Contains fetches read) (plan_of c.nodes-nodes.result.now)) (sym c.fetches-fetches.ensures) c.nodes-nodes.ensures.fetched
 
-pub returns-clause-home : goal.returns-clause-home
-returns-clause-home c = λ db n of same next.
+pub returns : goal.returns
+returns c =
     let there : option_copied c.args.next ≡ Some c.in-Refragment-Some.next.now = search rules in
-    let coming : InForce db (suc n) c.in-Refragment-Some.next.now = subst (IsNextOf db n) there next in
-    if_ok c.moves_of.result (λ w by. by_home db of n (catalogue_of c.args.catalog.now) (catalogue_of c.in-Refragment-Some.next.now) same coming w.unsent.items by) c.moves_of.ensures.leaves
-
-pub returns-clause-participants : goal.returns-clause-participants
-returns-clause-participants c = λ db n participants of same next those.
-    let there : option_copied c.args.next ≡ Some c.in-Refragment-Some.next.now = search rules in
-    let coming : InForce db (suc n) c.in-Refragment-Some.next.now = subst (IsNextOf db n) there next in
-    if_ok c.moves_of.result (λ w by. by_participants db of n (catalogue_of c.args.catalog.now) (catalogue_of c.in-Refragment-Some.next.now) same coming w.unsent.items by participants those) c.moves_of.ensures.leaves
-
-pub returns-clause-explained : goal.returns-clause-explained
-returns-clause-explained c = λ db n t asks rows of same next planned.
-    let there : option_copied c.args.next ≡ Some c.in-Refragment-Some.next.now = search rules in
-    let coming : InForce db (suc n) c.in-Refragment-Some.next.now = subst (IsNextOf db n) there next in
     let is : c.args.statement.now ≡ statements.Refragment c.in-Refragment-Some.refragment = search rules in
-    moved_ok db of n c.leaf_names_are_unique.ensures c.args.statement.now c.args.plan.now asks planned t (catalogue_of c.args.catalog.now) same c.args.fetched.now rows c.moves_of.result
-    c.fetches-fetches.result.now c.fetches-fetches.ensures (plan_of c.nodes-nodes.result.now) c.nodes-nodes.ensures.same c.in-Refragment-Some.refragment is (catalogue_of c.in-Refragment-Some.next.now) coming c.moves_of.ensures.answer c.moves_of.ensures.moves
+    record {
+      home = λ db n of same next.
+          let coming : InForce db (suc n) c.in-Refragment-Some.next.now = subst (IsNextOf db n) there next in
+          if_ok c.moves_of.result (λ w by. by_home db of n (catalogue_of c.args.catalog.now) (catalogue_of c.in-Refragment-Some.next.now) same coming w.unsent.items by) c.moves_of.ensures.leaves;
+      participants = λ db n participants of same next those.
+          let coming : InForce db (suc n) c.in-Refragment-Some.next.now = subst (IsNextOf db n) there next in
+          if_ok c.moves_of.result (λ w by. by_participants db of n (catalogue_of c.args.catalog.now) (catalogue_of c.in-Refragment-Some.next.now) same coming w.unsent.items by participants those) c.moves_of.ensures.leaves;
+      explained = λ db n t asks rows of same next planned.
+          let coming : InForce db (suc n) c.in-Refragment-Some.next.now = subst (IsNextOf db n) there next in
+          moved_ok db of n c.leaf_names_are_unique.ensures c.args.statement.now c.args.plan.now asks planned t (catalogue_of c.args.catalog.now) same c.args.fetched.now rows c.moves_of.result
+          c.fetches-fetches.result.now c.fetches-fetches.ensures (plan_of c.nodes-nodes.result.now) c.nodes-nodes.ensures.same c.in-Refragment-Some.refragment is (catalogue_of c.in-Refragment-Some.next.now) coming c.moves_of.ensures.answer c.moves_of.ensures.moves;
+    }
