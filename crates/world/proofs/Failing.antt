@@ -18,7 +18,7 @@ use Rattle.plan.specs.Contents.{ContentsAscend}
 use Rattle.plan.specs.Given.{AreBrought, brought}
 use Rattle.plan.specs.Rows.{met}
 use Rattle.plan.specs.Stated.{AreFetchesOf}
-use Rattle.answers.specs.declared.table.FetchRows.{FetchRows}
+use Rattle.answers.specs.FetchRows.{FetchRows}
 use Rattle.answers.specs.Table.{AreParts}
 use Rattle.store.specs.declared.name.Txn.{Txn}
 use Rattle.store.specs.Content.{parts}

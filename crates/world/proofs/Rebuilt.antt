@@ -36,7 +36,7 @@ use Rattle.plan.specs.Reduced.{FindsAll}
 use Rattle.plan.specs.Postfix.{plan_of}
 use Rattle.plan.specs.Stated.{AreFetchesOf}
 use Rattle.plan.proofs.JoinFound.{fits_long}
-use Rattle.answers.specs.declared.table.FetchRows.{FetchRows}
+use Rattle.answers.specs.FetchRows.{FetchRows}
 use Rattle.answers.specs.Table.{given}
 use Rattle.store.specs.declared.name.Txn.{Txn}
 use Rattle.store.specs.Content.{Content, parts}

@@ -13,7 +13,7 @@ use Rattle.meaning.specs.Whole.{Relations, rows_of}
 use Rattle.catalog.specs.Catalogue.{Catalogue}
 use Rattle.plan.specs.declared.fetch.Fetch.{Fetch}
 use Rattle.plan.specs.Need.{places_to}
-use Rattle.answers.specs.declared.table.FetchRows.{FetchRows}
+use Rattle.answers.specs.FetchRows.{FetchRows}
 use Rattle.store.specs.declared.name.Txn.{Txn}
 use Rattle.store.specs.Content.{Content, parts}
 use Rattle.protocol.specs.Desk.{Deed}

@@ -41,7 +41,7 @@ use crate::fault::Fault;
 use crate::laws::database_is_of_catalogue;
 use crate::machines::Machines;
 use crate::sites::is_called;
-use answers::table::{FetchRows, are_all_parts};
+use answers::table::{Brought, are_all_parts, lent};
 use answers::work::work;
 use catalog::catalogue::Catalog;
 use catalog::laws::leaf_names_are_unique;
@@ -242,7 +242,7 @@ fn bring_one<D: DeskStore, S: SiteStore>(
     machines: &mut Machines<D, S>,
     decided: &[Txn],
     fetch: &Fetch,
-) -> Result<FetchRows, Fault>
+) -> Result<Brought, Fault>
     ensures sent { result ≢ Err faults.Unsent }
     ensures leaves { LeavesMachines D.is_clean S.is_clean D.is_sound S.is_sound D.refused S.refused machines.old machines.new }
     ensures same { StaysAsItIs (OfStores D.is_clean S.is_clean) (OfStores D.is_sound S.is_sound) (held D.kept S.kept) machines.old machines.new }
@@ -253,10 +253,7 @@ fn bring_one<D: DeskStore, S: SiteStore>(
     database_is_of_catalogue(machines.desk.catalog());
     let found = settled_parts(machines, decided, &fetch.leaf)?;
     let parts = meeting(or_none(machines.alloc, found), &fetch.conds);
-    Ok(FetchRows {
-        leaf: fetch.leaf.copy()?,
-        parts: Seq::new(parts),
-    })
+    Ok(Brought::new(fetch.leaf.copy()?, parts))
 }
 
 /// What fetches bring of the settled fragments.
@@ -264,7 +261,7 @@ fn bring<D: DeskStore, S: SiteStore>(
     machines: &mut Machines<D, S>,
     decided: &[Txn],
     fetches: &[Fetch],
-) -> Result<Vec<FetchRows>, Fault>
+) -> Result<Vec<Brought>, Fault>
     ensures sent { result ≢ Err faults.Unsent }
     ensures leaves { LeavesMachines D.is_clean S.is_clean D.is_sound S.is_sound D.refused S.refused machines.old machines.new }
     ensures same { StaysAsItIs (OfStores D.is_clean S.is_clean) (OfStores D.is_sound S.is_sound) (held D.kept S.kept) machines.old machines.new }
@@ -285,7 +282,7 @@ fn answer(
     catalog: &Catalog,
     statement: &Statement,
     reduced: &ReducedNodes,
-    brought: &[FetchRows],
+    brought: &[Brought],
 ) -> Result<Answer, Fault>
     requires fetched { EachRead (λ read. Contains reduced.now.fetches.items read) (plan_of reduced.now.nodes.items) }
     requires uniform { IsUniform (plan_of reduced.now.nodes.items) }
@@ -295,11 +292,12 @@ fn answer(
     ensures fails { AllByRecursion (λ read. AreParts read.columns (given brought.now read.leaf)) reduced.now.fetches.items → IfErr result (λ fault. fault ≡ faults.Desk refusals.Memory) }
 {
     let reads = reduced.fetches.as_slice();
-    if !are_all_parts(reads, brought) {
+    let rows = lent(alloc, brought)?;
+    if !are_all_parts(reads, rows.as_slice()) {
         return Err(Fault::Site(SiteFault::Store(StoreFault::Damaged)));
     }
     let nodes = reduced.nodes.as_slice();
-    Ok(work(alloc, catalog, statement, nodes, reads, brought)?.answer)
+    Ok(work(alloc, catalog, statement, nodes, reads, rows.as_slice())?.answer)
 }
 
 /// The rows of an answer.

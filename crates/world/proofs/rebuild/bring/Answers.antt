@@ -5,7 +5,7 @@ use Rattle.meaning.specs.Whole.{Relations}
 use Rattle.catalog.specs.declared.relation.SplitRelation.{SplitRelation}
 use Rattle.catalog.specs.Relation.{catalogue_of}
 use Rattle.plan.specs.declared.fetch.Fetch.{Fetch}
-use Rattle.answers.specs.declared.table.FetchRows.{FetchRows}
+use Rattle.answers.specs.FetchRows.{FetchRows}
 use Rattle.world.specs.Counted.{counts}
 use Rattle.world.specs.Contents.{OfStores, held}
 use Rattle.world.specs.Machines.{Machines}

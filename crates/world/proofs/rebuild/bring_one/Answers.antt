@@ -1,10 +1,8 @@
 -- Why `bring_one` meets its contract.
-use Rattle.std.proofs.Common.{◌≡◌, ◌∙◌, ap, subst, filter, option_map}
+use Rattle.std.proofs.Common.{◌∙◌, ap, subst, filter, option_map}
 use Rattle.terms.specs.Cond.{conds_hold}
 use Rattle.catalog.specs.Relation.{catalogue_of}
-use Rattle.store.specs.Content.{parts}
-use Rattle.desk.specs.CatalogueDatabase.{IsBase, content_at, database}
-use Rattle.desk.specs.Place.{placed_in}
+use Rattle.desk.specs.CatalogueDatabase.{IsBase, database}
 use Rattle.world.specs.Contents.{held}
 use Rattle.world.proofs.Rebuilt.{brought_is}
 use Rattle.world.proofs.rebuild.bring_one.Goals as goal
@@ -16,7 +14,7 @@ returns-clause-brought g c = λ whole clean sound fit those are.
     let base : IsBase (database catalogue) = subst (λ x. IsBase (database (catalogue_of x))) c.catalog.ensures c.database_is_of_catalogue.ensures in
     let fetch = c.args.fetch.now in
     let found = option_map (λ parts. parts.items) c.in_ok-found.found in
-    let rows : c.new.result ≡ parts fetch.conds (content_at catalogue (placed_in catalogue fetch.leaf) whole) =
-    c.new.ensures ∙ c.meeting-parts.ensures ∙ ap (filter (conds_hold fetch.conds)) c.or_none.ensures
+    let rows =
+    c.meeting-parts.ensures ∙ ap (filter (conds_hold fetch.conds)) c.or_none.ensures
     ∙ brought_is catalogue (base.of_catalogue.formed 0) before whole c.args.decided.now fetch.leaf fetch.conds found fit those are (c.in_ok-found.ensures.parts clean sound fit.seated) in
-    λ i. record { leaf = c.in_ok-copy.ensures i; parts = rows i }
+    c.new.ensures ∙ (λ i. record { leaf = c.in_ok-copy.ensures i; parts = rows i })
