@@ -4,6 +4,8 @@
 #![tactic(auto)]
 
 #[cfg(test)]
+mod another_split;
+#[cfg(test)]
 mod calls;
 #[cfg(test)]
 mod catalogue_schedules;
@@ -19,6 +21,8 @@ mod ends;
 mod fused;
 #[cfg(test)]
 mod letters;
+#[cfg(test)]
+mod meeting;
 #[cfg(test)]
 mod one_client;
 #[cfg(test)]
@@ -38,6 +42,8 @@ mod refusing_desk;
 #[cfg(test)]
 mod schedules;
 #[cfg(test)]
+mod site_stores;
+#[cfg(test)]
 mod sites;
 #[cfg(test)]
 mod sqldatabases;
@@ -47,6 +53,8 @@ mod sqldesks;
 mod sqlstores;
 #[cfg(test)]
 mod statements;
+#[cfg(test)]
+mod threads;
 #[cfg(test)]
 mod told;
 #[cfg(test)]

@@ -1,13 +1,11 @@
 //! What statements over fragments answer and write, from parts that are given by hand.
 
-ghost use Rattle.std.specs.List.{Contains};
-ghost use Rattle.plan.specs.Postfix.{plan_of};
-ghost use Rattle.plan.specs.Uniform.{EachRead, IsUniform};
+ghost use Rattle.tests.specs.Planned.{IsPlanned};
 
 use crate::catalogues::{EMP_AND_DEPT, ITEM, PAIR};
 use answers::evaluate::evaluate_counted;
 use answers::finish::{Outcome, finish};
-use answers::table::{FetchRows, Table, are_all_parts};
+use answers::table::{Brought, FetchRows, Table, are_all_parts, lent};
 use answers::work::work;
 use catalog::catalogue::Catalog;
 use meaning::statement::Statement;
@@ -22,7 +20,6 @@ use std::test::*;
 use terms::copy::TryCopy;
 use terms::memory::Memory;
 use terms::part::Part;
-use terms::seq::Seq;
 use terms::text::Text;
 use terms::value::Value;
 use terms::write::Write;
@@ -43,7 +40,7 @@ fn part(alloc: Global, text: &str) -> Result<Part, Memory> {
 }
 
 /// What the fetches bring, of these parts.
-fn brought(alloc: Global, fetches: &[Fetch], parts: &[Given]) -> Result<Vec<FetchRows>, Memory> {
+fn brought(alloc: Global, fetches: &[Fetch], parts: &[Given]) -> Result<Vec<Brought>, Memory> {
     let mut rows = Vec::new(alloc);
     for read in fetches {
         let mut found = Vec::new(alloc);
@@ -52,10 +49,7 @@ fn brought(alloc: Global, fetches: &[Fetch], parts: &[Given]) -> Result<Vec<Fetc
                 found.push(part(alloc, text)?)?;
             }
         }
-        rows.push(FetchRows {
-            leaf: read.leaf.copy()?,
-            parts: Seq::new(found),
-        })?;
+        rows.push(Brought::new(read.leaf.copy()?, found))?;
     }
     Ok(rows)
 }
@@ -85,8 +79,7 @@ fn worked(
     less: &ReducedNodes,
     rows: &[FetchRows],
 ) -> Result<Outcome, Memory>
-    requires fetched { EachRead (λ read. Contains less.now.fetches.items read) (plan_of less.now.nodes.items) }
-    requires uniform { IsUniform (plan_of less.now.nodes.items) }
+    requires { IsPlanned less.now }
 {
     let reads = less.fetches.as_slice();
     if !are_all_parts(reads, rows) {
@@ -98,8 +91,7 @@ fn worked(
 
 /// The table of a statement's plan by what its fetches brought, and the steps of its evaluation.
 fn evaluated(alloc: Global, less: &ReducedNodes, rows: &[FetchRows]) -> Result<(Table, u64), Memory>
-    requires fetched { EachRead (λ read. Contains less.now.fetches.items read) (plan_of less.now.nodes.items) }
-    requires uniform { IsUniform (plan_of less.now.nodes.items) }
+    requires { IsPlanned less.now }
 {
     let reads = less.fetches.as_slice();
     if !are_all_parts(reads, rows) {
@@ -117,8 +109,7 @@ fn worked_by_table(
     less: &ReducedNodes,
     rows: &[FetchRows],
 ) -> Result<Outcome, Memory>
-    requires fetched { EachRead (λ read. Contains less.now.fetches.items read) (plan_of less.now.nodes.items) }
-    requires uniform { IsUniform (plan_of less.now.nodes.items) }
+    requires { IsPlanned less.now }
 {
     let (table, _) = evaluated(alloc, less, rows)?;
     finish(alloc, catalog, statement, &table)
@@ -132,10 +123,10 @@ fn shown_both(
     less: &ReducedNodes,
     parts: &[Given],
 ) -> Result<(String, String), Memory>
-    requires fetched { EachRead (λ read. Contains less.now.fetches.items read) (plan_of less.now.nodes.items) }
-    requires uniform { IsUniform (plan_of less.now.nodes.items) }
+    requires { IsPlanned less.now }
 {
-    let rows = brought(alloc, less.fetches.as_slice(), parts)?;
+    let brought = brought(alloc, less.fetches.as_slice(), parts)?;
+    let rows = lent(alloc, brought.as_slice())?;
     let one = worked(alloc, catalog, statement, less, rows.as_slice())?;
     let other = worked_by_table(alloc, catalog, statement, less, rows.as_slice())?;
     Ok((shown(alloc, &one)?, shown(alloc, &other)?))
@@ -245,17 +236,14 @@ fn inserted(rt: HostRuntime) {
 }
 
 /// Parts at so many first keys of each of two leaves.
-fn first_parts(alloc: Global, reads: &[Fetch], counts: [i64; 2]) -> Result<Vec<FetchRows>, Memory> {
+fn first_parts(alloc: Global, reads: &[Fetch], counts: [i64; 2]) -> Result<Vec<Brought>, Memory> {
     let mut rows = Vec::new(alloc);
     for (read, count) in reads.iter().zip(counts) {
         let mut parts = Vec::new(alloc);
         for key in 0..count {
             parts.push(part(alloc, format!(in alloc; "{key}, {key}")?.as_str())?)?;
         }
-        rows.push(FetchRows {
-            leaf: read.leaf.copy()?,
-            parts: Seq::new(parts),
-        })?;
+        rows.push(Brought::new(read.leaf.copy()?, parts))?;
     }
     Ok(rows)
 }
@@ -274,10 +262,10 @@ fn put_together(alloc: Global, counts: [i64; 2]) -> Result<(usize, u64), Memory>
 
 /// The rows of a reduced plan and the steps of its evaluation, where its leaves have parts at so many first keys.
 fn steps_of(alloc: Global, less: &ReducedNodes, counts: [i64; 2]) -> Result<(usize, u64), Memory>
-    requires fetched { EachRead (λ read. Contains less.now.fetches.items read) (plan_of less.now.nodes.items) }
-    requires uniform { IsUniform (plan_of less.now.nodes.items) }
+    requires { IsPlanned less.now }
 {
-    let rows = first_parts(alloc, less.fetches.as_slice(), counts)?;
+    let brought = first_parts(alloc, less.fetches.as_slice(), counts)?;
+    let rows = lent(alloc, brought.as_slice())?;
     let (table, steps) = evaluated(alloc, less, rows.as_slice())?;
     Ok((table.count(), steps))
 }

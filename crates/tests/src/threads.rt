@@ -1,27 +1,24 @@
 //! Databases whose sites work in threads: what their sessions are told, and that it is woven into one run.
 
-ghost use Rattle.catalog.specs.Relation.{catalogue_of};
-ghost use Rattle.wire.specs.Opening.{HaveLeaves};
-
 use crate::catalogues::EMP_AND_DEPT;
-use crate::meeting::{Meeting, SouthFirst, shared};
+use crate::meeting::{Meetings, SouthFirst, shared};
+use crate::site_stores::{OpensSites, Plain};
 use crate::statements::catalog;
-use catalog::catalogue::Catalog;
+use catalog::chain::Chain;
 use desk::reply::Reply;
 use history::entry::Input;
 use history::told::Told;
 use history::weave::{WeaveFault, weave};
 use reader::print_answer::print_answer;
 use std::alloc::{AllocError, Global};
-use std::sync::Wait;
 use std::sync::atomic::Ordering;
+use std::sync::{Arc, Wait};
 use std::test::*;
 use std::thread;
 use std::thread::Threads;
 use std::time::Clock;
 use store::desk_store::DeskStore;
 use store::plain_desk::PlainDesk;
-use store::plain_site::PlainSite;
 use store::site_store::SiteStore;
 use terms::copy::TryCopy;
 use terms::memory::Memory;
@@ -31,6 +28,9 @@ use wire::gate::{Gate, Ungated};
 use wire::records::Records;
 use wire::session::Session;
 use world::chain::alone;
+
+/// A database whose coordinator's store is in memory.
+pub(crate) type Opened<S, G> = Database<S, PlainDesk, G>;
 
 /// A text, and what it is answered.
 type Line = (&'static str, &'static str);
@@ -75,45 +75,38 @@ const GOES_ON: [Line; 2] = [
     ("SELECT title FROM dept", "title\nz\ny\n2 rows"),
 ];
 
-/// A database over these stores, one for each of its sites, without rows.
-fn opened<R, S, G>(
+/// A database of a chain of catalogues over new stores, without rows.
+pub(crate) fn opened_over<R, S, G, O>(
     rt: &R,
     alloc: Global,
-    catalog: Catalog,
-    stores: Vec<S>,
+    chain: &Chain,
+    opener: &O,
     gate: G,
-) -> Result<Database<S, PlainDesk, G>, Memory>
+) -> Result<Opened<S, G>, Memory>
 where
     R: Threads + Wait + Copy + Send + 'static,
     S: SiteStore + Send + Drop + 'static,
     G: Gate + Send + Sync + Drop + 'static,
-    requires { HaveLeaves S.is_clean S.kept (catalogue_of catalog) stores.items }
+    O: OpensSites<S>,
 {
-    if stores.len() != catalog.sites().len() {
-        return Err(Memory);
-    }
-    let chain = alone(alloc, &catalog)?;
-    match Database::open(rt, alloc, &chain, stores, PlainDesk::new(alloc), gate) {
+    let stores = opener.stores(alloc, chain)?;
+    match Database::open(rt, alloc, chain, stores, PlainDesk::new(alloc), gate) {
         Ok(database) => Ok(database),
         Err(_) => Err(Memory),
     }
 }
 
-/// A database over lists.
-fn opened_plainly<R, G>(
-    rt: &R,
-    alloc: Global,
-    gate: G,
-) -> Result<Database<PlainSite, PlainDesk, G>, Memory>
+/// A database over new stores, without rows.
+fn opened<R, S, G, O>(rt: &R, alloc: Global, opener: &O, gate: G) -> Result<Opened<S, G>, Memory>
 where
     R: Threads + Wait + Copy + Send + 'static,
+    S: SiteStore + Send + Drop + 'static,
     G: Gate + Send + Sync + Drop + 'static,
+    O: OpensSites<S>,
 {
     let catalog = catalog(alloc, EMP_AND_DEPT)?;
-    let mut stores = Vec::new(alloc);
-    stores.push(PlainSite::new(alloc))?;
-    stores.push(PlainSite::new(alloc))?;
-    opened(rt, alloc, catalog, stores, gate)
+    let chain = alone(alloc, &catalog)?;
+    opened_over(rt, alloc, &chain, opener, gate)
 }
 
 /// What a text is answered: an answer as it prints, and anything else by its name.
@@ -242,7 +235,7 @@ fn write_past_gate<R>(rt: &R, alloc: Global) -> Result<bool, Memory>
 where
     R: Threads + Wait + Clock + Copy + Send + Sync + Drop + 'static,
 {
-    let database = opened_plainly(rt, alloc, SouthFirst::new(*rt))?;
+    let database = opened(rt, alloc, &Plain, SouthFirst::new(*rt))?;
     let both = write_at_once(rt, alloc, &database);
     match database.close(rt) {
         Ok(records) => Ok(are_woven(alloc, &records, &both?)),
@@ -263,13 +256,13 @@ where
 {
     let (here, there) = (shared(alloc)?, shared(alloc)?);
     let missed = shared(alloc)?;
-    let north = Meeting::new(alloc, *rt, &here, &there, &missed)?;
-    let south = Meeting::new(alloc, *rt, &there, &here, &missed)?;
-    let catalog = catalog(alloc, EMP_AND_DEPT)?;
-    let mut stores = Vec::new(alloc);
-    stores.push(north)?;
-    stores.push(south)?;
-    let database = opened(rt, alloc, catalog, stores, Ungated)?;
+    let opener = Meetings {
+        rt: *rt,
+        here,
+        there,
+        missed: Arc::try_clone(&missed)?,
+    };
+    let database = opened(rt, alloc, &opener, Ungated)?;
     let both = write_at_once(rt, alloc, &database);
     match database.close(rt) {
         Ok(records) => {
@@ -314,7 +307,7 @@ fn aborts<R>(rt: &R, alloc: Global) -> Result<bool, Memory>
 where
     R: Threads + Wait + Copy + Send + 'static,
 {
-    let database = opened_plainly(rt, alloc, Ungated)?;
+    let database = opened(rt, alloc, &Plain, Ungated)?;
     let both = lock_out(rt, alloc, &database);
     match database.close(rt) {
         Ok(records) => Ok(are_woven(alloc, &records, &both?)),
@@ -421,7 +414,7 @@ fn reads_back<R>(rt: &R, alloc: Global) -> Result<bool, Memory>
 where
     R: Threads + Wait + Copy + Send + 'static,
 {
-    let database = opened_plainly(rt, alloc, Ungated)?;
+    let database = opened(rt, alloc, &Plain, Ungated)?;
     let told = talk_over_restart(rt, alloc, &database);
     let Ok(records) = database.close(rt) else {
         return Err(Memory);

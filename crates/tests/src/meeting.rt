@@ -1,5 +1,7 @@
 //! What waits in the tests of threads: a store for another one, and the letters of a site for those of another.
 
+use crate::site_stores::OpensSites;
+use catalog::chain::Chain;
 use std::alloc::Global;
 use std::sync::Arc;
 use std::sync::atomic::{AtomicU64, Ordering};
@@ -19,6 +21,7 @@ use terms::memory::Memory;
 use terms::part::Part;
 use terms::text::Text;
 use wire::gate::Gate;
+use world::chain::first_of;
 
 /// How often a store looks whether the other one is read too.
 const TURNS: u64 = 1_000_000;
@@ -131,6 +134,32 @@ impl<R: Clock> SiteStore for Meeting<R> {
 
     fn refusals(&self) -> u64 {
         self.store.refusals()
+    }
+}
+
+/// Opens two stores that wait for each other.
+#[derive(Drop)]
+pub(crate) struct Meetings<R> {
+    pub(crate) rt: R,
+    /// Counts the reads of the first store.
+    pub(crate) here: Shared,
+    /// Counts the reads of the second one.
+    pub(crate) there: Shared,
+    /// Counts the waits that ran out.
+    pub(crate) missed: Shared,
+}
+
+impl<R: Clock + Copy + Drop> OpensSites<Meeting<R>> for Meetings<R> {
+    fn stores(&self, alloc: Global, chain: &Chain) -> Result<Vec<Meeting<R>>, Memory> {
+        if first_of(chain).sites().len() != 2 {
+            return Err(Memory);
+        }
+        let north = Meeting::new(alloc, self.rt, &self.here, &self.there, &self.missed)?;
+        let south = Meeting::new(alloc, self.rt, &self.there, &self.here, &self.missed)?;
+        let mut stores = Vec::with_capacity(alloc, 2)?;
+        stores.push(north)?;
+        stores.push(south)?;
+        Ok(stores)
     }
 }
 

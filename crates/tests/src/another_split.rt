@@ -1,7 +1,8 @@
 //! A relation gets another split while sites work in threads: what sessions are told, and that it is woven.
 
 use crate::desks::chain;
-use crate::threads::answered;
+use crate::site_stores::Plain;
+use crate::threads::{Opened, answered, opened_over};
 use history::told::Told;
 use history::weave::weave;
 use std::alloc::Global;
@@ -11,7 +12,6 @@ use std::thread::Threads;
 use store::plain_desk::PlainDesk;
 use store::plain_site::PlainSite;
 use terms::memory::Memory;
-use wire::database::Database;
 use wire::gate::Ungated;
 use wire::session::Session;
 
@@ -97,7 +97,7 @@ fn heard<R: Wait>(
 
 /// What was said and heard, and what each of two sessions told.
 #[derive(Drop)]
-struct Talk {
+struct Dialogue {
     text: String,
     one: Vec<Told>,
     other: Vec<Told>,
@@ -115,8 +115,8 @@ fn put(text: &mut String, star: &str, said: &str, answer: &str) -> Result<(), Me
 fn talk_over<R: Threads + Wait>(
     rt: &R,
     alloc: Global,
-    database: &Database<PlainSite, PlainDesk, Ungated>,
-) -> Result<Talk, Memory> {
+    database: &Opened<PlainSite, Ungated>,
+) -> Result<Dialogue, Memory> {
     let mut text = String::new(alloc);
     let mut one = database.session(rt)?;
     let mut other = database.session(rt)?;
@@ -130,7 +130,7 @@ fn talk_over<R: Threads + Wait>(
             put(&mut text, "", said, answer.as_str())?;
         }
     }
-    Ok(Talk {
+    Ok(Dialogue {
         text,
         one: one.end(),
         other: other.end(),
@@ -143,18 +143,12 @@ where
     R: Threads + Wait + Copy + Send + 'static,
 {
     let chain = chain(alloc)?;
-    let mut stores = Vec::new(alloc);
-    stores.push(PlainSite::new(alloc))?;
-    stores.push(PlainSite::new(alloc))?;
-    let desk = PlainDesk::new(alloc);
-    let Ok(database) = Database::open(rt, alloc, &chain, stores, desk, Ungated) else {
-        return Err(Memory);
-    };
+    let database = opened_over(rt, alloc, &chain, &Plain, Ungated)?;
     let talk = talk_over(rt, alloc, &database);
     let Ok(closed) = database.close(rt) else {
         return Err(Memory);
     };
-    let Talk { text, one, other } = talk?;
+    let Dialogue { text, one, other } = talk?;
     let mut text = text;
     if weave(alloc, &closed.records, &[one.as_slice(), other.as_slice()]).is_ok() {
         text.push_str("woven\n")?;

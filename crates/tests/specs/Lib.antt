@@ -1,0 +1,2 @@
+-- What the tests ask of what they are given.
+pub mod Planned
