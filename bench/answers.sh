@@ -17,9 +17,9 @@ program=${1:-}
 if [ -z "$program" ]; then
     crates="terms meaning catalog reader plan answers"
     copied "$room/it" $crates
-    mkdir -p "$room/it/crates/bench_answers/src" "$room/it/crates/bench_answers/proofs/done"
+    mkdir -p "$room/it/crates/bench_answers/src" "$room/it/crates/bench_answers/proofs/evaluated"
     cp "$top/bench/answers/main.rt.in" "$room/it/crates/bench_answers/src/main.rt"
-    cp "$top/bench/answers/done.antt.in" "$room/it/crates/bench_answers/proofs/done/Answers.antt"
+    cp "$top/bench/answers/evaluated.antt.in" "$room/it/crates/bench_answers/proofs/evaluated/Answers.antt"
     echo "bench_answers: $crates" >> "$room/it/crates.txt"
     (cd "$room/it/crates/bench_answers" && rt run --jobs 2 > "$room/log" 2>&1) || true
     program=$room/it/crates/bench_answers/out/bench_answers
