@@ -4,6 +4,7 @@ pub mod Digits
 pub mod Quotes
 pub mod Signs
 pub mod Words
+pub mod KeywordLengths
 pub mod Front
 pub mod Loop
 pub mod Printing
