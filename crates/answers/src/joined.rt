@@ -76,6 +76,7 @@ impl Behind {
     }
 
     /// These rows, and another one behind them.
+    #[inline(always)]
     fn with(self, alloc: Global, row: Row) -> Result<Behind, Memory>
         ensures { IfOk result (λ all. rows_behind all ≡ rows_behind self ++ row ∷ []) }
     {
@@ -96,6 +97,7 @@ impl Behind {
     }
 
     /// These rows, and copies of others behind them.
+    #[inline(always)]
     fn with_all(self, alloc: Global, others: &[Row]) -> Result<Behind, Memory>
         ensures { IfOk result (λ all. rows_behind all ≡ rows_behind self ++ others.now) }
     {
@@ -107,6 +109,7 @@ impl Behind {
     }
 
     /// So many of these rows, and ones without values where there are fewer.
+    #[inline(always)]
     fn padded(self, alloc: Global, count: usize) -> Result<Behind, Memory>
         ensures { IfOk result (λ all. rows_behind all ≡ padded count (rows_behind self)) }
     {
@@ -148,6 +151,7 @@ impl Joined {
     }
 
     /// One of the rows that it is made of, if there are as many.
+    #[inline(always)]
     fn source(&self, number: usize) -> Option<&Row>
         ensures { option_copied result ≡ slice_get (sources self.now) number }
     {
@@ -158,6 +162,7 @@ impl Joined {
     }
 
     /// The value in a column, if there is one.
+    #[inline(always)]
     pub(crate) fn value_at(&self, column: &Column) -> Option<&Value>
         ensures { option_copied result ≡ value_at self.now column.now }
     {
@@ -168,6 +173,7 @@ impl Joined {
     }
 
     /// The rows of which this one is made, so many of them, and behind them those of another.
+    #[inline(always)]
     pub(crate) fn beside(self, alloc: Global, count: usize, other: Joined) -> Result<Joined, Memory>
         requires { 0 < count }
         ensures { IfOk result (λ both. sources both ≡ padded count (sources self) ++ sources other) }
@@ -181,6 +187,7 @@ impl Joined {
     }
 
     /// So behind them those of one that stays, with copies of its rows.
+    #[inline(always)]
     pub(crate) fn beside_copy(
         self,
         alloc: Global,

@@ -28,6 +28,7 @@ impl Ledger {
     }
 
     /// How the keys of two rows compare, each over its columns.
+    #[inline(always)]
     pub(crate) fn compared(
         &mut self,
         columns: &[Column],

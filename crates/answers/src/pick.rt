@@ -174,6 +174,7 @@ pub(crate) fn numbers(alloc: Global, columns: &[Column]) -> Result<Vec<usize>, M
 }
 
 /// The values of a row over columns, as a row of its own.
+#[inline(always)]
 pub(crate) fn row_of(alloc: Global, columns: &[Column], row: &Joined) -> Result<Row, Memory>
     ensures { IfOk result (λ found. found ≡ row_of columns.now row.now) }
 {

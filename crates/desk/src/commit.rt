@@ -54,6 +54,7 @@ pub(crate) fn is_idle(stage: &Stage) -> bool
 
 /// The first phase of a transaction begins, if it stands between two statements: each visited site is asked
 /// to prepare what was sent to it. One that visited no site is committed at once.
+#[inline(always)]
 pub(crate) fn commit(alloc: Global, txn: Txn, undecided: &Undecided) -> Result<Transition, Memory>
     ensures turn { (db : Database) → AreParticipants db undecided.now.participants
         → IfOk result (λ turn. IsTransition db txn (Some (standing.Undecided undecided.now)) turn (on_commit_call (txn_name txn) (undecided_of db undecided.now) (stage_of db undecided.now.participants undecided.now.stage))) }

@@ -236,6 +236,7 @@ impl<S: DeskStore> Desk<S> {
     }
 
     /// A letter comes, and the catalogues stay as they are.
+    #[inline(always)]
     fn take_by(&mut self, letter: &Letter, kept: bool) -> Result<Out, Refusal>
         ensures takes { TakesUnder S.is_clean S.is_sound S.kept S.refused self.old self.new letter.now kept (first_in self.old.later.items) result }
     {

@@ -269,6 +269,7 @@ fn rows_come(
 }
 
 /// A statement goes on by what a site says.
+#[inline(always)]
 fn resume_on(
     alloc: Global,
     catalog: &Catalog,
@@ -358,6 +359,7 @@ pub(crate) fn passed_over(alloc: Global) -> Out
 }
 
 /// A letter of a site comes, by which a statement goes on.
+#[inline(always)]
 pub(crate) fn on_reply(
     volatile: &mut Volatile,
     catalog: &Catalog,

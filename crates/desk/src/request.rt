@@ -171,6 +171,7 @@ fn give_up_step(volatile: &Volatile, txn: Txn) -> Result<Transition, Refusal>
 }
 
 /// The commit of a transaction is asked for.
+#[inline(always)]
 pub(crate) fn call_commit(volatile: &mut Volatile, txn: Txn) -> Result<Out, Refusal>
     ensures ok { (db : Database) (choice : Choice (language db)) (kept : DeskContent) → AreDistinct db.sites → Fits db kept (volatile_of volatile.old)
         → IfOk result (λ out. Steps db (volatile_of volatile.old) kept (volatile_of volatile.new) txn (on_request (txn_name txn) choice Commit_call (txn_in db (volatile_of volatile.old) txn)) out.letters out.replies) }

@@ -190,6 +190,7 @@ pub(crate) struct SentOut {
 }
 
 /// The fetches whose sites have given a ticket go out.
+#[inline(always)]
 pub(crate) fn asks_step(
     alloc: Global,
     txn: Txn,

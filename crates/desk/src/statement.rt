@@ -117,6 +117,7 @@ fn reading(undecided: &mut Undecided, participants: Vec<Participant>, reading: R
 }
 
 /// A statement that has fetches begins. The transaction is idle.
+#[inline(always)]
 pub(crate) fn reads(
     alloc: Global,
     txn: Txn,
@@ -218,6 +219,7 @@ fn idles(stage: &mut Stage)
 }
 
 /// What waits for tickets goes out where they have come. With the last write the statement is answered.
+#[inline(always)]
 fn stage_goes(
     alloc: Global,
     txn: Txn,
@@ -248,6 +250,7 @@ fn stage_goes(
 }
 
 /// A first ticket of a site comes: what waited for it goes out. With the last write the answer is given.
+#[inline(always)]
 pub(crate) fn ticket_goes(
     alloc: Global,
     txn: Txn,

@@ -139,6 +139,7 @@ fn says_committed(reply: &Option<Reply>) -> bool
 
 /// A transaction makes a step. There is room for its reply. Where the step commits one that gives a relation another split,
 /// the next catalogue is in force.
+#[inline(always)]
 pub(crate) fn make(volatile: &mut Volatile, txn: Txn, turn: Transition, room: Vec<Notice>) -> Out
     requires { vec_len room < vec_capacity room }
     ensures letters { result.letters ≡ turn.letters.items }

@@ -217,6 +217,7 @@ impl Volatile {
     }
 
     /// A transaction has made a step.
+    #[inline(always)]
     pub(crate) fn settle(&mut self, txn: &Txn, after: After)
         ensures settled { (now : TxnStateNow) → (volatile_of self.old).standing txn.now ≡ Some now
             → volatile_of self.new ≡ volatile_from (settled txn.now after self.old.standings.entries) (if is_open (Some now) && closes after then self.old.undecided - 1 else self.old.undecided) self.old.life self.old.number self.old.version }

@@ -209,6 +209,7 @@ impl<D: DeskStore, S: SiteStore> Machines<D, S> {
     }
 
     /// A letter of a site comes.
+    #[inline(always)]
     fn reply(&mut self, letter: &Letter, kept: bool) -> Result<Out, Refusal>
         ensures leaves { LeavesDatabase D.is_clean S.is_clean D.is_sound S.is_sound D.refused S.refused self.old self.new }
         ensures ok { (db : Database) → IsOfCatalogue db → InForce db self.old.desk.volatile.version self.old.desk.catalog → OfStores D.is_clean S.is_clean self.new → OfStores D.is_sound S.is_sound self.old → AreFit db (held D.kept S.kept self.old) → is_order letter.now.body ≡ false → is_of_site db letter.now ≡ true
@@ -228,6 +229,7 @@ impl<D: DeskStore, S: SiteStore> Machines<D, S> {
     }
 
     /// A letter comes to the machine that it is for.
+    #[inline(always)]
     pub(crate) fn deliver(&mut self, letter: Letter, kept: bool) -> Result<Out, Fault>
         ensures leaves { LeavesDatabase D.is_clean S.is_clean D.is_sound S.is_sound D.refused S.refused self.old self.new }
         ensures ok { (db : Database) → IsOfCatalogue db → InForce db self.old.desk.volatile.version self.old.desk.catalog → OfStores D.is_clean S.is_clean self.new → OfStores D.is_sound S.is_sound self.old → AreFit db (held D.kept S.kept self.old) → is_of_site db letter ≡ true
@@ -264,6 +266,7 @@ impl<D: DeskStore, S: SiteStore> Machines<D, S> {
     }
 
     /// Something is done at its site. A letter that comes there is an order.
+    #[inline(always)]
     pub(crate) fn at_site(&mut self, what: SiteAction, kept: bool) -> Result<Out, SiteFault>
         requires { is_for_site what ≡ true }
         ensures leaves { LeavesMachines D.is_clean S.is_clean D.is_sound S.is_sound D.refused S.refused self.old self.new }

@@ -53,6 +53,7 @@ fn stopping(fault: &Fault) -> Option<Refusal>
 }
 
 /// A letter comes to the machine that it is for.
+#[inline(always)]
 fn take<D: DeskStore, S: SiteStore>(
     machines: &mut Machines<D, S>,
     letter: Letter,
@@ -79,6 +80,7 @@ fn take<D: DeskStore, S: SiteStore>(
 /// A letter comes. Where its step leads past a limit the letter is let go, and its transaction given up; so it would be where the site
 /// didn't have the leaf, but one client's operations are for the sites that keep their leaves. One
 /// that is for no site of the database is let go, and nobody hears of it; none of one client's letters is.
+#[inline(always)]
 fn deliver_one<D: DeskStore, S: SiteStore>(
     machines: &mut Machines<D, S>,
     letter: Letter,
@@ -131,6 +133,7 @@ impl Post {
 
     /// What a letter has brought about. Its letters wait behind the others; is_unsure: none may come, since a store refused and what
     /// its medium has of that isn't known.
+    #[inline(always)]
     fn add(&mut self, out: Out, is_unsure: bool) -> Result<(), Refusal>
         ensures waiting { OnOk result (self.new.waiting.items ≡ self.old.waiting.items ++ out.letters) }
         ensures heard { OnOk result (self.new.heard.items ≡ self.old.heard.items ++ out.replies) }
@@ -156,6 +159,7 @@ impl Post {
 }
 
 /// Letters wait behind others.
+#[inline(always)]
 fn wait_behind(waiting: &mut VecDeque<Letter>, letters: Seq<Letter>) -> Result<(), Refusal>
     ensures waiting { OnOk result (waiting.new.items ≡ waiting.old.items ++ letters) }
     ensures own { IfErr result (λ refusal. refusal ≡ refusals.Memory) }
@@ -181,6 +185,7 @@ fn is_unsure(is_order: bool, kept: bool, later: &[Catalog]) -> bool
 /// The oldest letter that waits comes, if one does. Where the coordinator's store refused a commit while a catalogue comes later, the
 /// database is stopped: whether the medium has the next one's number after all shows at the next opening, so no site may hear that the
 /// transaction was aborted.
+#[inline(always)]
 fn deliver_next<D: DeskStore, S: SiteStore>(
     machines: &mut Machines<D, S>,
     post: &mut Post,
@@ -216,6 +221,7 @@ fn deliver_next<D: DeskStore, S: SiteStore>(
 }
 
 /// The letters that wait come, one after another. What they bring about waits.
+#[inline(always)]
 fn deliver_round<D: DeskStore, S: SiteStore>(
     machines: &mut Machines<D, S>,
     post: &mut Post,

@@ -143,6 +143,7 @@ fn act_at<S: SiteStore>(
 }
 
 /// The same of all sites.
+#[inline(always)]
 pub(crate) fn act_among<S: SiteStore>(
     alloc: Global,
     sites: &mut Vec<Site<S>>,
