@@ -4,7 +4,7 @@ use Rattle.std.proofs.lemmas.Bool.{true≢false}
 use Rattle.std.proofs.lemmas.List.{length-take-le, map-append, take-append-drop, take_more}
 use Rattle.std.proofs.Math.Nat.{zero-mod}
 use Rattle.terms.specs.declared.value.Value.{Value}
-use Rattle.commands.specs.Client.{Seen}
+use Rattle.databases.specs.Client.{Seen}
 use Rattle.commands.specs.Import.{Comes, IsCommitted, StopsAt, StopsBefore, before_row, begins, ending, import_of, insert_says, inserts_from, transaction_of}
 use Rattle.lines.specs.Reply.{Told}
 use Rattle.lines.specs.Script.{Reading}

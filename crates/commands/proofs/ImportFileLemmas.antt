@@ -9,11 +9,11 @@ use Rattle.desk.specs.CatalogueDatabase.{database}
 use Rattle.shell.specs.declared.mode.Mode.TheVariants.{Tabs}
 use Rattle.lines.specs.Reply.{Told, is_refusal, text_of}
 use Rattle.lines.specs.Script.{Reading}
-use Rattle.commands.specs.Client.{Seen}
+use Rattle.databases.specs.Client.{Seen}
 use Rattle.commands.specs.Import.{Comes, IsImport, imported_text}
 use Rattle.commands.specs.ImportFile.{HasInserted, many_of}
-use Rattle.commands.specs.Origin.{Begins, Origin}
-use Rattle.commands.proofs.ClientLemmas.{run_from}
+use Rattle.databases.specs.Origin.{Begins, Origin}
+use Rattle.databases.proofs.ClientLemmas.{run_from}
 use Rattle.commands.proofs.ImportLemmas.{comes_ran}
 
 -- an import that has come over a database that was opened has run

@@ -13,14 +13,14 @@ use Rattle.world.specs.Listed.{IsListed}
 use Rattle.shell.specs.declared.mode.Mode.TheVariants.{Tabs}
 use Rattle.lines.specs.declared.fault.ProgramFault.{ProgramFault}
 use Rattle.lines.specs.declared.reply.Reply.{Reply}
-use Rattle.commands.specs.Client.{AnswersTask, GoesOn, IsAnswered, Seen, standing_of}
-use Rattle.commands.specs.ListClient.{AnswersTaskOver, GoesOnOver, Happened, IsAnsweredOver, list_standing_of}
+use Rattle.databases.specs.Client.{AnswersTask, GoesOn, IsAnswered, Seen, standing_of}
+use Rattle.databases.specs.ListClient.{AnswersTaskOver, GoesOnOver, Happened, IsAnsweredOver, list_standing_of}
 use Rattle.commands.specs.declared.import.Imported.{Imported}
 use Rattle.commands.specs.declared.import.Imported.TheVariants.{All, Until}
 use Rattle.commands.specs.Import.{Comes, IsCommitted, IsCutShort, IsImport, RollsBack, StopsAt, before_row, begins, commits, ending, import_of, inserts_from, row_says}
 use Rattle.lines.specs.Reply.{Answered, Told, is_refusal, text_of, told_by}
 use Rattle.lines.specs.Script.{Reading, Runs}
-use Rattle.commands.specs.Solo.{AnswersInTurn, IsStretch}
+use Rattle.databases.specs.Solo.{AnswersInTurn, IsStretch}
 
 module _ {S : Type 0} (Answers : Reading → S → S → Told → Type 0) where
   -- some tasks, and then others

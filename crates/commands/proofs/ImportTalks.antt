@@ -6,11 +6,11 @@ use Rattle.catalog.specs.Catalogue.{Catalogue}
 use Rattle.shell.specs.declared.mode.Mode.TheVariants.{Tabs}
 use Rattle.lines.specs.Reply.{Told}
 use Rattle.lines.specs.Script.{Reading}
-use Rattle.commands.specs.Client.{Seen, Standing, standing_of}
-use Rattle.commands.specs.ListClient.{in_force, list_standing_of}
+use Rattle.databases.specs.Client.{Seen, Standing, standing_of}
+use Rattle.databases.specs.ListClient.{in_force, list_standing_of}
 use Rattle.commands.specs.Import.{Comes, ImportMade, IsCutShort, import_of, imported_text}
 use Rattle.commands.specs.Session.{AnswersEach, Exchange, Import, Talks, imports_by}
-use Rattle.commands.specs.Solo.{AnswersTasks}
+use Rattle.databases.specs.Solo.{AnswersTasks}
 use Rattle.commands.proofs.ImportLemmas.{cut_comes}
 
 -- each task with its answer, as a session has it

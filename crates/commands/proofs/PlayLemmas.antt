@@ -24,24 +24,24 @@ use Rattle.lines.specs.declared.fault.ProgramFault.TheVariants.{CannotRead, Cann
 use Rattle.lines.specs.declared.play_items.Placed.{Placed}
 use Rattle.lines.specs.declared.play_script.Item.{Item}
 use Rattle.lines.specs.declared.play_script.Item.TheVariants as item
-use Rattle.commands.specs.declared.catalog_files.ChainFault.{ChainFault}
-use Rattle.commands.specs.declared.catalog_files.ChainFault.TheVariants.{Program}
-use Rattle.commands.specs.declared.schedule.Schedule.{Schedule}
+use Rattle.databases.specs.declared.catalog_files.ChainFault.{ChainFault}
+use Rattle.databases.specs.declared.catalog_files.ChainFault.TheVariants.{Program}
+use Rattle.databases.specs.declared.schedule.Schedule.{Schedule}
 use Rattle.lines.specs.declared.script.ScriptFault.{ScriptFault}
 use Rattle.lines.specs.declared.script.ScriptFault.TheVariants as script
-use Rattle.commands.specs.Client.{IsOfClient}
+use Rattle.databases.specs.Client.{IsOfClient}
 use Rattle.lines.specs.Fault.{fault_of_script}
 use Rattle.commands.specs.Play.{EndsOrStops, EndsOrStopsOf, IsSound, Plays, PlaysAll, PlaysItem, PlaysItems, PlaysOver, PlaysScript, StopsItems}
 use Rattle.lines.specs.PlayItems.{items_of}
 use Rattle.lines.specs.PlayLoad.{IsMalformedAt}
 use Rattle.lines.specs.Input.{IsOfOutput}
-use Rattle.commands.specs.Schedule.{HasRun, IsCounted, IsListReached, IsReached, LeavesWorld, SeenWorld, stage_of}
+use Rattle.databases.specs.Schedule.{HasRun, IsCounted, IsListReached, IsReached, LeavesWorld, SeenWorld, stage_of}
 use Rattle.lines.specs.Script.{lines_of}
-use Rattle.commands.specs.Shown.{IsShownLeaf, IsShownRelation, ShowsOf}
-use Rattle.commands.specs.Solo.{longest}
-use Rattle.commands.specs.WorldOpener.{StopsOpening}
-use Rattle.commands.proofs.CountedLemmas.{counted_by_all, counted_by_asks, counted_by_number, counted_by_tries}
-use Rattle.commands.proofs.SoloLemmas.{Appends-more}
+use Rattle.databases.specs.Shown.{IsShownLeaf, IsShownRelation, ShowsOf}
+use Rattle.databases.specs.Solo.{longest}
+use Rattle.databases.specs.WorldOpener.{StopsOpening}
+use Rattle.databases.proofs.CountedLemmas.{counted_by_all, counted_by_asks, counted_by_number, counted_by_tries}
+use Rattle.databases.proofs.SoloLemmas.{Appends-more}
 
 module _ {D S : Type 0} (seen : SeenWorld (World D S)) where
   -- an item, where less is known of what is shown
@@ -115,18 +115,6 @@ module _ {D S : Type 0} (seen : SeenWorld (World D S)) where
   Plays-counted P db whole (item.Leaf name) before after told plays counted = subst IsCounted (sym plays.0) counted
   Plays-counted P db whole item.Committed before after told plays counted = subst (λ (schedule : Schedule D S). IsCounted (stage_of schedule)) (sym plays.0) counted
 
--- the first catalogue of a chain
-head_is : (one other : Catalogue) (more others : List Catalogue) → one ∷ more ≡ other ∷ others → one ≡ other
-head_is one other more others e = cc
-
-pub first_is : (chain : List (List (List ℕ) × List SplitRelation)) (first : List (List ℕ) × List SplitRelation) (others : List (List (List ℕ) × List SplitRelation)) (catalogue : Catalogue) (rest : List Catalogue) → chain ≡ first ∷ others → map catalogue_of chain ≡ catalogue ∷ rest →
-    catalogue_of first ≡ catalogue
-first_is chain first others catalogue rest are is = head_is (catalogue_of first) catalogue (map catalogue_of others) rest (sym (ap (map catalogue_of) are) ∙ is)
-
--- all catalogues of a chain have the sites of the first one
-pub sites_there : (chain : List (List (List ℕ) × List SplitRelation)) (first : List (List ℕ) × List SplitRelation) (others : List (List (List ℕ) × List SplitRelation)) → chain ≡ first ∷ others → length first.0 ≡ length (sites_of chain)
-sites_there chain first others are = ap (λ (chain : List (List (List ℕ) × List SplitRelation)). length (sites_of chain)) (sym are)
-
 -- a catalogue alone has every number
 pub stands_alone : {D : Type 0} (catalogue : Catalogue) (desk : Desk D) → catalogue_of desk.catalog ≡ catalogue → desk.later.items ≡ [] → StandsIn (database catalogue) desk
 stands_alone catalogue desk is none = record { here = sym is; next = rw none tt }
@@ -181,11 +169,6 @@ stops_opening Fails output fault (inr failed) = rw failed.2 (failed.1, Keeps-sam
 pub stops_output : (Fails : StoreFault → Type 0) (old new : Option (List ℕ)) (fault : ProgramFault) → IsOfOutput fault → StopsItems Fails old new fault
 stops_output Fails old new fault (inl memory) = rw memory tt
 stops_output Fails old new fault (inr closed) = rw closed tt
-
--- a fault that may stop a database may stop a world as it is opened
-pub stops_as_client : (fault : ProgramFault) → IsOfClient fault → StopsOpening (λ why. ⊤) fault
-stops_as_client fault (inl memory) = inl memory
-stops_as_client fault (inr failed) = inr (failed.0, tt, failed.1)
 
 -- what follows of what holds where a call succeeds
 pub ok_so : {T E P Q : Type 0} (result : Result T E) → (P → Q) → OnOk result P → OnOk result Q

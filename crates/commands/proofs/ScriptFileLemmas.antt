@@ -7,13 +7,13 @@ use Rattle.desk.specs.Database.{Database}
 use Rattle.shell.specs.declared.mode.Mode.{Mode}
 use Rattle.commands.specs.declared.script_file.Answered.{Answered}
 use Rattle.commands.specs.declared.script_file.Answered.TheVariants.{All, Malformed}
-use Rattle.commands.specs.Client.{Seen, Standing, standing_of}
-use Rattle.commands.specs.ListClient.{AnswersTaskOver, ListStanding, in_force, list_standing_of}
+use Rattle.databases.specs.Client.{Seen, Standing, standing_of}
+use Rattle.databases.specs.ListClient.{AnswersTaskOver, ListStanding, in_force, list_standing_of}
 use Rattle.lines.specs.Reply.{Told, text_of}
 use Rattle.lines.specs.Script.{Reading}
 use Rattle.commands.specs.ScriptFile.{AnswersScript}
 use Rattle.commands.specs.Session.{Answer, AnswersEach, ListPiece, Piece, PiecesCome, Talks, exchanges_in, list_piece_text, piece_text}
-use Rattle.commands.specs.Solo.{AnswersInTurn, AnswersTasks, Stretches}
+use Rattle.databases.specs.Solo.{AnswersInTurn, AnswersTasks, Stretches}
 use Rattle.commands.proofs.SessionLemmas.{talks_none}
 
 -- each task with its answer, as a piece of what is written

@@ -13,17 +13,17 @@ use Rattle.world.specs.Listed.{IsListed}
 use Rattle.world.specs.ListServed.{ListHeardIsSerial}
 use Rattle.world.specs.Replies.{Tells}
 use Rattle.lines.specs.declared.fault.ProgramFault.{ProgramFault}
-use Rattle.commands.specs.declared.catalog_files.ChainFault.{ChainFault}
-use Rattle.commands.specs.declared.catalog_files.ChainFault.TheVariants.{Closed, Program, Refused, Unchained}
-use Rattle.commands.specs.CatalogFiles.{IsOfOpening}
-use Rattle.commands.specs.Client.{GoesOn, IsAnswered, Seen, Standing, standing_of}
-use Rattle.commands.specs.ListClient.{GoesOnOver, Happened, IsAnsweredOver, ListStanding, in_force, list_standing_of, unhappened}
-use Rattle.commands.specs.Origin.{BeginsOver, BeginsWith, BeginsWithOver, IsBegun, IsBegunOver, Origin}
+use Rattle.databases.specs.declared.catalog_files.ChainFault.{ChainFault}
+use Rattle.databases.specs.declared.catalog_files.ChainFault.TheVariants.{Closed, Program, Refused, Unchained}
+use Rattle.databases.specs.CatalogFiles.{IsOfOpening}
+use Rattle.databases.specs.Client.{GoesOn, IsAnswered, Seen, Standing, standing_of}
+use Rattle.databases.specs.ListClient.{GoesOnOver, Happened, IsAnsweredOver, ListStanding, in_force, list_standing_of, unhappened}
+use Rattle.databases.specs.Origin.{BeginsOver, BeginsWith, BeginsWithOver, IsBegun, IsBegunOver, Origin}
 use Rattle.lines.specs.Reply.{text_of}
 use Rattle.commands.specs.Session.{Answer, AnswersEach, Beside, Exchange, HasTalked, IsAsideOf, IsOfSession, IsSessionFrom, IsSessionFromOver, IsTalk, IsTalkOver, ListPiece, PiecesCome, RunsSession, Talks, TellsNumber, aside_text, exchange_in, exchanges_in, list_piece_text, piece_text, said_by_each}
-use Rattle.commands.specs.Solo.{said_by}
-use Rattle.commands.proofs.ClientLemmas.{still_told, task_told}
-use Rattle.commands.proofs.SoloLemmas.{Appends-more, Keeps-same}
+use Rattle.databases.specs.Solo.{said_by}
+use Rattle.databases.proofs.ClientLemmas.{still_told, task_told}
+use Rattle.databases.proofs.SoloLemmas.{Appends-more, Keeps-same}
 
 -- what a call that succeeded did, and what follows of it
 pub on_ok : {T E P Q : Type 0} (result : Result T E) → (P → Q) → OnOk result P → OnOk result Q

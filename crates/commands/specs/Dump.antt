@@ -11,11 +11,11 @@ use Rattle.shell.specs.declared.mode.Mode.TheVariants.{Columns, Csv, Json, Tabs}
 use Rattle.lines.specs.declared.catalog_file.CatalogFault.{CatalogFault}
 use Rattle.lines.specs.declared.catalog_file.CatalogFault.TheVariants.{Program, Refused}
 use Rattle.lines.specs.CatalogFile.{IsCatalogueFile, RefusesFile}
-use Rattle.commands.specs.Client.{Seen}
+use Rattle.databases.specs.Client.{Seen}
 use Rattle.lines.specs.Input.{IsOfInput}
-use Rattle.commands.specs.Origin.{Origin}
+use Rattle.databases.specs.Origin.{Origin}
 use Rattle.lines.specs.Script.{DumpsRelation, Reading, ShowsRelation}
-use Rattle.commands.specs.Solo.{IsOfRun, IsRun}
+use Rattle.databases.specs.Solo.{IsOfRun, IsRun}
 
 -- a relation is written as statements, unless its rows are to be shown in a way
 abbrev pub task_in : Mode → List ℕ → Reading

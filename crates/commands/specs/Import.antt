@@ -11,11 +11,11 @@ use Rattle.desk.specs.CatalogueDatabase.{database}
 use Rattle.world.specs.Listed.{IsListed}
 use Rattle.exchange.specs.Insert.{insert_of}
 use Rattle.shell.specs.declared.mode.Mode.TheVariants.{Tabs}
-use Rattle.commands.specs.Client.{GoesOn, Seen, standing_of}
-use Rattle.commands.specs.ListClient.{AnswersTaskOver, GoesOnOver, Happened, list_standing_of}
+use Rattle.databases.specs.Client.{GoesOn, Seen, standing_of}
+use Rattle.databases.specs.ListClient.{AnswersTaskOver, GoesOnOver, Happened, list_standing_of}
 use Rattle.lines.specs.Reply.{Answered, Told}
 use Rattle.lines.specs.Script.{Reading, Runs}
-use Rattle.commands.specs.Solo.{AnswersInTurn, AnswersTasks}
+use Rattle.databases.specs.Solo.{AnswersInTurn, AnswersTasks}
 
 -- how many rows were imported
 abbrev pub imported_text : ℕ → List ℕ

@@ -11,12 +11,12 @@ use Rattle.shell.specs.declared.mode.Mode.TheVariants.{Tabs}
 use Rattle.lines.specs.declared.catalog_file.CatalogFault.{CatalogFault}
 use Rattle.lines.specs.declared.catalog_file.CatalogFault.TheVariants.{Program, Refused}
 use Rattle.lines.specs.CatalogFile.{IsCatalogueFile, RefusesFile}
-use Rattle.commands.specs.Client.{Seen}
+use Rattle.databases.specs.Client.{Seen}
 use Rattle.commands.specs.Import.{IsImport, imported_text}
-use Rattle.commands.specs.Origin.{Origin}
+use Rattle.databases.specs.Origin.{Origin}
 use Rattle.lines.specs.Reply.{Told, text_of}
 use Rattle.lines.specs.Script.{Reading}
-use Rattle.commands.specs.Solo.{IsRun}
+use Rattle.databases.specs.Solo.{IsRun}
 
 -- how many rows a transaction has, of so many in all: as many as are asked for, but one at least, or all where that isn't said
 abbrev pub many_of : Option ℕ → ℕ → ℕ

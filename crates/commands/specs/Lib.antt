@@ -1,16 +1,4 @@
--- What the program keeps, in reading order: a line of a script, a whole script, a catalogue's file, the program.
-pub mod Schedule
-pub mod Delivering
-pub mod Shown
-pub mod WorldOpener
-pub mod Client
-pub mod ListClient
-pub mod Serves
-pub mod CatalogFiles
-pub mod Opened
-pub mod Origin
-pub mod SqlStores
-pub mod Solo
+-- What the commands do, in reading order: a schedule, rows that are brought in, a session, and what a request comes to.
 pub mod Play
 pub mod Import
 pub mod ImportFile
@@ -22,10 +10,4 @@ pub mod CatalogWord
 pub mod Dump
 pub mod SuggestFile
 pub mod ScriptFile
-pub mod RunText
-pub mod Conversation
-pub mod Conversations
 pub mod Perform
-pub mod Run
-
--- Helpers.

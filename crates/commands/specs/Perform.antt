@@ -15,36 +15,20 @@ use Rattle.lines.specs.declared.catalog_file.CatalogFault.{CatalogFault}
 use Rattle.lines.specs.declared.catalog_file.CatalogFault.TheVariants as catalog
 use Rattle.lines.specs.declared.plan_text.PlanFault.{PlanFault}
 use Rattle.lines.specs.declared.plan_text.PlanFault.TheVariants as plan
-use Rattle.commands.specs.declared.catalog_files.ChainFault.{ChainFault}
-use Rattle.commands.specs.declared.catalog_files.ChainFault.TheVariants as chain
-use Rattle.commands.specs.declared.catalog_files.Source.{Source}
-use Rattle.commands.specs.CatalogFiles.{DoesOver, IsUnopened}
-use Rattle.commands.specs.Client.{Seen}
+use Rattle.databases.specs.declared.catalog_files.ChainFault.{ChainFault}
+use Rattle.databases.specs.declared.catalog_files.ChainFault.TheVariants as chain
+use Rattle.databases.specs.declared.catalog_files.Source.{Source}
+use Rattle.databases.specs.CatalogFiles.{DoesOver, IsUnopened}
+use Rattle.databases.specs.Client.{Seen}
 use Rattle.lines.specs.Input.{IsOfInput}
-use Rattle.commands.specs.Origin.{Origin}
+use Rattle.databases.specs.Origin.{Origin}
 use Rattle.lines.specs.Plan.{PlansFile}
 use Rattle.commands.specs.Play.{PlaysOver}
-use Rattle.commands.specs.Schedule.{SeenWorld}
+use Rattle.databases.specs.Schedule.{SeenWorld}
 use Rattle.commands.specs.Session.{RunsSession}
-use Rattle.commands.specs.Solo.{RunsScript}
+use Rattle.databases.specs.Solo.{RunsScript}
 
--- what a fault of catalogues comes to
-abbrev pub outcome_of_fault : ChainFault → Outcome
-outcome_of_fault (chain.Program fault) = Stopped fault
-outcome_of_fault (chain.Refused fault) = Refused fault
-outcome_of_fault chain.Unchained = Unchained
-outcome_of_fault chain.Closed = Lost
-
--- what the end of a script comes to, that of a session or a schedule, and that of a check
-abbrev pub outcome_of_script : Result Bool ChainFault → Outcome
-outcome_of_script (Ok false) = Done
-outcome_of_script (Ok true) = SomeRefused
-outcome_of_script (Err fault) = outcome_of_fault fault
-
-abbrev pub outcome_of_end : Result Unit ChainFault → Outcome
-outcome_of_end (Ok done) = Done
-outcome_of_end (Err fault) = outcome_of_fault fault
-
+-- what the end of a check comes to, and that of a plan
 abbrev pub outcome_of_check : Result Unit CatalogFault → Outcome
 outcome_of_check (Ok done) = Done
 outcome_of_check (Err (catalog.Refused fault)) = Refused fault
@@ -58,12 +42,6 @@ outcome_of_plan_fault (plan.Program fault) = Stopped fault
 abbrev pub outcome_of_plan : Result Unit PlanFault → Outcome
 outcome_of_plan (Ok done) = Done
 outcome_of_plan (Err fault) = outcome_of_plan_fault fault
-
--- the outcome of a command that came to an end; outcome_of: what such an end comes to
-pub record ComesTo {End : Type 0} (outcome_of : End → Outcome) (Ends : End → Type 0) (outcome : Outcome) : Type 0 where
-  pub end : End
-  pub ended : Ends end
-  pub is : outcome ≡ outcome_of end
 
 -- a catalogue's outcome
 abbrev pub PerformsCheck : Bool → Bor (List ℕ) → List ℕ → Option (List ℕ) → Option (List ℕ) → Outcome → Type 0
@@ -80,27 +58,11 @@ Performs (Check file explain as_tree) bytes old new outcome = PerformsCheck as_t
 Performs (Plan file statement as_tree) bytes old new outcome = PerformsPlan as_tree file statement.now bytes old new outcome
 Performs (Play name file sqlite) bytes old new outcome = Unit
 
--- the outcome where this file can't be opened
-pub record IsUnread (file : Bor (List ℕ)) (outcome : Outcome) : Type 0 where
-  pub fault : ProgramFault
-  pub of_file : IsOfInput file fault
-  pub is : outcome ≡ Stopped fault
-
 -- the outcome of a script whose first catalogue can't be opened: that is told, and nothing is written
 abbrev pub StopsUncatalogued : Request → Bor (List ℕ) → Option (List ℕ) → Option (List ℕ) → Outcome → Type 0
 StopsUncatalogued (Solo given file explain interactive mode sqlite dir) name old new outcome = IsUnread name outcome × Keeps old new
 StopsUncatalogued (Play given file sqlite) name old new outcome = IsUnread name outcome × Keeps old new
 StopsUncatalogued other name old new outcome = Unit
-
--- an outcome of a script that was stopped, or whose catalogues, the first one and those that come next, were refused
-abbrev pub IsStopped : {C : Type 0} → List (Source C) → Outcome → Type 0
-IsStopped next Done = ⊥
-IsStopped next SomeRefused = ⊥
-IsStopped next (Refused fault) = Unit
-IsStopped next Unchained = 0 < length next
-IsStopped next (RefusedStatement fault) = ⊥
-IsStopped next Lost = ⊥
-IsStopped next (Stopped fault) = Unit
 
 -- the outcome where the file that is asked for can't be opened; a script may be stopped by its catalogues before
 abbrev pub StopsUnread : {C : Type 0} → Request → List (Source C) → Outcome → Type 0

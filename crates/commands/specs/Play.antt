@@ -18,17 +18,17 @@ use Rattle.lines.specs.declared.fault.ProgramFault.TheVariants.{CannotRead, Cann
 use Rattle.lines.specs.declared.play_items.Placed.{Placed}
 use Rattle.lines.specs.declared.play_script.Item.{Item}
 use Rattle.lines.specs.declared.play_script.Item.TheVariants as item
-use Rattle.commands.specs.declared.catalog_files.ChainFault.{ChainFault}
-use Rattle.commands.specs.declared.catalog_files.ChainFault.TheVariants.{Closed, Program, Refused, Unchained}
-use Rattle.commands.specs.declared.schedule.Schedule.{Schedule}
+use Rattle.databases.specs.declared.catalog_files.ChainFault.{ChainFault}
+use Rattle.databases.specs.declared.catalog_files.ChainFault.TheVariants.{Closed, Program, Refused, Unchained}
+use Rattle.databases.specs.declared.schedule.Schedule.{Schedule}
 use Rattle.lines.specs.Cast.{name_of}
-use Rattle.commands.specs.Delivering.{Delivers, DeliversAll}
+use Rattle.databases.specs.Delivering.{Delivers, DeliversAll}
 use Rattle.lines.specs.PlayItems.{items_of}
 use Rattle.lines.specs.PlayLoad.{IsLoaded, IsMalformedAt}
-use Rattle.commands.specs.Schedule.{Asks, HappensAt, HasRun, IsListReached, IsReached, RestartsDesk, SeenWorld, Stage, stage_of}
+use Rattle.databases.specs.Schedule.{Asks, HappensAt, HasRun, IsListReached, IsReached, RestartsDesk, SeenWorld, Stage, stage_of}
 use Rattle.lines.specs.Script.{lines_of}
-use Rattle.commands.specs.Shown.{IsShownLeaf, IsShownRelation, ShownUnlessRefused, names_text, sight_of}
-use Rattle.commands.specs.Solo.{longest}
+use Rattle.databases.specs.Shown.{IsShownLeaf, IsShownRelation, ShownUnlessRefused, names_text, sight_of}
+use Rattle.databases.specs.Solo.{longest}
 
 -- nothing has happened yet
 pub record IsOpening (stage : Stage) : Type 0 where

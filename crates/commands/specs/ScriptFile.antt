@@ -3,9 +3,9 @@ use Rattle.std.specs.Prelude.{◌≡◌, ℕ, List, Option, None, Some}
 use Rattle.shell.specs.declared.mode.Mode.{Mode}
 use Rattle.commands.specs.declared.script_file.Answered.{Answered}
 use Rattle.commands.specs.declared.script_file.Answered.TheVariants.{All, Malformed}
-use Rattle.commands.specs.Client.{Seen}
+use Rattle.databases.specs.Client.{Seen}
 use Rattle.lines.specs.Script.{first_unreadable, lines_of, tasks_of_lines}
-use Rattle.commands.specs.Solo.{Stretches}
+use Rattle.databases.specs.Solo.{Stretches}
 
 -- each line that asks for something is answered, in their order; where one can't be read none is, and nothing has changed
 abbrev pub AnswersScript : {B : Type 0} → Seen B → Mode → List ℕ → Option (List ℕ) → Option (List ℕ) → B → B → Answered → Type 0

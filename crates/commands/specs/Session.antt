@@ -15,22 +15,22 @@ use Rattle.world.specs.Client.{IsServed}
 use Rattle.shell.specs.declared.mode.Mode.{Mode}
 use Rattle.shell.specs.declared.mode.Mode.TheVariants.{Tabs}
 use Rattle.lines.specs.declared.fault.ProgramFault.{ProgramFault}
-use Rattle.commands.specs.declared.catalog_files.ChainFault.{ChainFault}
-use Rattle.commands.specs.declared.catalog_files.ChainFault.TheVariants.{Closed, Program, Refused, Unchained}
-use Rattle.commands.specs.CatalogFiles.{AreSeveral}
-use Rattle.commands.specs.Client.{AnswersTask, GoesOn, Seen, Standing, standing_of}
-use Rattle.commands.specs.ListClient.{AnswersTaskOver, GoesOnOver, Happened, IsTold, ListStanding, in_force, list_standing_of}
+use Rattle.databases.specs.declared.catalog_files.ChainFault.{ChainFault}
+use Rattle.databases.specs.declared.catalog_files.ChainFault.TheVariants.{Closed, Program, Refused, Unchained}
+use Rattle.databases.specs.CatalogFiles.{AreSeveral}
+use Rattle.databases.specs.Client.{AnswersTask, GoesOn, Seen, Standing, standing_of}
+use Rattle.databases.specs.ListClient.{AnswersTaskOver, GoesOnOver, Happened, IsTold, ListStanding, in_force, list_standing_of}
 use Rattle.lines.specs.Input.{IsOfInput}
 use Rattle.lines.specs.Listing.{catalog_text, schema_text, tables_text}
 use Rattle.commands.specs.declared.stats.Stats.{Stats}
 use Rattle.commands.specs.Import.{ImportMade, imported_text}
 use Rattle.commands.specs.Stats.{stats_text}
 use Rattle.world.specs.declared.traffic.Traffic.{Traffic}
-use Rattle.commands.specs.Origin.{BeginsWith, BeginsWithOver, IsBegun, IsBegunOver, IsLastOf, Origin}
+use Rattle.databases.specs.Origin.{BeginsWith, BeginsWithOver, IsBegun, IsBegunOver, IsLastOf, Origin}
 use Rattle.lines.specs.Plan.{IsPlanOf}
 use Rattle.lines.specs.Reply.{Told, text_of}
 use Rattle.lines.specs.Script.{Reading}
-use Rattle.commands.specs.Solo.{AnswersInTurn, IsOfRun, IsOpened, IsOpenedOver, said_by}
+use Rattle.databases.specs.Solo.{AnswersInTurn, IsOfRun, IsOpened, IsOpenedOver, said_by}
 
 -- what a session begins with
 abbrev pub greeting_text : List ℕ

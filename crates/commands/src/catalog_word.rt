@@ -5,10 +5,10 @@ ghost use Rattle.std.specs.Io.KnownBytes.{Appends};
 ghost use Rattle.commands.specs.CatalogWord as spec;
 ghost use Rattle.commands.specs.CatalogWord.{in_force_text};
 ghost use Rattle.commands.specs.Session.{Talks};
-ghost use Rattle.commands.specs.Solo.{IsOfRun};
+ghost use Rattle.databases.specs.Solo.{IsOfRun};
 
-use crate::database::Database;
 use crate::session_word::Turn;
+use databases::database::Database;
 use lines::fault::ProgramFault;
 use lines::listing::catalog_text;
 use lines::written::write_text;

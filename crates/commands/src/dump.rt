@@ -6,13 +6,13 @@ ghost use Rattle.commands.specs.Dump.{DumpsFile, HasDumped, dumps_of};
 ghost use Rattle.commands.specs.Dump as spec;
 ghost use Rattle.lines.specs.Script.{DumpsRelation, task_of};
 ghost use Rattle.commands.specs.Session.{Talks};
-ghost use Rattle.commands.specs.Solo.{IsOfRun, Stretches};
+ghost use Rattle.databases.specs.Solo.{IsOfRun, Stretches};
 
-use crate::database::Database;
-use crate::opener::{Opens, open_alone};
 use crate::session_word::Turn;
-use crate::solo::run_items;
 use catalog::catalogue::Catalog;
+use databases::database::Database;
+use databases::opener::{Opens, open_alone};
+use databases::solo::run_items;
 use lines::catalog_file::{CatalogFault, read_catalog};
 use lines::fault::ProgramFault;
 use lines::script::Item;

@@ -1,14 +1,14 @@
 //! The command `dump`, over the files that the command line names. What files hold no contract can say; over readers and writers
 //! `dump_files` says what is done.
 
-use crate::catalog_files::{ChainFault, Source};
-use crate::database::Database;
 use crate::dump::dump_files;
-use crate::folder::{CATALOGUE, path_in};
-use crate::opened::{open_catalog, open_file};
-use crate::opener::{Folder, Lists, Opens};
-use crate::perform::{of_script, unread};
-use crate::sql_stores::{Files, OpensFiles};
+use databases::catalog_files::{ChainFault, Source};
+use databases::database::Database;
+use databases::ending::{of_script, unread};
+use databases::folder::{CATALOGUE, path_in};
+use databases::opened::{open_catalog, open_file};
+use databases::opener::{Folder, Lists, Opens};
+use databases::sql_stores::{Files, OpensFiles};
 use lines::fault::ProgramFault;
 use lines::outcome::{Outcome, Status, exit};
 use lines::transfer::Dump;

@@ -2,9 +2,9 @@
 
 ghost use Rattle.std.specs.Prelude.{◌<◌, length};
 
-use crate::folder::{CATALOGUE, Standing, has_store};
-use crate::sql_stores::{OpensFiles, file_desk, file_site};
 use catalog::catalogue::Catalog;
+use databases::folder::{CATALOGUE, Standing, has_store};
+use databases::sql_stores::{OpensFiles, file_desk, file_site};
 use lines::catalog_difference::{Compared, tell_difference};
 use lines::catalog_file::read_catalog;
 use lines::fault::ProgramFault;

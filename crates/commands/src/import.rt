@@ -1,8 +1,8 @@
 //! Rows that are inserted, so many in a transaction.
 
 ghost use Rattle.std.specs.Prelude.{◌≡◌, ◌≢◌, ◌<◌, ◌==◌, ◌%◌, ◌∷◌, ℕ, [], true, false, if◌then◌else◌, None, IfErr, IfOk, IfSome, OnOk, Ok};
-ghost use Rattle.commands.specs.Client.{IsOfClient};
-ghost use Rattle.commands.specs.Serves.{Serves};
+ghost use Rattle.databases.specs.Client.{IsOfClient};
+ghost use Rattle.databases.specs.Serves.{Serves};
 ghost use Rattle.commands.specs.Import.{Comes, IsCutShort, RollsBack, StopsAt, StopsBefore, before_row, begins, commits, ending, import_of, insert_says};
 ghost use Rattle.lines.specs.Reply.{Answered, told_by};
 ghost use Rattle.lines.specs.declared.reply.Reply.{Reply as ReplyNow};
@@ -10,8 +10,8 @@ ghost use Rattle.lines.specs.Script.{Runs};
 ghost use Rattle.commands.specs.declared.import.Imported.TheVariants as imported;
 ghost use Rattle.shell.specs.declared.mode.Mode.TheVariants.{Tabs};
 
-use crate::database::Database;
 use crate::row_progress::RowProgress;
+use databases::database::Database;
 use exchange::insert::insert_text;
 use lines::fault::ProgramFault;
 use lines::reply::Reply;

@@ -1,14 +1,14 @@
 //! The command `import`, over the files that the command line names. What files hold no contract can say; over readers and writers
 //! `import_files` says what is done.
 
-use crate::catalog_files::{ChainFault, Source};
-use crate::database::Database;
 use crate::import_file::import_files;
-use crate::opened::{open_catalog, open_input};
-use crate::opener::{Folder, Lists, Opens};
-use crate::perform::{of_script, unread};
 use crate::row_progress::RowProgress;
-use crate::sql_stores::{Files, OpensFiles};
+use databases::catalog_files::{ChainFault, Source};
+use databases::database::Database;
+use databases::ending::{of_script, unread};
+use databases::opened::{open_catalog, open_input};
+use databases::opener::{Folder, Lists, Opens};
+use databases::sql_stores::{Files, OpensFiles};
 use lines::outcome::{Outcome, Status, exit};
 use lines::transfer::Import;
 use sqlite::Alter;

@@ -7,12 +7,12 @@ ghost use Rattle.commands.specs.Import as imports;
 ghost use Rattle.commands.specs.ImportFile.{HasInserted, ImportsFile, ImportsOver};
 ghost use Rattle.commands.specs.ImportFile as spec;
 
-use crate::database::Database;
 use crate::import::{Imported, import};
-use crate::opener::{Opens, open_alone};
 use crate::row_progress::RowProgress;
 use crate::session_word::tell;
 use catalog::catalogue::Catalog;
+use databases::database::Database;
+use databases::opener::{Opens, open_alone};
 use exchange::file::rows;
 use exchange::line_fault::{LineFault, LineWhat};
 use lines::catalog_file::{CatalogFault, read_catalog};

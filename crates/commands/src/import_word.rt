@@ -3,14 +3,14 @@
 ghost use Rattle.std.specs.Prelude.{◌≡◌, IfErr, OnOk, option_map};
 ghost use Rattle.commands.specs.ImportWord as spec;
 ghost use Rattle.commands.specs.Session.{Talks};
-ghost use Rattle.commands.specs.Solo.{IsOfRun};
+ghost use Rattle.databases.specs.Solo.{IsOfRun};
 
-use crate::database::Database;
 use crate::import::{Imported, import};
 use crate::import_file::{imported_text, many_of, tell_line, tell_row};
 use crate::row_progress::RowProgress;
 use crate::session_word::{Turn, tell};
 use crate::texts::OpensText;
+use databases::database::Database;
 use exchange::file::rows;
 use exchange::line_fault::{LineFault, LineWhat};
 use lines::cut::cut;

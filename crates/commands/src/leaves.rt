@@ -5,14 +5,14 @@ ghost use Rattle.catalog.specs.Relation.{catalogue_of};
 ghost use Rattle.commands.specs.Leaves as spec;
 ghost use Rattle.commands.specs.Leaves.{counts_asked, names_of};
 ghost use Rattle.commands.specs.Session.{Talks};
-ghost use Rattle.commands.specs.Solo.{IsOfRun, Stretches};
+ghost use Rattle.databases.specs.Solo.{IsOfRun, Stretches};
 ghost use Rattle.lines.specs.Script.{CountsLeaf, task_of};
 
-use crate::database::Database;
 use crate::session_word::Turn;
-use crate::solo::run_items;
 use catalog::catalogue::Catalog;
 use catalog::fragment_leaf::FragmentLeaf;
+use databases::database::Database;
+use databases::solo::run_items;
 use lines::fault::ProgramFault;
 use lines::listing::is_asked;
 use lines::script::Item;

@@ -2,19 +2,22 @@
 
 ghost use Rattle.std.specs.Prelude.{◌≡◌, IfErr, IfOk, IfSome};
 ghost use Rattle.std.specs.Io.KnownBytes.{Keeps};
-ghost use Rattle.commands.specs.Perform.{IsIdle, IsStopped, IsUnread, Performs, PerformsCheck, PerformsOver, PerformsPlan, PerformsPlay, PerformsSession, PerformsSolo, StopsIdle, StopsUncatalogued, StopsUnread};
+ghost use Rattle.commands.specs.Perform.{IsIdle, Performs, PerformsCheck, PerformsOver, PerformsPlan, PerformsPlay, PerformsSession, PerformsSolo, StopsIdle, StopsUncatalogued, StopsUnread};
+ghost use Rattle.databases.specs.Ending.{IsStopped, IsUnread};
+ghost use Rattle.databases.specs.Ending as ending;
 ghost use Rattle.commands.specs.Perform as spec;
 ghost use Rattle.lines.specs.Request.{file_of};
-ghost use Rattle.commands.specs.Schedule.{world_over};
+ghost use Rattle.databases.specs.Schedule.{world_over};
 
-use crate::catalog_files::{ChainFault, Source};
-use crate::database::Database;
-use crate::opener::Opens;
 use crate::play::play_files;
 use crate::session_files::session_files;
-use crate::solo::solo_files;
 use crate::texts::OpensText;
-use crate::world_opener::OpensWorld;
+use databases::catalog_files::{ChainFault, Source};
+use databases::database::Database;
+use databases::ending::{of_end, of_script, unread};
+use databases::opener::Opens;
+use databases::solo::solo_files;
+use databases::world_opener::OpensWorld;
 use lines::catalog_file::CatalogFault;
 use lines::check::check;
 use lines::fault::ProgramFault;
@@ -119,7 +122,7 @@ fn perform_solo<
 ) -> Outcome<'a>
     ensures ran { IfOk catalog (λ opened. IfSome (C.remaining opened) (λ bytes. IfOk input (λ reader. IfSome (R.remaining reader) (λ text. PerformsSolo N.remaining B.seen O.origin mode file.entry bytes next.entry.items script.entry text (W.contents output.old) (W.contents output.new) result)))) }
     ensures uncatalogued { IfErr catalog (λ error. IsUnread file.entry result × Keeps (W.contents output.old) (W.contents output.new)) }
-    ensures idle { IfOk catalog (λ opened. IfSome (C.remaining opened) (λ bytes. IfErr input (λ error. IsIdle N.remaining spec.outcome_of_script file.entry bytes next.entry.items script.entry (W.contents output.old) (W.contents output.new) result))) }
+    ensures idle { IfOk catalog (λ opened. IfSome (C.remaining opened) (λ bytes. IfErr input (λ error. IsIdle N.remaining ending.outcome_of_script file.entry bytes next.entry.items script.entry (W.contents output.old) (W.contents output.new) result))) }
     ensures unread { IfErr input (λ error. IsStopped next.entry.items result × Keeps (W.contents output.old) (W.contents output.new)) }
 {
     match catalog {
@@ -234,7 +237,7 @@ fn perform_play<
 ) -> Outcome<'a>
     ensures played { IfOk catalog (λ opened. IfSome (C.remaining opened) (λ bytes. IfOk input (λ reader. IfSome (R.remaining reader) (λ text. PerformsPlay N.remaining (world_over D.is_clean S.is_clean D.is_sound S.is_sound D.kept S.kept D.refused S.refused) P.fails_for file.entry bytes next.entry.items script.entry text (W.contents output.old) (W.contents output.new) result)))) }
     ensures uncatalogued { IfErr catalog (λ error. IsUnread file.entry result × Keeps (W.contents output.old) (W.contents output.new)) }
-    ensures idle { IfOk catalog (λ opened. IfSome (C.remaining opened) (λ bytes. IfErr input (λ error. IsIdle N.remaining spec.outcome_of_end file.entry bytes next.entry.items script.entry (W.contents output.old) (W.contents output.new) result))) }
+    ensures idle { IfOk catalog (λ opened. IfSome (C.remaining opened) (λ bytes. IfErr input (λ error. IsIdle N.remaining ending.outcome_of_end file.entry bytes next.entry.items script.entry (W.contents output.old) (W.contents output.new) result))) }
     ensures unread { IfErr input (λ error. IsStopped next.entry.items result × Keeps (W.contents output.old) (W.contents output.new)) }
 {
     match catalog {
@@ -242,46 +245,6 @@ fn perform_play<
             alloc, worlds, file, catalog, next, script, input, output,
         )),
         Err(error) => unread(file, &error),
-    }
-}
-
-/// A file can't be opened.
-pub fn unread<'a>(file: &'a str, error: &io::Error) -> Outcome<'a>
-    ensures { IsUnread file.entry result }
-{
-    Outcome::Stopped(ProgramFault::reading(file, error))
-}
-
-/// What a script over catalogues came to.
-pub fn of_script(ended: Result<bool, ChainFault<'_>>) -> Outcome<'_>
-    ensures { result ≡ spec.outcome_of_script ended.entry }
-{
-    match ended {
-        Ok(false) => Outcome::Done,
-        Ok(true) => Outcome::SomeRefused,
-        Err(fault) => of_fault(fault),
-    }
-}
-
-/// What a session or a schedule over catalogues came to.
-fn of_end(ended: Result<(), ChainFault<'_>>) -> Outcome<'_>
-    ensures { result ≡ spec.outcome_of_end ended.entry }
-{
-    match ended {
-        Ok(()) => Outcome::Done,
-        Err(fault) => of_fault(fault),
-    }
-}
-
-/// What a fault of a command over catalogues comes to.
-pub fn of_fault(fault: ChainFault<'_>) -> Outcome<'_>
-    ensures { result ≡ spec.outcome_of_fault fault.entry }
-{
-    match fault {
-        ChainFault::Program(fault) => Outcome::Stopped(fault),
-        ChainFault::Refused(fault) => Outcome::Refused(fault),
-        ChainFault::Unchained => Outcome::Unchained,
-        ChainFault::Closed => Outcome::Lost,
     }
 }
 

@@ -3,12 +3,12 @@
 ghost use Rattle.std.specs.Prelude.{IfErr, IfOk, OnOk};
 ghost use Rattle.commands.specs.ScriptFile.{AnswersScript};
 ghost use Rattle.commands.specs.Session.{Talks};
-ghost use Rattle.commands.specs.Solo.{IsOfRun};
+ghost use Rattle.databases.specs.Solo.{IsOfRun};
 
-use crate::database::Database;
 use crate::session_word::{Turn, tell};
-use crate::solo::{read_script, run_items};
 use crate::texts::OpensText;
+use databases::database::Database;
+use databases::solo::{read_script, run_items};
 use lines::fault::ProgramFault;
 use lines::script::{ScriptFault, items};
 use shell::mode::Mode;

@@ -2,15 +2,15 @@
 
 ghost use Rattle.std.specs.Prelude.{◌≡◌, ◌∷◌, IfOk, IfSome, map};
 ghost use Rattle.catalog.specs.Relation.{catalogue_of};
-ghost use Rattle.commands.specs.CatalogFiles.{DoesOver};
+ghost use Rattle.databases.specs.CatalogFiles.{DoesOver};
 ghost use Rattle.commands.specs.Session.{RunsSession};
 
-use crate::catalog_files::{ChainFault, Source, read_catalogs};
-use crate::database::Database;
-use crate::opener::Opens;
 use crate::session::session;
 use crate::texts::OpensText;
 use catalog::chain::Chain;
+use databases::catalog_files::{ChainFault, Source, read_catalogs};
+use databases::database::Database;
+use databases::opener::Opens;
 use lines::fault::ProgramFault;
 use shell::mode::Mode;
 use std::alloc::Global;

@@ -3,10 +3,9 @@
 ghost use Rattle.std.specs.Prelude.{◌≡◌, ◌≢◌, ℕ, List, [], false, IfErr, IfOk, OnOk, string_bytes};
 ghost use Rattle.catalog.specs.Relation.{catalogue_of};
 ghost use Rattle.commands.specs.Session.{Talks};
-ghost use Rattle.commands.specs.Solo.{IsOfRun};
+ghost use Rattle.databases.specs.Solo.{IsOfRun};
 
 use crate::catalog_word::take_catalog;
-use crate::database::Database;
 use crate::dump::take_dump;
 use crate::import_word::{Asked, take_import};
 use crate::leaves::take_leaves;
@@ -14,6 +13,7 @@ use crate::misuse::{tell_no_relation, tell_unknown, tell_wanted};
 use crate::script_file::take_script;
 use crate::stats::{Stats, stats_text};
 use crate::texts::OpensText;
+use databases::database::Database;
 use lines::dot::{Word, mode_named, read, switch_named};
 use lines::explaining::explain_fault;
 use lines::fault::ProgramFault;

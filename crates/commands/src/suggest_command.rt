@@ -1,8 +1,8 @@
 //! The command `suggest`, over the file that the command line names. What files hold no contract can say; over readers and writers
 //! `suggest_file` says what is done.
 
-use crate::opened::open_input;
 use crate::suggest_file::{relation_of, suggest_file};
+use databases::opened::open_input;
 use lines::outcome::{Outcome, Status, exit};
 use lines::transfer::Suggest;
 use std::io::Write;

@@ -1,7 +1,7 @@
 //! The files that are named in a session, and who is told how far their rows are.
 
-use crate::opened::{Opened, open_file};
 use crate::row_progress::RowProgress;
+use databases::opened::{Opened, open_file};
 use std::io;
 use std::io::Read;
 use std::rt::HostRuntime;

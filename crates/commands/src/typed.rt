@@ -2,7 +2,7 @@
 
 ghost use Rattle.std.specs.Prelude.{◌≡◌, ◌≤◌, ◌<◌, IfErr, IfOk, IfSome, length};
 ghost use Rattle.lines.specs.Input.{IsOfInput};
-ghost use Rattle.commands.specs.Solo.{IsOfRun};
+ghost use Rattle.databases.specs.Solo.{IsOfRun};
 
 use lines::fault::ProgramFault;
 use meaning::schema::Schema;

@@ -1,9 +1,9 @@
 //! Why something was refused, explained: the catalogue, lines of a script over it, or a folder whose stores fail.
 
-use commands::catalog_files::Source;
 use commands::folder_told::tell_folder;
-use commands::opened::{open_catalog, open_file};
-use commands::sql_stores::Files;
+use databases::catalog_files::Source;
+use databases::opened::{open_catalog, open_file};
+use databases::sql_stores::Files;
 use lines::catalog_file::{CatalogFault, read_catalog};
 use lines::explaining::explain_outcome;
 use lines::fault::ProgramFault;

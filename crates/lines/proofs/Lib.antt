@@ -8,6 +8,5 @@ pub mod PlanLemmas
 pub mod PlayScriptLemmas
 pub mod RunScriptLemmas
 pub mod PlayItemsLemmas
-pub mod PlayTextLemmas
 pub mod PlayLoadLemmas
 pub mod LoadedLemmas

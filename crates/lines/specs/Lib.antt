@@ -7,7 +7,6 @@ pub mod RunScript
 pub mod PlayItems
 pub mod PlayLoad
 pub mod Cast
-pub mod PlayText
 pub mod CatalogFile
 pub mod Columns
 pub mod SchemaLine

@@ -1,5 +1,5 @@
 //! What the program reads and writes as lines of text: its command line, scripts and schedules, catalogues' files, listings of
-//! fragments, plans, letters and faults. Nothing here opens a store or asks a machine for anything.
+//! fragments, plans and faults. Nothing here opens a store or asks a machine for anything.
 #![tactic(auto)]
 
 pub mod built_in;
@@ -25,7 +25,6 @@ pub mod plan_tree;
 pub mod play_items;
 pub mod play_load;
 pub mod play_script;
-pub mod play_text;
 pub mod reply;
 pub mod request;
 pub mod run_script;

@@ -3,9 +3,9 @@ use Rattle.meaning.specs.declared.schema.RelationSchema.{RelationSchema}
 use Rattle.catalog.specs.Relation.{catalogue_of}
 use Rattle.commands.specs.Dump.{is_missing, tasks_asked}
 use Rattle.lines.specs.Script.{Reading, task_of}
-use Rattle.commands.specs.Solo.{IsRun}
-use Rattle.commands.proofs.ClientLemmas.{run_from}
-use Rattle.commands.proofs.SoloLemmas.{Appends-kept}
+use Rattle.databases.specs.Solo.{IsRun}
+use Rattle.databases.proofs.ClientLemmas.{run_from}
+use Rattle.databases.proofs.SoloLemmas.{Appends-kept}
 use Rattle.commands.proofs.dump.dump_over.Goals as goal
 
 pub returns-clause-ok : goal.returns-clause-ok

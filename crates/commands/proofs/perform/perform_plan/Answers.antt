@@ -1,7 +1,8 @@
 use Rattle.std.proofs.Common.{IfOk, IfSome, subst, sym}
-use Rattle.commands.specs.Perform.{ComesTo, outcome_of_plan}
+use Rattle.commands.specs.Perform.{outcome_of_plan}
+use Rattle.databases.specs.Ending.{ComesTo}
 use Rattle.lines.specs.Plan.{PlansFile}
-use Rattle.commands.proofs.PerformLemmas.{came_to_once}
+use Rattle.databases.proofs.EndingLemmas.{came_to_once}
 use Rattle.commands.proofs.perform.perform_plan.Goals as goal
 
 pub returns-in-Ok-clause-opened : goal.returns-in-Ok-clause-opened

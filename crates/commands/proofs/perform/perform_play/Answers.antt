@@ -1,9 +1,9 @@
 use Rattle.std.proofs.Common.{IfErr, IfOk, IfSome, subst, sym}
-use Rattle.commands.specs.CatalogFiles.{DoesOver, IsUnopened}
-use Rattle.commands.specs.Perform.{ComesTo, outcome_of_end}
+use Rattle.databases.specs.CatalogFiles.{DoesOver, IsUnopened}
+use Rattle.databases.specs.Ending.{ComesTo, outcome_of_end}
 use Rattle.commands.specs.Play.{PlaysOver}
-use Rattle.commands.specs.Schedule.{world_over}
-use Rattle.commands.proofs.PerformLemmas.{came_idle, came_to, on_err, stopped_end}
+use Rattle.databases.specs.Schedule.{world_over}
+use Rattle.databases.proofs.EndingLemmas.{came_idle, came_to, on_err, stopped_end}
 use Rattle.commands.proofs.perform.perform_play.Goals as goal
 
 pub returns-in-Ok-clause-played : goal.returns-in-Ok-clause-played

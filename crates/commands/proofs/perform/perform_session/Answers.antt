@@ -1,8 +1,8 @@
 use Rattle.std.proofs.Common.{ℕ, Bor, IfOk, IfSome, List, subst, sym}
-use Rattle.commands.specs.CatalogFiles.{DoesOver}
-use Rattle.commands.specs.Perform.{ComesTo, outcome_of_end}
+use Rattle.databases.specs.CatalogFiles.{DoesOver}
+use Rattle.databases.specs.Ending.{ComesTo, outcome_of_end}
 use Rattle.commands.specs.Session.{RunsSession}
-use Rattle.commands.proofs.PerformLemmas.{came_to_once}
+use Rattle.databases.proofs.EndingLemmas.{came_to_once}
 use Rattle.commands.proofs.perform.perform_session.Goals as goal
 
 pub returns-in-Ok-clause-held : goal.returns-in-Ok-clause-held

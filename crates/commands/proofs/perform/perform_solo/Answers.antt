@@ -1,8 +1,8 @@
 use Rattle.std.proofs.Common.{IfErr, IfOk, IfSome, subst, sym}
-use Rattle.commands.specs.CatalogFiles.{DoesOver, IsUnopened}
-use Rattle.commands.specs.Perform.{ComesTo, outcome_of_script}
-use Rattle.commands.specs.Solo.{RunsScript}
-use Rattle.commands.proofs.PerformLemmas.{came_idle, came_to, on_err, stopped_script}
+use Rattle.databases.specs.CatalogFiles.{DoesOver, IsUnopened}
+use Rattle.databases.specs.Ending.{ComesTo, outcome_of_script}
+use Rattle.databases.specs.Solo.{RunsScript}
+use Rattle.databases.proofs.EndingLemmas.{came_idle, came_to, on_err, stopped_script}
 use Rattle.commands.proofs.perform.perform_solo.Goals as goal
 
 pub returns-in-Ok-clause-ran : goal.returns-in-Ok-clause-ran

@@ -1,6 +1,6 @@
 use Rattle.std.proofs.Common.{List, ℕ, subst}
 use Rattle.commands.specs.Play.{IsPlayed, PlaysOrStops}
-use Rattle.commands.specs.Schedule.{world_over}
+use Rattle.databases.specs.Schedule.{world_over}
 use Rattle.commands.proofs.PlayLemmas.{played_of}
 use Rattle.commands.proofs.play.play.Goals as goal
 

@@ -1,9 +1,9 @@
 use Rattle.std.proofs.Common.{Ok, map, rules}
 use Rattle.catalog.specs.Relation.{catalogue_of}
-use Rattle.commands.specs.CatalogFiles.{IsUnopened}
+use Rattle.databases.specs.CatalogFiles.{IsUnopened}
 use Rattle.commands.specs.Play.{PlaysOver}
-use Rattle.commands.specs.Schedule.{world_over}
-use Rattle.commands.proofs.CatalogFilesLemmas.{did_input, told_idle, told_stopped, told_unopened}
+use Rattle.databases.specs.Schedule.{world_over}
+use Rattle.databases.proofs.CatalogFilesLemmas.{did_input, told_idle, told_stopped, told_unopened}
 use Rattle.commands.proofs.PlayLemmas.{played_over, told_stopped_play}
 use Rattle.commands.proofs.play.play_files.Goals as goal
 

@@ -1,7 +1,7 @@
 use Rattle.std.proofs.Common.{IfOk, string_bytes, subst, sym}
 use Rattle.lines.specs.declared.play_script.Item.{Item}
 use Rattle.commands.specs.Play.{PlaysItem}
-use Rattle.commands.specs.Schedule.{world_over}
+use Rattle.databases.specs.Schedule.{world_over}
 use Rattle.commands.proofs.PlayLemmas.{shows_leaf, shows_relation}
 use Rattle.commands.proofs.play.play_item.Goals as goal
 

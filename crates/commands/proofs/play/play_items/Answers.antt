@@ -5,10 +5,10 @@ use Rattle.std.proofs.lemmas.List.{take_more}
 use Rattle.desk.specs.CatalogueDatabase.{database}
 use Rattle.lines.specs.declared.play_items.Placed.{Placed}
 use Rattle.commands.specs.Play.{PlaysItems}
-use Rattle.commands.specs.Schedule.{HasRun, world_over}
+use Rattle.databases.specs.Schedule.{HasRun, world_over}
 use Rattle.commands.proofs.PlayLemmas.{Plays-counted, PlaysItems-more}
-use Rattle.commands.proofs.ReachedLemmas.{leaves_same, leaves_then}
-use Rattle.commands.proofs.SoloLemmas.{at_ok}
+use Rattle.databases.proofs.ReachedLemmas.{leaves_same, leaves_then}
+use Rattle.databases.proofs.SoloLemmas.{at_ok}
 use Rattle.commands.proofs.play.play_items.Goals as goal
 
 pub loop-placed-init : goal.loop-placed-init

@@ -1,6 +1,6 @@
 use Rattle.std.proofs.Common.{take}
 use Rattle.commands.specs.Play.{PlaysItems}
-use Rattle.commands.specs.Schedule.{IsCounted, LeavesWorld, stage_of, world_over}
+use Rattle.databases.specs.Schedule.{IsCounted, LeavesWorld, stage_of, world_over}
 use Rattle.commands.proofs.play.play_items.Given as goal
 
 abbrev pub invariant-loop-placed : goal.invariant-loop-placed

@@ -1,6 +1,6 @@
 use Rattle.std.proofs.Common.{IfOk, IfSome, subst, sym}
 use Rattle.commands.specs.Play.{PlaysScript}
-use Rattle.commands.specs.Schedule.{world_over}
+use Rattle.databases.specs.Schedule.{world_over}
 use Rattle.commands.proofs.play.play_opened.Goals as goal
 
 pub returns-in-Ok-clause-opened : goal.returns-in-Ok-clause-opened

@@ -9,10 +9,11 @@ use Rattle.world.specs.Listed.{IsListed}
 use Rattle.world.proofs.Leaves.{ends_last}
 use Rattle.world.proofs.OneCatalogue.{none_of}
 use Rattle.commands.specs.Play.{StopsItems}
-use Rattle.commands.specs.Schedule.{HasRun, world_over}
-use Rattle.commands.specs.WorldOpener.{IsChainOpened, IsOpenedOver}
-use Rattle.commands.proofs.PlayLemmas.{PlaysAll-weaker, first_is, reached_single, run_listed, stands_alone}
-use Rattle.commands.proofs.SoloLemmas.{Appends-kept}
+use Rattle.databases.specs.Schedule.{HasRun, world_over}
+use Rattle.databases.specs.WorldOpener.{IsChainOpened, IsOpenedOver}
+use Rattle.commands.proofs.PlayLemmas.{PlaysAll-weaker, reached_single, run_listed, stands_alone}
+use Rattle.databases.proofs.ChainLemmas.{first_is}
+use Rattle.databases.proofs.SoloLemmas.{Appends-kept}
 use Rattle.commands.proofs.play.play_over.Goals as goal
 
 pub returns-clause-ok : goal.returns-clause-ok

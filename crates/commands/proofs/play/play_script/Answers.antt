@@ -7,10 +7,11 @@ use Rattle.lines.specs.declared.script.ScriptFault.TheVariants as script
 use Rattle.commands.specs.Play.{EndsOrStops, IsPlayed, IsPlayedOver, IsSound}
 use Rattle.lines.specs.PlayItems.{items_of}
 use Rattle.lines.specs.PlayLoad.{IsLoaded, IsMalformedAt}
-use Rattle.commands.specs.Schedule.{world_over}
+use Rattle.databases.specs.Schedule.{world_over}
 use Rattle.lines.specs.Script.{lines_of}
 use Rattle.lines.proofs.LoadedLemmas.{loaded_fits}
-use Rattle.commands.proofs.PlayLemmas.{first_is, ok_so, played, unloaded}
+use Rattle.commands.proofs.PlayLemmas.{ok_so, played, unloaded}
+use Rattle.databases.proofs.ChainLemmas.{first_is}
 use Rattle.commands.proofs.play.play_script.Goals as goal
 
 pub play_over-requires : goal.play_over-requires

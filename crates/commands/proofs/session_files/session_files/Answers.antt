@@ -1,8 +1,8 @@
 use Rattle.std.proofs.Common.{rules}
 use Rattle.lines.specs.declared.fault.ProgramFault.TheVariants.{Memory}
-use Rattle.commands.specs.declared.catalog_files.ChainFault.TheVariants.{Program}
+use Rattle.databases.specs.declared.catalog_files.ChainFault.TheVariants.{Program}
 use Rattle.commands.specs.Session.{RunsSession}
-use Rattle.commands.proofs.CatalogFilesLemmas.{did_known, first_memory, told_known}
+use Rattle.databases.proofs.CatalogFilesLemmas.{did_known, first_memory, told_known}
 use Rattle.commands.proofs.session_files.session_files.Goals as goal
 
 pub returns-in_err-names : goal.returns-in_err-names

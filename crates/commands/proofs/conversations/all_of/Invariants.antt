@@ -1,6 +1,0 @@
--- Those that were looked at were held to their ends.
-use Rattle.std.proofs.Common.{◌≡◌, Ok, map}
-use Rattle.commands.proofs.conversations.all_of.Given as goal
-
-abbrev pub invariant-loop-one : goal.invariant-loop-one
-invariant-loop-one l = l.yielded ≡ map Ok l.all.items

@@ -1,7 +1,0 @@
-use Rattle.std.proofs.Common.{◌≡◌, take}
-use Rattle.history.specs.Picks.{rows_of}
-use Rattle.commands.specs.Run.{lists_told}
-use Rattle.commands.proofs.run_records.lists_told.Given as goal
-
-abbrev pub invariant-loop-one : goal.invariant-loop-one
-invariant-loop-one l = rows_of l.lists.items ≡ lists_told (take l.one-index l.conversations)

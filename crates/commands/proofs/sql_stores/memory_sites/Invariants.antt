@@ -1,7 +1,0 @@
-use Rattle.std.proofs.Common.{◌≡◌, length}
-use Rattle.catalog.specs.Relation.{catalogue_of}
-use Rattle.commands.specs.SqlStores.{AreNewSites}
-use Rattle.commands.proofs.sql_stores.memory_sites.Given as goal
-
-abbrev pub invariant-loop-place : goal.invariant-loop-place
-invariant-loop-place l = AreNewSites (catalogue_of l.catalog) l.sites.items × (length l.sites.items ≡ l._place)

@@ -1,0 +1,14 @@
+pub mod SoloLemmas
+pub mod OpenerLemmas
+pub mod CatalogFilesLemmas
+pub mod ClientLemmas
+pub mod ListClientLemmas
+pub mod SoloRunLemmas
+pub mod DeliveringLemmas
+pub mod ShownLemmas
+pub mod ReachedLemmas
+pub mod CountedLemmas
+pub mod SqlStoresLemmas
+pub mod EndingLemmas
+pub mod ChainLemmas
+pub mod PlayTextLemmas

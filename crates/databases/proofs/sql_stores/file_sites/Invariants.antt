@@ -1,0 +1,7 @@
+use Rattle.std.proofs.Common.{◌≡◌, length}
+use Rattle.catalog.specs.Relation.{catalogue_of}
+use Rattle.databases.specs.SqlStores.{AreOfLeaves}
+use Rattle.databases.proofs.sql_stores.file_sites.Given as goal
+
+abbrev pub invariant-loop-place : goal.invariant-loop-place
+invariant-loop-place g l = AreOfLeaves (catalogue_of l.catalog) l.sites.items × (length l.sites.items ≡ l.place)

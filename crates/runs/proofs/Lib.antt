@@ -1,0 +1,5 @@
+pub mod ConversationLemmas
+pub mod RunLemmas
+pub mod RunRecordsLemmas
+pub mod RunTextLemmas
+pub mod StoreOpenerLemmas
