@@ -1,10 +1,10 @@
 //! Schedules by chance over three catalogues, in which relations get another split meanwhile: what was committed has to be
 //! what whole relations come to, one transaction after another.
 
-use crate::catalogues::{DEPT_IN_THREE, EMP_AND_DEPT, EMP_BY_ROWS};
 use crate::schedules::{is_serial, is_serial_over_sql, played};
-use crate::statements::catalog;
 use catalog::chain::Chain;
+use samples::catalogues::{DEPT_IN_THREE, EMP_AND_DEPT, EMP_BY_ROWS};
+use samples::chains::catalog;
 use std::alloc::Global;
 use std::test::*;
 use terms::memory::Memory;

@@ -1,16 +1,18 @@
 //! A client alone over three catalogues: relations get another split meanwhile, and no answer tells of it.
 
 use crate::catalogue_schedules::three;
-use crate::catalogues::EMP_AND_DEPT;
-use crate::letters::leaf;
-use crate::statements::{catalog, empty};
+use crate::statements::empty;
 use crate::worlds::heard_from;
+use samples::catalogues::EMP_AND_DEPT;
+use samples::chains::catalog;
 use std::alloc::Global;
 use std::fmt::Write;
 use std::test::*;
 use store::plain_desk::PlainDesk;
 use store::plain_site::PlainSite;
+use terms::leaf::Leaf;
 use terms::memory::Memory;
+use terms::text::Text;
 use world::solo::{Solo, open};
 
 /// What the client asks for, the last thing of which is that `dept` gets its split a second time.
@@ -61,7 +63,14 @@ dept.3 1
 ";
 
 /// The leaves whose parts are counted.
-const LEAVES: [&str; 6] = ["emp.1", "emp.2", "emp.3", "dept.1", "dept.2", "dept.3"];
+const LEAVES: [(&str, usize); 6] = [
+    ("emp", 1),
+    ("emp", 2),
+    ("emp", 3),
+    ("dept", 1),
+    ("dept", 2),
+    ("dept", 3),
+];
 
 /// Tells how many parts each leaf has.
 fn put_counts(
@@ -69,10 +78,14 @@ fn put_counts(
     told: &mut String,
     client: &mut Solo<PlainDesk, PlainSite>,
 ) -> Result<(), Memory> {
-    for word in LEAVES {
-        match client.parts(&leaf(alloc, word)?) {
-            Ok(Some(parts)) => writeln!(told, "{word} {}", parts.len())?,
-            Ok(None) => writeln!(told, "{word} none")?,
+    for (relation, number) in LEAVES {
+        let leaf = Leaf {
+            relation: Text::copy_of(alloc, relation)?,
+            number,
+        };
+        match client.parts(&leaf) {
+            Ok(Some(parts)) => writeln!(told, "{relation}.{number} {}", parts.len())?,
+            Ok(None) => writeln!(told, "{relation}.{number} none")?,
             Err(_) => return Err(Memory),
         }
     }

@@ -1,11 +1,10 @@
 //! Schedules by chance, over lists and over SQLite: what was committed has to be what whole relations come to, one
 //! transaction after another. Over lists transactions end in each way in which they can.
 
-use crate::catalogues::EMP_AND_DEPT;
 use crate::chance::Chance;
 use crate::ends::{Ends, WAYS};
 use crate::sqldatabases::site_stores;
-use crate::statements::{catalog, line};
+use crate::statements::line;
 use crate::worlds::{loaded, opened_over};
 use catalog::chain::Chain;
 use desk::refusal::Refusal;
@@ -13,6 +12,8 @@ use desk::reply::{Notice, Reply};
 use meaning::schema::Schema;
 use meaning::whole::Whole;
 use reader::print_answer::print_answer;
+use samples::catalogues::EMP_AND_DEPT;
+use samples::chains::catalog;
 use site::fault::SiteFault;
 use sqlstore::desk::SqlDesk;
 use std::alloc::Global;

@@ -1,9 +1,9 @@
 //! A database over stores in SQLite answers what one over lists does, and goes on after it was closed.
 
-use crate::catalogues::EMP_AND_DEPT;
-use crate::statements::catalog;
 use crate::worlds::{ALONE, ALONE_HEARD, heard_from};
 use catalog::catalogue::Catalog;
+use samples::catalogues::EMP_AND_DEPT;
+use samples::chains::catalog;
 use sqlite::MemStore;
 use sqlstore::desk::SqlDesk;
 use sqlstore::site::SqlSite;

@@ -1,7 +1,5 @@
 //! Statements over whole relations, from their texts.
 
-use crate::catalogues::EMP_AND_DEPT;
-use catalog::catalogue::Catalog;
 use meaning::relation::Relation;
 use meaning::run::run;
 use meaning::schema::Schema;
@@ -11,15 +9,12 @@ use reader::fault::Rule;
 use reader::print_answer::print_answer;
 use reader::print_statement::print;
 use reader::read::read;
+use samples::catalogues::EMP_AND_DEPT;
+use samples::chains::catalog;
 use std::alloc::Global;
 use std::test::*;
 use terms::copy::TryCopy;
 use terms::memory::Memory;
-
-/// The catalogue of a text that is accepted.
-pub(crate) fn catalog(alloc: Global, text: &str) -> Result<Catalog, Memory> {
-    Catalog::read(alloc, text).map_err(|_| Memory)
-}
 
 /// A database of a schema's relations, each without rows.
 pub(crate) fn empty(alloc: Global, schema: &Schema) -> Result<Whole, Memory> {

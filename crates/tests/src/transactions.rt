@@ -1,9 +1,9 @@
 //! What transactions come to that a client hands over at once.
 
-use crate::desks::put_notice;
 use crate::worlds::opened_for_one;
 use desk::refusal::Refusal;
 use desk::reply::Notice;
+use samples::notices::put_notice;
 use std::alloc::Global;
 use std::fmt::Write;
 use std::test::*;

@@ -1,13 +1,14 @@
 //! What a world's events come to, and what a client alone hears of its commands.
 
-use crate::catalogues::EMP_AND_DEPT;
-use crate::desks::put_notice;
-use crate::statements::{catalog, empty, line};
+use crate::statements::{empty, line};
 use catalog::catalogue::Catalog;
 use catalog::chain::Chain;
 use desk::refusal::Refusal;
 use meaning::whole::Whole;
 use reader::print_answer::print_answer;
+use samples::catalogues::EMP_AND_DEPT;
+use samples::chains::catalog;
+use samples::notices::put_notice;
 use std::alloc::Global;
 use std::fmt::Write;
 use std::test::*;

@@ -1,14 +1,12 @@
 //! What the coordinator answers to its clients and to the letters of a script, line by line.
 
-use crate::catalogues::{EMP_AND_DEPT, EMP_BY_ROWS};
 use crate::letters::{letter_of_site, part_of, text_of, txn};
 use crate::told::{Again, TRIES, Told, joined};
-use catalog::catalogue::Catalog;
-use catalog::chain::Chain;
 use desk::desk::Desk;
 use desk::refusal::Refusal;
-use desk::reply::{Notice, Out, Reply, Why};
-use reader::print_answer::print_answer;
+use desk::reply::Out;
+use samples::chains::chain;
+use samples::notices::put_notice;
 use std::alloc::Global;
 use std::fmt::Write;
 use std::test::*;
@@ -63,14 +61,6 @@ fn put_refusal(told: &mut Told, refusal: Refusal) -> Result<bool, Memory> {
     Ok(told.again.store && matches!(refusal, Refusal::Store(_)))
 }
 
-/// The chain of two catalogues.
-pub(crate) fn chain(alloc: Global) -> Result<Chain, Memory> {
-    let mut catalogs = Vec::new(alloc);
-    catalogs.push(Catalog::read(alloc, EMP_AND_DEPT).map_err(|_| Memory)?)?;
-    catalogs.push(Catalog::read(alloc, EMP_BY_ROWS).map_err(|_| Memory)?)?;
-    Chain::new(catalogs).map_err(|_| Memory)
-}
-
 /// Starts a coordinator, with one more catalogue that comes next.
 fn start<S: DeskStore + Drop>(alloc: Global, told: &mut Told, store: S) -> Result<Desk<S>, Memory> {
     told.line("start")?;
@@ -86,33 +76,6 @@ fn start<S: DeskStore + Drop>(alloc: Global, told: &mut Told, store: S) -> Resul
         }
     }
     Err(Memory)
-}
-
-fn name(why: Why) -> &'static str {
-    match why {
-        Why::Vote => "aborted 1 Vote",
-        Why::Refused => "aborted 2 Refused",
-        Why::GivenUp => "aborted 3 GivenUp",
-        Why::Restart => "aborted 4 Restart",
-        Why::Store => "aborted 5 Store",
-    }
-}
-
-/// Tells what a client hears, each line after its transaction's name.
-pub(crate) fn put_notice(alloc: Global, told: &mut String, notice: &Notice) -> Result<(), Memory> {
-    let number = notice.txn.number;
-    match &notice.reply {
-        Reply::Begun => writeln!(told, "T{number}: begun")?,
-        Reply::Committed => writeln!(told, "T{number}: committed")?,
-        Reply::RolledBack => writeln!(told, "T{number}: rolled back")?,
-        Reply::Aborted(why) => writeln!(told, "T{number}: {}", name(*why))?,
-        Reply::Answer(answer) => {
-            for line in print_answer(alloc, answer)?.as_str().lines() {
-                writeln!(told, "T{number}: {line}")?;
-            }
-        }
-    }
-    Ok(())
 }
 
 /// Tells what a call puts out: whether the store refused, the replies, and then the letters. Says whether the call is

@@ -3,9 +3,9 @@ use Rattle.std.proofs.Common.{rules, ◌≡◌, ◌∙◌, [], ◌∷◌, ◌++�
 use Rattle.catalog.specs.Relation.{catalogue_of}
 use Rattle.store.specs.PlainSite.{kept_of}
 use Rattle.wire.proofs.Leaves.{have_all}
-use Rattle.tests.specs.declared.meeting.Meeting.{Meeting}
-use Rattle.tests.proofs.Openings.{leaves_over, sites_there}
-use Rattle.tests.proofs.meeting.MeetingsOpensSitesMeeting.stores.Goals as goal
+use Rattle.thread_tests.specs.declared.meeting.Meeting.{Meeting}
+use Rattle.thread_tests.proofs.Openings.{leaves_over, sites_there}
+use Rattle.thread_tests.proofs.meeting.MeetingsOpensSitesMeeting.stores.Goals as goal
 
 pub returns-clause-one_each : goal.returns-clause-one_each
 returns-clause-one_each g c =

@@ -7,7 +7,7 @@ use Rattle.plan.specs.Postfix.{plan_of}
 use Rattle.plan.specs.Uniform.{EachRead}
 use Rattle.answers.specs.Table.{AreParts, given}
 use Rattle.answers.proofs.Worked.{each_read}
-use Rattle.tests.proofs.outcomes.evaluated.Goals as goal
+use Rattle.machine_tests.proofs.outcomes.evaluated.Goals as goal
 
 pub evaluate_counted-requires-clause-parts : goal.evaluate_counted-requires-clause-parts
 evaluate_counted-requires-clause-parts c =

@@ -1,8 +1,7 @@
 //! What statements over fragments answer and write, from parts that are given by hand.
 
-ghost use Rattle.tests.specs.Planned.{IsPlanned};
+ghost use Rattle.machine_tests.specs.Planned.{IsPlanned};
 
-use crate::catalogues::{EMP_AND_DEPT, ITEM, PAIR};
 use answers::evaluate::evaluate_counted;
 use answers::finish::{Outcome, finish};
 use answers::table::{Brought, FetchRows, Table, are_all_parts, lent};
@@ -15,6 +14,7 @@ use reader::command::Command;
 use reader::print_answer::print_answer;
 use reader::print_statement::print_part;
 use reader::read::read;
+use samples::catalogues::{EMP_AND_DEPT, ITEM, PAIR};
 use std::alloc::Global;
 use std::test::*;
 use terms::copy::TryCopy;

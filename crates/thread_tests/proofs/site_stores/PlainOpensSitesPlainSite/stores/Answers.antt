@@ -3,8 +3,8 @@ use Rattle.std.proofs.Common.{◌∙◌, refl}
 use Rattle.catalog.specs.Relation.{catalogue_of}
 use Rattle.store.specs.PlainSite.{kept_of}
 use Rattle.wire.proofs.Leaves.{have_all}
-use Rattle.tests.proofs.Openings.{if_ok, leaves_over, sites_there}
-use Rattle.tests.proofs.site_stores.PlainOpensSitesPlainSite.stores.Goals as goal
+use Rattle.thread_tests.proofs.Openings.{if_ok, leaves_over, sites_there}
+use Rattle.thread_tests.proofs.site_stores.PlainOpensSitesPlainSite.stores.Goals as goal
 
 pub returns-clause-one_each : goal.returns-clause-one_each
 returns-clause-one_each c = if_ok c.plain_sites.result (λ sites same. same ∙ sites_there c.args.chain.now c.first_of.result.now c.first_of.ensures.0 c.first_of.ensures.1) c.plain_sites.ensures

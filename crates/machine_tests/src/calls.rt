@@ -1,10 +1,10 @@
 //! Public calls that the program does not make, each with ample memory.
 
-use crate::catalogues::EMP_AND_DEPT;
 use catalog::catalogue::Catalog;
 use meaning::relation::Relation;
 use meaning::whole::Whole;
 use reader::print_statement::print_part;
+use samples::catalogues::EMP_AND_DEPT;
 use std::alloc::Global;
 use std::test::*;
 use terms::copy::TryCopy;

@@ -1,6 +1,6 @@
 -- What each round of `plain_sites` keeps.
 use Rattle.std.proofs.Common.{◌≡◌, length}
-use Rattle.tests.proofs.site_stores.plain_sites.Given as goal
+use Rattle.thread_tests.proofs.site_stores.plain_sites.Given as goal
 
 -- a store for each place so far
 abbrev pub invariant-loop-place : goal.invariant-loop-place

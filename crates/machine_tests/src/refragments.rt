@@ -1,8 +1,9 @@
 //! A relation gets the split of the next catalogue: what its coordinator puts out, line by line.
 
-use crate::desks::{chain, plays};
+use crate::desks::plays;
 use desk::desk::Desk;
 use desk::refusal::Refusal;
+use samples::chains::chain;
 use std::alloc::Global;
 use std::test::*;
 use store::desk_store::DeskStore;

@@ -5,7 +5,7 @@ use Rattle.plan.specs.declared.fetch.Fetch.{Fetch}
 use Rattle.plan.specs.declared.postfix.Node.{Node}
 use Rattle.plan.specs.Postfix.{plan_of}
 use Rattle.plan.specs.Uniform.{EachRead}
-use Rattle.tests.proofs.outcomes.worked.Goals as goal
+use Rattle.machine_tests.proofs.outcomes.worked.Goals as goal
 
 pub work-requires-clause-fetched : goal.work-requires-clause-fetched
 work-requires-clause-fetched c =

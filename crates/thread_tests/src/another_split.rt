@@ -1,10 +1,10 @@
 //! A relation gets another split while sites work in threads: what sessions are told, and that it is woven.
 
-use crate::desks::chain;
 use crate::site_stores::Plain;
 use crate::threads::{Opened, answered, opened_over};
 use history::told::Told;
 use history::weave::weave;
+use samples::chains::chain;
 use std::alloc::Global;
 use std::sync::Wait;
 use std::test::*;

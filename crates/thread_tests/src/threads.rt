@@ -1,15 +1,15 @@
 //! Databases whose sites work in threads: what their sessions are told, and that it is woven into one run.
 
-use crate::catalogues::EMP_AND_DEPT;
 use crate::meeting::{Meetings, SouthFirst, shared};
 use crate::site_stores::{OpensSites, Plain};
-use crate::statements::catalog;
 use catalog::chain::Chain;
 use desk::reply::Reply;
 use history::entry::Input;
 use history::told::Told;
 use history::weave::{WeaveFault, weave};
 use reader::print_answer::print_answer;
+use samples::catalogues::EMP_AND_DEPT;
+use samples::chains::catalog;
 use std::alloc::{AllocError, Global};
 use std::sync::atomic::Ordering;
 use std::sync::{Arc, Wait};

@@ -8,8 +8,8 @@ use denote.Param.SendFields.{declared_send}
 use Rattle.std.proofs.Crossing
 use Rattle.store.specs.declared.desk_store.DeskStore
 use Rattle.wire.proofs.Sent.{session_send}
-use Rattle.tests.specs.contracts.threads.Seat as seat
-use Rattle.tests.proofs.threads.take_seats.Goals as goal
+use Rattle.thread_tests.specs.contracts.threads.Seat as seat
+use Rattle.thread_tests.proofs.threads.take_seats.Goals as goal
 
 seat_send : (s : NamedLft) (D G : RattleType) (store : DeskStore.Ghosts D.Denot) → IsSend D → IsSend G → IsSync G → IsSend (seat.the_row s D G store)
 seat_send s D G store d g asked =
