@@ -1,12 +1,13 @@
 //! What the coordinator answers to its clients and to the letters of a script, line by line.
 
-use crate::letters::{letter_of_site, part_of, text_of, txn};
+use crate::letters::{letter_of_site, text_of, txn};
 use crate::told::{Again, TRIES, Told, joined};
 use desk::desk::Desk;
 use desk::refusal::Refusal;
 use desk::reply::Out;
 use samples::chains::chain;
 use samples::notices::put_notice;
+use samples::parts::part_of;
 use std::alloc::Global;
 use std::fmt::Write;
 use std::test::*;

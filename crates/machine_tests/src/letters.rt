@@ -1,5 +1,6 @@
 //! Letters from their texts, as `letter_text` prints them, and back.
 
+use samples::parts::{integer, leaf, value};
 use std::alloc::Global;
 use store::letter::{Body, Letter};
 use store::letter_text::letter_text;
@@ -7,7 +8,6 @@ use store::name::{Ticket, Txn};
 use store::order::{Fetch, Intention, Order, Prepare};
 use store::reply::{Reason, Refusal, Reply, Rows, Vote, Voted};
 use terms::cond::{Cmp, Cond, Conds};
-use terms::leaf::Leaf;
 use terms::memory::Memory;
 use terms::part::Part;
 use terms::seq::Seq;
@@ -24,10 +24,6 @@ fn number(word: &str) -> u64 {
     word.parse::<u64>().unwrap_or(0)
 }
 
-fn integer(word: &str) -> i64 {
-    word.parse::<i64>().unwrap_or(0)
-}
-
 /// The ticket that a word such as `1.2` names.
 fn ticket(word: &str) -> Ticket {
     let (life, visit) = word.split_once('.').unwrap_or((word, ""));
@@ -35,33 +31,6 @@ fn ticket(word: &str) -> Ticket {
         life: number(life),
         visit: number(visit),
     }
-}
-
-/// The leaf that a word such as `emp.2` names.
-pub(crate) fn leaf(alloc: Global, word: &str) -> Result<Leaf, Memory> {
-    let (relation, place) = word.split_once('.').unwrap_or((word, ""));
-    Ok(Leaf {
-        relation: Text::copy_of(alloc, relation)?,
-        number: place.parse::<usize>().unwrap_or(0),
-    })
-}
-
-/// The value that a word such as `7` or `'Ada'` names.
-fn value(alloc: Global, word: &str) -> Result<Value, Memory> {
-    let word = word.trim_end_matches(',');
-    if word.starts_with('\'') {
-        return Ok(Value::Text(Text::copy_of(alloc, word.trim_matches('\''))?));
-    }
-    Ok(Value::Int(integer(word)))
-}
-
-/// The part that a line such as `1, 'Ada'` names.
-pub(crate) fn part_of(alloc: Global, line: &str) -> Result<Part, Memory> {
-    let mut values = Vec::new(alloc);
-    for word in line.split(' ') {
-        values.push(value(alloc, word)?)?;
-    }
-    Part::new(values)?.ok_or(Memory)
 }
 
 /// The part that the words behind a place name.

@@ -1,5 +1,5 @@
 //! Tests of a site, of the coordinator and of what they keep, each alone: the letters of scripts, answers put together from what
-//! leaves brought, stores that refuse, and files that fail. Each call is made once more where memory ran out, so the tests pass
+//! leaves brought, and stores that refuse. Each call is made once more where memory ran out, so the tests pass
 //! with any one allocation refused too.
 #![tactic(auto)]
 
@@ -7,8 +7,6 @@
 mod calls;
 #[cfg(test)]
 mod desks;
-#[cfg(test)]
-mod fused;
 #[cfg(test)]
 mod letters;
 #[cfg(test)]
@@ -27,9 +25,5 @@ mod refusing;
 mod refusing_desk;
 #[cfg(test)]
 mod sites;
-#[cfg(test)]
-mod sqldesks;
-#[cfg(test)]
-mod sqlstores;
 #[cfg(test)]
 mod told;

@@ -1,8 +1,9 @@
 //! What a site answers to the letters of a script, line by line.
 
-use crate::letters::{leaf, letter, part_of, text_of};
+use crate::letters::{letter, text_of};
 use crate::told::{Again, TRIES, Told};
 use reader::print_statement::print_part;
+use samples::parts::{leaf, part_of};
 use site::fault::SiteFault;
 use site::site::{Site, Unstarted};
 use std::alloc::Global;

@@ -1,6 +1,6 @@
 //! A site's store in SQLite does what the one over lists does, and names damaged rows.
 
-use crate::letters::{leaf, part_of};
+use samples::parts::{leaf, part_of};
 use sqlite::{Connection, Error, ErrorCode};
 use sqlstore::site::SqlSite;
 use std::alloc::Global;
