@@ -1,10 +1,8 @@
 -- Lemmas on playing a script of schedules.
-use Rattle.std.proofs.Common.{◌≡◌, ◌≤◌, ◌++◌, ◌∷◌, [], ℕ, List, Option, Some, None, Result, Ok, Err, OnOk, IfErr, IfOk, IfSome, ap, refl, sym, subst, inl, inr, append-nil, append_assoc, length, map, ◌∙◌}
-use Rattle.std.specs.Bool.{⊤}
+use Rattle.std.proofs.Common.{◌≡◌, ◌≤◌, ◌++◌, ◌∷◌, [], ℕ, List, Option, Some, None, Result, Ok, Err, OnOk, IfErr, IfOk, IfSome, ap, refl, sym, subst, inl, inr, append-nil, append_assoc, length, ◌∙◌}
 use Rattle.std.specs.Borrow.{Bor}
 use Rattle.std.specs.Io.KnownBytes.{Appends, Keeps}
 use Rattle.meaning.specs.Whole.{Relations}
-use Rattle.catalog.specs.declared.relation.SplitRelation.{SplitRelation}
 use Rattle.catalog.specs.Catalogue.{Catalogue}
 use Rattle.catalog.specs.FragmentLeaf.{schemas_of}
 use Rattle.catalog.specs.Relation.{catalogue_of}
@@ -15,7 +13,6 @@ use Rattle.desk.specs.Database.{Database, language}
 use Rattle.protocol.specs.Desk.{Deed}
 use Rattle.world.specs.declared.event.Entry.{Entry}
 use Rattle.world.specs.declared.world.World.{World}
-use Rattle.world.specs.Chain.{sites_of}
 use Rattle.world.specs.Listed.{FitsList, StandsIn}
 use Rattle.world.specs.Machines.{AreFit, Machines}
 use Rattle.world.specs.Runs.{IsListRun, IsRun}
@@ -29,7 +26,6 @@ use Rattle.databases.specs.declared.catalog_files.ChainFault.TheVariants.{Progra
 use Rattle.databases.specs.declared.schedule.Schedule.{Schedule}
 use Rattle.lines.specs.declared.script.ScriptFault.{ScriptFault}
 use Rattle.lines.specs.declared.script.ScriptFault.TheVariants as script
-use Rattle.databases.specs.Client.{IsOfClient}
 use Rattle.lines.specs.Fault.{fault_of_script}
 use Rattle.commands.specs.Play.{EndsOrStops, EndsOrStopsOf, IsSound, Plays, PlaysAll, PlaysItem, PlaysItems, PlaysOver, PlaysScript, StopsItems}
 use Rattle.lines.specs.PlayItems.{items_of}

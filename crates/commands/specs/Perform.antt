@@ -1,26 +1,24 @@
 -- What the program does of what the command line asks for.
-use Rattle.std.specs.Prelude.{◌≡◌, ◌<◌, ℕ, Bool, true, false, List, length, Option, Result, Ok, Err}
+use Rattle.std.specs.Prelude.{ℕ, Bool, List, Option, Result, Ok, Err}
 use Rattle.std.specs.Borrow.{Bor}
 use Rattle.std.specs.Io.KnownBytes.{Keeps}
 use Rattle.store.specs.declared.fault.StoreFault.{StoreFault}
 use Rattle.world.specs.declared.world.World.{World}
 use Rattle.shell.specs.declared.mode.Mode.{Mode}
 use Rattle.lines.specs.declared.outcome.Outcome.{Outcome}
-use Rattle.lines.specs.declared.outcome.Outcome.TheVariants.{Done, Lost, SomeRefused, Refused, RefusedStatement, Stopped, Unchained}
+use Rattle.lines.specs.declared.outcome.Outcome.TheVariants.{Done, Refused, RefusedStatement, Stopped}
 use Rattle.lines.specs.declared.usage.Request.{Request}
 use Rattle.lines.specs.declared.usage.Request.TheVariants.{Solo, Check, Plan, Play}
 use Rattle.lines.specs.Check.{ChecksFile}
-use Rattle.lines.specs.declared.fault.ProgramFault.{ProgramFault}
 use Rattle.lines.specs.declared.catalog_file.CatalogFault.{CatalogFault}
 use Rattle.lines.specs.declared.catalog_file.CatalogFault.TheVariants as catalog
 use Rattle.lines.specs.declared.plan_text.PlanFault.{PlanFault}
 use Rattle.lines.specs.declared.plan_text.PlanFault.TheVariants as plan
 use Rattle.databases.specs.declared.catalog_files.ChainFault.{ChainFault}
-use Rattle.databases.specs.declared.catalog_files.ChainFault.TheVariants as chain
 use Rattle.databases.specs.declared.catalog_files.Source.{Source}
 use Rattle.databases.specs.CatalogFiles.{DoesOver, IsUnopened}
 use Rattle.databases.specs.Client.{Seen}
-use Rattle.lines.specs.Input.{IsOfInput}
+use Rattle.databases.specs.Ending.{ComesTo, IsStopped, IsUnread, outcome_of_end, outcome_of_script}
 use Rattle.databases.specs.Origin.{Origin}
 use Rattle.lines.specs.Plan.{PlansFile}
 use Rattle.commands.specs.Play.{PlaysOver}

@@ -1,5 +1,5 @@
 -- Lemmas on a chain of catalogues, and on opening over one.
-use Rattle.std.proofs.Common.{◌≡◌, ◌∷◌, [], ℕ, List, ap, sym, inl, inr, length, map, ◌∙◌}
+use Rattle.std.proofs.Common.{◌≡◌, ◌∷◌, ℕ, List, ap, sym, inl, inr, length, map, ◌∙◌}
 use Rattle.std.specs.Bool.{⊤}
 use Rattle.catalog.specs.declared.relation.SplitRelation.{SplitRelation}
 use Rattle.catalog.specs.Catalogue.{Catalogue}

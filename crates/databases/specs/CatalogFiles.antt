@@ -9,7 +9,7 @@ use Rattle.catalog.specs.Relation.{catalogue_of}
 use Rattle.lines.specs.declared.catalog_file.CatalogFault.{CatalogFault}
 use Rattle.lines.specs.declared.catalog_file.CatalogFault.TheVariants as catalog
 use Rattle.lines.specs.declared.fault.ProgramFault.{ProgramFault}
-use Rattle.lines.specs.declared.fault.ProgramFault.TheVariants.{Memory, Store}
+use Rattle.lines.specs.declared.fault.ProgramFault.TheVariants.{Memory}
 use Rattle.lines.specs.CatalogFile.{IsCatalogueFile, RefusesFile}
 use Rattle.lines.specs.Input.{IsOfInput}
 use Rattle.databases.specs.Client.{IsOfClient}
