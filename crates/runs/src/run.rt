@@ -294,17 +294,23 @@ fn hold<
     };
     let conversations = converse_at_once(rt, alloc, manner, &database, parts);
     let closed = database.close(rt);
-    let conversations = conversations.map_err(of_call)?;
-    let records = closed.map_err(of_call)?.records;
-    Ok(Held {
-        conversations,
-        records,
-    })
+    let conversations = match conversations {
+        Ok(conversations) => conversations,
+        Err(fault) => return Err(of_call(fault)),
+    };
+    match closed {
+        Ok(closed) => Ok(Held {
+            conversations,
+            records: closed.records,
+        }),
+        Err(fault) => Err(of_call(fault)),
+    }
 }
 
 /// What the fault of a session's call comes to, which ends a script.
 fn of_call<'a>(fault: CallFault) -> ChainFault<'a>
-    ensures { result ≡ fault_of_call fault }
+    ensures of { result ≡ fault_of_call fault }
+    ensures stops { (catalogues : List Catalogue) → StopsRun catalogues result }
 {
     match fault {
         CallFault::Memory => ChainFault::Program(ProgramFault::Memory),
