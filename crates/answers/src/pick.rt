@@ -219,12 +219,16 @@ pub(crate) fn are_same(columns: &[Column], others: &[Column]) -> bool
 {
     match (columns.split_first(), others.split_first()) {
         (Some((column, columns)), Some((other, others))) => {
-            column.number == other.number
-                && column.source == other.source
-                && column.place == other.place
-                && are_same(columns, others)
+            is_same(column, other) && are_same(columns, others)
         }
         (None, None) => true,
         _ => false,
     }
+}
+
+/// Whether both are the same column, in the same place.
+fn is_same(column: &Column, other: &Column) -> bool
+    ensures { IsTrue result → column.now ≡ other.now }
+{
+    column.number == other.number && column.source == other.source && column.place == other.place
 }
