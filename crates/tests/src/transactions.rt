@@ -3,7 +3,7 @@
 use crate::worlds::opened_for_one;
 use desk::refusal::Refusal;
 use desk::reply::Notice;
-use samples::notices::put_notice;
+use heard::notice::put_notice;
 use std::alloc::Global;
 use std::fmt::Write;
 use std::test::*;
