@@ -1,4 +1,4 @@
-//! Leaves, values and parts from the words of a test's line. No clause says which they are: a test compares what comes of them.
+//! Leaves, values and parts from the words of a test's line.
 
 use std::alloc::Global;
 use terms::leaf::Leaf;
@@ -7,12 +7,12 @@ use terms::part::Part;
 use terms::text::Text;
 use terms::value::Value;
 
-/// The integer that a word spells; of any other word 0.
+/// The integer that a word spells; of any other word 0. No clause says so, since a test compares what comes of it.
 pub fn integer(word: &str) -> i64 {
     word.parse::<i64>().unwrap_or(0)
 }
 
-/// The leaf that a word such as `emp.2` names.
+/// The leaf that a word such as `emp.2` names. No clause says so, since a test compares what comes of it.
 pub fn leaf(alloc: Global, word: &str) -> Result<Leaf, Memory> {
     let (relation, place) = word.split_once('.').unwrap_or((word, ""));
     Ok(Leaf {
@@ -21,7 +21,7 @@ pub fn leaf(alloc: Global, word: &str) -> Result<Leaf, Memory> {
     })
 }
 
-/// The value that a word such as `7` or `'Ada'` names.
+/// The value that a word such as `7` or `'Ada'` names. No clause says so, since a test compares what comes of it.
 pub fn value(alloc: Global, word: &str) -> Result<Value, Memory> {
     let word = word.trim_end_matches(',');
     if word.starts_with('\'') {
@@ -30,7 +30,7 @@ pub fn value(alloc: Global, word: &str) -> Result<Value, Memory> {
     Ok(Value::Int(integer(word)))
 }
 
-/// The part that a line such as `1, 'Ada'` names.
+/// The part that a line such as `1, 'Ada'` names. No clause says so, since a test compares what comes of it.
 pub fn part_of(alloc: Global, line: &str) -> Result<Part, Memory> {
     let mut values = Vec::new(alloc);
     for word in line.split(' ') {
