@@ -1,15 +1,17 @@
 //! Conditions on rows.
 
 ghost use Rattle.std.specs.Prelude.{◌≡◌, List, IfOk};
+ghost use Rattle.std.specs.Arc.{arc_slice_items};
 ghost use Rattle.terms.specs.Cond.{compares, cond_holds, conds_hold};
 
-use crate::copy::{TryCopy, copy_all};
+use crate::copy::TryCopy;
 use crate::memory::Memory;
 use crate::row::Row;
 use crate::same::{Same, same_all};
 use crate::value::Value;
 use std::alloc::Global;
 use std::marker::Model;
+use std::sync::ArcSlice;
 
 /// A comparison.
 #[derive(Clone, Copy, Debug, PartialEq, Eq)]
@@ -87,26 +89,30 @@ impl TryCopy for Cond {
     }
 }
 
-/// Conditions that are to hold together. Contracts see the list of them.
+/// Conditions that are to hold together. Contracts see the list of them. Their copies share them, so that a copy takes no memory.
 #[derive(Debug, Drop)]
 pub struct Conds {
-    conds: Vec<Cond>,
+    alloc: Global,
+    conds: ArcSlice<Cond>,
 }
 
 impl Model for Conds {
     ghost use Rattle.std.specs.Prelude.{List};
+    ghost use Rattle.std.specs.Arc.{arc_slice_items};
     ghost use Rattle.terms.specs.declared.cond.Cond.{Cond};
 
     ghost Value = { List Cond };
 
-    ghost view = { λ c. c.conds.items };
+    ghost view = { λ c. arc_slice_items c.conds };
 }
 
 impl Conds {
-    pub fn new(conds: Vec<Cond>) -> Conds
-        ensures { result ≡ conds.items }
+    pub fn new(conds: Vec<Cond>) -> Result<Conds, Memory>
+        ensures { IfOk result (λ made. made ≡ conds.items) }
     {
-        Conds { conds }
+        let alloc = *conds.allocator();
+        let conds = ArcSlice::from_vec(conds)?;
+        Ok(Conds { alloc, conds })
     }
 
     pub fn as_slice(&self) -> &[Cond]
@@ -117,7 +123,7 @@ impl Conds {
 
     /// The allocator that these conditions stand on.
     pub(crate) fn allocator(&self) -> Global {
-        *self.conds.allocator()
+        self.alloc
     }
 
     /// Whether all conditions hold of a row.
@@ -137,8 +143,11 @@ pub fn all_hold(conds: &[Cond], values: &[Value]) -> bool
 
 impl TryCopy for Conds {
     fn copy(&self) -> Result<Conds, Memory> {
-        let conds = copy_all(self.allocator(), self.conds.as_slice())?;
-        Ok(Conds { conds })
+        let conds = self.conds.clone()?;
+        Ok(Conds {
+            alloc: self.alloc,
+            conds,
+        })
     }
 }
 

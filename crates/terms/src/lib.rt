@@ -4,7 +4,7 @@
 //! all conditions hold of a row, and `Conds::satisfiable` gives a row exactly when they hold of one.
 //!
 //! ```text
-//! let conds = Conds::new(conds);            // zone = 3
+//! let conds = Conds::new(conds)?;           // zone = 3
 //! let kept = conds.hold(&row);              // the row has 3 in the column zone
 //! ```
 #![tactic(auto)]

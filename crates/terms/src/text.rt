@@ -67,19 +67,41 @@ fn is_printable(text: &str) -> bool
     text.chars().all(|c| c >= ' ' && c != '\u{7f}')
 }
 
-/// Whether two texts are the same, byte by byte. Names are short, and most that differ do so in length or in the first byte.
+/// Whether two texts are the same, two bytes at a time. Names are short, and most that differ do so in length or in the first bytes.
 fn are_same(bytes: &[u8], others: &[u8]) -> bool
     ensures { result ≡ pointwise nat_eq bytes.now others.now }
 {
     if bytes.len() != others.len() {
         return false;
     }
-    for place in 0..bytes.len() {
+    for pair in 0..bytes.len() / 2 {
+        if bytes[2 * pair] != others[2 * pair] || bytes[2 * pair + 1] != others[2 * pair + 1] {
+            return false;
+        }
+    }
+    for place in bytes.len() / 2 * 2..bytes.len() {
         if bytes[place] != others[place] {
             return false;
         }
     }
     true
+}
+
+/// How two texts compare, byte by byte.
+fn order_of(bytes: &[u8], others: &[u8]) -> Ordering
+    ensures { result ≡ slice_cmp nat_cmp bytes.now others.now }
+{
+    let Some((byte, rest)) = bytes.split_first() else {
+        return if others.is_empty() { Ordering::Equal } else { Ordering::Less };
+    };
+    let Some((other, others)) = others.split_first() else {
+        return Ordering::Greater;
+    };
+    match byte.cmp(other) {
+        Ordering::Equal => order_of(rest, others),
+        Ordering::Less => Ordering::Less,
+        Ordering::Greater => Ordering::Greater,
+    }
 }
 
 impl TryCopy for Text {
@@ -138,6 +160,6 @@ impl Ord for Text {
     ghost matches_eq = { texts_ties };
 
     fn cmp(&self, other: &Text) -> Ordering {
-        self.as_str().cmp(other.as_str())
+        order_of(self.as_str().as_bytes(), other.as_str().as_bytes())
     }
 }
