@@ -108,7 +108,7 @@ fn leaf(
         relation: relation.copy()?,
         number,
     };
-    let conds = Conds::new(path_conds(alloc, path.steps.as_slice())?);
+    let conds = Conds::new(path_conds(alloc, path.steps.as_slice())?)?;
     let mut all = Vec::new(alloc);
     all.push(0)?;
     all.extend_from_slice(path_columns(columns, path.steps.as_slice()))?;

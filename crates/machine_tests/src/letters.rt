@@ -52,7 +52,7 @@ fn conds(alloc: Global, words: &[&str]) -> Result<Conds, Memory> {
             value: Value::Int(integer(word(words, 9))),
         })?;
     }
-    Ok(Conds::new(conds))
+    Conds::new(conds)
 }
 
 fn fetch(alloc: Global, words: &[&str]) -> Result<Order, Memory> {

@@ -1,6 +1,6 @@
 //! Reads of leaves.
 
-ghost use Rattle.std.specs.Prelude.{◌≡◌, ◌<◌, length, IfOk, IfSome};
+ghost use Rattle.std.specs.Prelude.{◌≡◌, ◌<◌, length, true, IfOk, IfSome};
 ghost use Rattle.plan.specs.Fetch as spec;
 
 use crate::need::{Need, on_column};
@@ -34,12 +34,31 @@ impl TryCopy for Fetch {
 pub fn fetch_of(alloc: Global, need: &Need, leaf: &FragmentLeaf) -> Result<Fetch, Memory>
     ensures { IfOk result (λ fetch. fetch ≡ spec.fetch_of need.now leaf.now) }
 {
-    let conds = placed(alloc, leaf.columns.as_slice(), need.conds.as_slice())?;
     Ok(Fetch {
         leaf: leaf.name.copy()?,
         columns: leaf.columns.copy()?,
-        conds: Conds::new(conds),
+        conds: conds_on(alloc, leaf.columns.as_slice(), &need.conds)?,
     })
+}
+
+/// Those of the conditions whose columns are among these, on the columns' places. Conditions that stay as they are are shared.
+fn conds_on(alloc: Global, columns: &[usize], conds: &Conds) -> Result<Conds, Memory>
+    ensures { IfOk result (λ found. found ≡ spec.placed columns.now conds.now) }
+{
+    if are_in_place(columns, conds.as_slice()) {
+        return conds.copy();
+    }
+    Conds::new(placed(alloc, columns, conds.as_slice())?)
+}
+
+/// Whether the column of each condition stands among these at the place that is its own number.
+fn are_in_place(columns: &[usize], conds: &[Cond]) -> bool
+    ensures { result ≡ true → spec.placed columns.now conds.now ≡ conds.now }
+{
+    let Some((cond, rest)) = conds.split_first() else {
+        return true;
+    };
+    place_in(cond.col, columns) == Some(cond.col) && are_in_place(columns, rest)
 }
 
 /// Those of the conditions whose columns are among these, on the columns' places.

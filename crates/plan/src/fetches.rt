@@ -185,7 +185,7 @@ fn asked_of_both(alloc: Global, places: Places, need: &Need, other: &Need) -> Re
 {
     let mut asked = copy_all(alloc, need.conds.as_slice())?;
     put_on(&mut asked, places, other.conds.as_slice())?;
-    Ok(Conds::new(asked))
+    Conds::new(asked)
 }
 
 /// The types of the columns of a relation of the catalogue; none where it is not there.

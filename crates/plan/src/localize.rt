@@ -107,11 +107,11 @@ pub(crate) fn conds_asked(alloc: Global, statement: &Statement) -> Result<Conds,
                 cmp: Cmp::Eq,
                 value: Value::Int(insert.row.key()),
             })?;
-            Ok(Conds::new(conds))
+            Conds::new(conds)
         }
         Statement::Update(update) => update.conds.copy(),
         Statement::Delete(delete) => delete.conds.copy(),
-        Statement::Refragment(_) => Ok(Conds::new(Vec::new(alloc))),
+        Statement::Refragment(_) => Conds::new(Vec::new(alloc)),
     }
 }
 

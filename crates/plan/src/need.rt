@@ -1,6 +1,6 @@
 //! What a statement needs of each of its relations.
 
-ghost use Rattle.std.specs.Prelude.{◌≡◌, ◌++◌, ◌∷◌, [], length, IfOk, OnOk};
+ghost use Rattle.std.specs.Prelude.{◌≡◌, ◌++◌, ◌∷◌, [], length, true, IfOk, OnOk};
 ghost use Rattle.plan.specs.Need as spec;
 ghost use Rattle.plan.specs.Need.{carried, conds_of, key_is, needs_behind, needs_of_select, places_of, places_on, places_to};
 
@@ -47,7 +47,7 @@ pub fn statement_needs(alloc: Global, statement: &Statement) -> Result<Needs, Me
             alone(alloc, need)
         }
         Statement::Refragment(refragment) => {
-            let conds = Conds::new(Vec::new(alloc));
+            let conds = Conds::new(Vec::new(alloc))?;
             alone(alloc, need_of_all(alloc, &refragment.relation, &conds)?)
         }
     }
@@ -108,13 +108,40 @@ fn need_of(
 {
     let width = source.columns.as_slice().len();
     let columns = columns_read(alloc, links, before, width, select)?;
-    let mut conds = conds_of(alloc, before, width, select.conds.as_slice())?;
-    put_carried(&mut conds, links, before, width, select.conds.as_slice())?;
     Ok(Need {
         relation: source.name.copy()?,
         columns: Seq::new(columns),
-        conds: Conds::new(conds),
+        conds: conds_on(alloc, links, before, width, &select.conds)?,
     })
+}
+
+/// The conditions on the relation that stands behind so many columns: its own, and behind them those that ONs carry to it. Where they
+/// are all its own as they stand, they are shared.
+fn conds_on(
+    alloc: Global,
+    links: &[Link],
+    before: usize,
+    width: usize,
+    conds: &Conds,
+) -> Result<Conds, Memory>
+    ensures { IfOk result (λ found. found ≡ conds_of before width conds.now ++ carried links.now before width conds.now) }
+{
+    if before == 0 && are_own(links, width, conds.as_slice()) {
+        return conds.copy();
+    }
+    let mut found = conds_of(alloc, before, width, conds.as_slice())?;
+    put_carried(&mut found, links, before, width, conds.as_slice())?;
+    Conds::new(found)
+}
+
+/// Whether all conditions are on the first so many columns, so that they are those of the relation after FROM as they stand.
+fn are_own(links: &[Link], width: usize, conds: &[Cond]) -> bool
+    ensures { result ≡ true → conds_of 0 width conds.now ++ carried links.now 0 width conds.now ≡ conds.now }
+{
+    let Some((cond, rest)) = conds.split_first() else {
+        return true;
+    };
+    is_of(0, width, cond.col) && are_own(links, width, rest)
 }
 
 fn need_of_insert(alloc: Global, insert: &Insert) -> Result<Need, Memory>
@@ -131,7 +158,7 @@ fn need_of_insert(alloc: Global, insert: &Insert) -> Result<Need, Memory>
     Ok(Need {
         relation: insert.into.copy()?,
         columns: Seq::new(Vec::new(alloc)),
-        conds: Conds::new(conds),
+        conds: Conds::new(conds)?,
     })
 }
 

@@ -91,7 +91,7 @@ fn select_from(
         from: source(alloc, from)?,
         joins: Seq::new(joins),
         columns: Seq::new(columns),
-        conds: Conds::new(conds),
+        conds: Conds::new(conds)?,
     })
 }
 
@@ -162,7 +162,7 @@ fn update(
     Ok(statement::Update {
         relation: source(alloc, relation)?,
         sets: Seq::new(sets),
-        conds: Conds::new(conds),
+        conds: Conds::new(conds)?,
     })
 }
 
@@ -182,7 +182,7 @@ fn delete(
     )?;
     Ok(statement::Delete {
         relation: source(alloc, relation)?,
-        conds: Conds::new(conds),
+        conds: Conds::new(conds)?,
     })
 }
 

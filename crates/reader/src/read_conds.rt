@@ -64,5 +64,6 @@ fn read_bytes(alloc: Global, text: &[u8], columns: &[Column]) -> Result<Conds, R
     let tokens = tokens(alloc, text)?;
     let written = parse_conditions(alloc, tokens.as_slice())?;
     let conds = conds(alloc, &of_columns(alloc, columns), written.as_slice())?;
-    Ok(Conds::new(conds))
+    let resolved = Conds::new(conds)?;
+    Ok(resolved)
 }

@@ -102,7 +102,7 @@ fn story<S: SiteStore>(alloc: Global, store: &mut S) -> Result<String, StoreFaul
     note(&mut text, &store.find(&second, 2)?)?;
     note(
         &mut text,
-        &store.scan(&second, &Conds::new(Vec::new(alloc)))?,
+        &store.scan(&second, &Conds::new(Vec::new(alloc))?)?,
     )?;
     note(&mut text, &store.rows()?.prepared.as_slice().len())?;
     Ok(text)

@@ -67,19 +67,14 @@ fn is_printable(text: &str) -> bool
     text.chars().all(|c| c >= ' ' && c != '\u{7f}')
 }
 
-/// Whether two texts are the same, two bytes at a time. Names are short, and most that differ do so in length or in the first bytes.
+/// Whether two texts are the same, byte by byte. Names are short, and most that differ do so in length or in the first byte.
 fn are_same(bytes: &[u8], others: &[u8]) -> bool
     ensures { result ≡ pointwise nat_eq bytes.now others.now }
 {
     if bytes.len() != others.len() {
         return false;
     }
-    for pair in 0..bytes.len() / 2 {
-        if bytes[2 * pair] != others[2 * pair] || bytes[2 * pair + 1] != others[2 * pair + 1] {
-            return false;
-        }
-    }
-    for place in bytes.len() / 2 * 2..bytes.len() {
+    for place in 0..bytes.len() {
         if bytes[place] != others[place] {
             return false;
         }

@@ -214,7 +214,7 @@ fn everything(alloc: Global, relation: &RelationSchema) -> Result<Select, Memory
         },
         joins: Seq::new(Vec::new(alloc)),
         columns: Seq::new(places_to(alloc, columns.len())?),
-        conds: Conds::new(Vec::new(alloc)),
+        conds: Conds::new(Vec::new(alloc))?,
     })
 }
 

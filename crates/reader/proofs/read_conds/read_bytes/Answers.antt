@@ -32,5 +32,5 @@ returns-clause-found c =
       short = c.if-text-gt-STATEMENT_LIMIT.false;
       spelled = spelled;
       grammatical = c.in_ok-written.ensures.found;
-      meant = (rw (c.of_columns.ensures, c.as_slice-2.ensures.value) at c.in_ok-conds.ensures.exact) ∙ ap Some (sym c.new-2.ensures);
+      meant = (rw (c.of_columns.ensures, c.as_slice-2.ensures.value) at c.in_ok-conds.ensures.exact) ∙ ap Some (sym c.in_ok-resolved.ensures);
     }

@@ -1,9 +1,6 @@
 -- What each round of `text::are_same` keeps.
-use Rattle.std.proofs.Common.{◌≡◌, ◌*◌, take}
+use Rattle.std.proofs.Common.{◌≡◌, take}
 use Rattle.terms.proofs.text.are_same.Given as goal
-
-abbrev pub invariant-loop-pair : goal.invariant-loop-pair
-invariant-loop-pair l = take (2 * l.pair) l.bytes ≡ take (2 * l.pair) l.others
 
 abbrev pub invariant-loop-place : goal.invariant-loop-place
 invariant-loop-place l = take l.place l.bytes ≡ take l.place l.others
