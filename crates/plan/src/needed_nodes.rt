@@ -17,13 +17,13 @@ use crate::need::{Need, Needs};
 use crate::postfix::Node;
 use crate::reduce::is_fetched;
 use catalog::catalogue::Catalog;
+use catalog::column_list::ColumnList;
 use catalog::fragment_leaf::FragmentLeaf;
 use catalog::laws::{leaf_names_are_unique, one_leaf_serves, some_leaf_serves};
 use meaning::statement::Statement;
 use std::alloc::Global;
-use terms::copy::copy_all;
+use terms::copy::{TryCopy, copy_all};
 use terms::memory::Memory;
-use terms::seq::Seq;
 
 /// Puts out the nodes of a plan of a statement of these needs.
 pub(crate) fn put_plan(
@@ -158,14 +158,29 @@ fn put_cover(
             reached.push(leaf)?;
         }
     }
-    put_union(alloc, need, columns, reached.as_slice(), fetches, out)
+    put_reads(alloc, need, columns, reached.as_slice(), fetches, out)
+}
+
+/// Puts out the union of the reads of leaves, which share the list of their columns.
+fn put_reads(
+    alloc: Global,
+    need: &Need,
+    columns: &[usize],
+    leaves: &[&FragmentLeaf],
+    fetches: &[Fetch],
+    out: &mut Vec<Node>,
+) -> Result<(), Memory>
+    ensures { OnOk result (PutsPlan (λ plan. united plan ≡ map (λ leaf. cut_read need.now columns.now leaf.now) leaves.now) fetches.now out.old.items out.new.items) }
+{
+    let shared = ColumnList::new(copy_all(alloc, columns)?)?;
+    put_union(alloc, need, &shared, leaves, fetches, out)
 }
 
 /// Puts out the union of the reads of leaves: a tree of which each side has half of them.
 fn put_union(
     alloc: Global,
     need: &Need,
-    columns: &[usize],
+    columns: &ColumnList,
     leaves: &[&FragmentLeaf],
     fetches: &[Fetch],
     out: &mut Vec<Node>,
@@ -188,7 +203,7 @@ fn put_union(
 fn put_cut_read(
     alloc: Global,
     need: &Need,
-    columns: &[usize],
+    columns: &ColumnList,
     leaf: &FragmentLeaf,
     fetches: &[Fetch],
     out: &mut Vec<Node>,
@@ -200,6 +215,5 @@ fn put_cut_read(
     } else {
         out.push(Node::Empty)?;
     }
-    let columns = Seq::new(copy_all(alloc, columns)?);
-    Ok(out.push(Node::Project(columns))?)
+    Ok(out.push(Node::Project(columns.copy()?))?)
 }

@@ -1,8 +1,8 @@
 //! Plans as lists of their nodes. A list holds no plan in a plan, so that it may be handed from thread to thread.
 
 use crate::fetch::Fetch;
+use catalog::column_list::ColumnList;
 use terms::cond::Conds;
-use terms::seq::Seq;
 
 /// A node of a plan. The plans that it is made of stand before it.
 #[derive(Debug, Drop)]
@@ -14,7 +14,7 @@ pub enum Node {
     /// The rows of one plan that meet the conditions.
     Filter(Conds),
     /// The rows of one plan cut to these columns, beside the key.
-    Project(Seq<usize>),
+    Project(ColumnList),
     /// The rows of two plans.
     Union,
     /// Rows of two plans that have one key, put together.

@@ -135,6 +135,7 @@ impl Conds {
 }
 
 /// Whether all conditions hold of these values.
+#[inline(always)]
 pub fn all_hold(conds: &[Cond], values: &[Value]) -> bool
     ensures { result ≡ conds_hold conds.now values.now }
 {

@@ -81,6 +81,7 @@ impl Part {
     }
 
     /// Whether all of these conditions, on places of the part, hold of it.
+    #[inline(always)]
     pub fn meets(&self, conds: &[Cond]) -> bool
         ensures { result ≡ conds_hold conds.now self.now }
     {

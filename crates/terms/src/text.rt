@@ -87,7 +87,11 @@ fn order_of(bytes: &[u8], others: &[u8]) -> Ordering
     ensures { result ≡ slice_cmp nat_cmp bytes.now others.now }
 {
     let Some((byte, rest)) = bytes.split_first() else {
-        return if others.is_empty() { Ordering::Equal } else { Ordering::Less };
+        return if others.is_empty() {
+            Ordering::Equal
+        } else {
+            Ordering::Less
+        };
     };
     let Some((other, others)) = others.split_first() else {
         return Ordering::Greater;

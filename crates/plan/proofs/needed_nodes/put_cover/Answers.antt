@@ -15,5 +15,5 @@ returns c =
     let nothing : covers need columns (drop c.loop-leaf.leaf-index c.args.leaves.now) ≡ [] = ap (covers need columns) (drop_all c.loop-leaf.leaf-index c.args.leaves.now c.loop-leaf-test.false) in
     let all : map read c.as_slice.result.now ≡ covers need columns c.args.leaves.now =
     ap (map read) c.as_slice.ensures.value ∙ sym (append-nil (map read c.loop-leaf.reached.items)) ∙ ap (λ (rest : List Shape). map read c.loop-leaf.reached.items ++ rest) (sym nothing) ∙ c.loop-leaf.invariant in
-    ok_as (λ plan. united plan ≡ map read c.as_slice.result.now) (λ plan. united plan ≡ covers need columns c.args.leaves.now) c.args.fetches.now c.args.out.now.items c.put_union.new.out.items c.put_union.result
-    (λ plan is. is ∙ all) c.put_union.ensures
+    ok_as (λ plan. united plan ≡ map read c.as_slice.result.now) (λ plan. united plan ≡ covers need columns c.args.leaves.now) c.args.fetches.now c.args.out.now.items c.put_reads.new.out.items c.put_reads.result
+    (λ plan is. is ∙ all) c.put_reads.ensures
