@@ -10,6 +10,8 @@ pub mod Counted
 pub mod Called
 pub mod Phases
 pub mod Operations
+pub mod Heads
+pub mod Going
 pub mod Txns
 pub mod Counts
 pub mod Raised

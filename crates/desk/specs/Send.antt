@@ -1,5 +1,5 @@
 -- The operations of a statement go out to the tickets that have come.
-use Rattle.std.specs.Prelude.{ℕ, suc, ◌^◌, ◌<◌, ◌≤◌, Bool, List, [], ◌∷◌, map, Option, Some, None, is_none}
+use Rattle.std.specs.Prelude.{ℕ, suc, ◌^◌, ◌<◌, ◌≤◌, Bool, List, [], ◌∷◌, map, Option, Some, None, is_none, is_some, ◌&&◌}
 use Rattle.std.specs.List.{AllByRecursion}
 use Rattle.store.specs.declared.letter.Letter.{Letter}
 use Rattle.store.specs.declared.name.Ticket.{Ticket}
@@ -60,6 +60,10 @@ ask_goes txn ask number ticket participants rest =
 abbrev pub asks_go : Txn → List Ask → List Participant → Sent Ask
 asks_go txn [] participants = record { left = []; participants = participants; letters = [] }
 asks_go txn (ask ∷ asks) participants = ask_goes txn ask ask.number (participant_in ask.site participants).ticket participants (asks_go txn asks)
+
+-- whether a fetch goes out now
+abbrev pub goes_now : List Participant → Ask → Bool
+goes_now participants ask = is_none ask.number && is_some (participant_in ask.site participants).ticket
 
 -- whether a write waits for a ticket
 abbrev pub waits_in : List Participant → Unsent → Bool

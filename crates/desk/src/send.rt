@@ -1,11 +1,11 @@
 //! Letters to sites: visits begin, operations go out as tickets come, and orders end them.
 
-ghost use Rattle.std.specs.Prelude.{◌≡◌, ◌<◌, ◌≤◌, ◌^◌, ◌∷◌, ◌++◌, [], None, Err, filter, map, IfOk, IfSome, OnOk, OnErr, nat_eq};
+ghost use Rattle.std.specs.Prelude.{◌≡◌, ◌<◌, ◌≤◌, ◌^◌, ◌∷◌, ◌++◌, [], None, Err, filter, map, IfOk, IfSome, OnOk, OnErr, length, nat_eq};
 ghost use Rattle.desk.specs.declared.refusal.Refusal.TheVariants as refusals;
-ghost use Rattle.desk.specs.Send.{AreShort, IsPast, asks_go, counted, next_number, waits_in, writes_go};
+ghost use Rattle.desk.specs.Send.{AreShort, IsPast, asks_go, counted, goes_now, next_number, waits_in, writes_go};
 ghost use Rattle.desk.specs.Participants.{participant_in};
 ghost use Rattle.std.specs.Cmp.Lexicographic.{pointwise};
-ghost use Rattle.std.specs.List.{list_any};
+ghost use Rattle.std.specs.List.{list_any, position_or_len};
 ghost use Rattle.desk.specs.Opening.{is_new, opens, visits};
 ghost use Rattle.desk.specs.Orders.{is_for, broadcast_letters, may_hold, order_at, order_of};
 
@@ -108,8 +108,29 @@ fn ask_out(
     Ok(Some(number))
 }
 
+/// Whether a fetch goes out now: it hasn't yet, and its site has given a ticket.
+fn goes_now(participants: &[Participant], ask: &Ask) -> bool
+    ensures { result ≡ goes_now participants.now ask.now }
+{
+    ask.number.is_none() && ticket_of(participants, &ask.site).is_some()
+}
+
+/// How many fetches stand before the first that goes out now; all of them, where none does.
+fn before_going(participants: &[Participant], asks: &[Ask]) -> usize
+    ensures first { result ≡ position_or_len (goes_now participants.now) asks.now }
+    ensures within { result ≤ length asks.now }
+{
+    let Some((ask, rest)) = asks.split_first() else {
+        return 0;
+    };
+    if goes_now(participants, ask) {
+        return 0;
+    }
+    before_going(participants, rest) + 1
+}
+
 /// Fetches go out in order, their letters behind others. Full where an operation's number would be past the limit. A fetch gets
-/// its number once all have gone out, so on an error none has one.
+/// its number once all have gone out, so on an error none has one. Those that stay are passed over at once.
 fn asks_out(
     letters: &mut Vec<Letter>,
     participants: &mut [Participant],
@@ -123,7 +144,9 @@ fn asks_out(
     ensures full { result ≡ Err refusals.Full → IsPast (asks_go txn asks.old participants.old).participants }
     ensures same { OnErr result (asks.new ≡ asks.old) }
 {
-    let Some((ask, rest)) = asks.split_first_mut() else {
+    let before = before_going(participants, asks);
+    let (_, going) = asks.split_at_mut(before);
+    let Some((ask, rest)) = going.split_first_mut() else {
         return Ok(());
     };
     let number = ask_out(letters, participants, txn, ask)?;
