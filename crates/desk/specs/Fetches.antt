@@ -33,10 +33,6 @@ has_rows_with catalogue site number rows ask = is_some ask.rows || awaits catalo
 abbrev pub are_in_with : Catalogue → List ℕ → ℕ → List (List Value) → List Ask → Bool
 are_in_with catalogue site number rows asks = list_all (has_rows_with catalogue site number rows) asks
 
--- the rows that a fetch gets, if it waits for these
-abbrev pub rows_for : Catalogue → List ℕ → ℕ → List (List Value) → Ask → Option (List (List Value))
-rows_for catalogue site number rows ask = if awaits catalogue site number rows ask then Some rows else None
-
 -- whether all rows are in
 abbrev pub are_in : List Ask → Bool
 are_in asks = list_all (λ ask. is_some ask.rows) asks

@@ -1,13 +1,14 @@
 //! The fetches of a statement, and the rows that come for them.
 
-ghost use Rattle.std.specs.Prelude.{◌≡◌, IfOk, map, OnErr, OnOk};
+ghost use Rattle.std.specs.Prelude.{◌≡◌, ◌≤◌, IfOk, length, map, OnErr, OnOk};
+ghost use Rattle.std.specs.List.{position_or_len};
 ghost use Rattle.std.specs.Option.{option_copied};
 ghost use Rattle.catalog.specs.Relation.{catalogue_of};
 ghost use Rattle.protocol.specs.Letters.{leaf_of};
 ghost use Rattle.desk.specs.Place.{home_in, site_in};
 ghost use Rattle.desk.specs.Planned.{ask_from, unsent_by, unsent_from};
 ghost use Rattle.catalog.specs.FragmentLeaf.{catalogue_leaves, leaf_named};
-ghost use Rattle.desk.specs.Fetches.{are_in_with, awaits, fetched_with, fits_leaf, has_rows_with, rows_for, with_rows};
+ghost use Rattle.desk.specs.Fetches.{are_in_with, awaits, fetched_with, fits_leaf, has_rows_with, with_rows};
 
 use crate::transaction::Unsent;
 use answers::moves::Move;
@@ -157,34 +158,34 @@ fn awaits(catalog: &Catalog, site: &Text, rows: &Rows, ask: &Ask) -> bool
         && fits_leaf(catalog, &ask.leaf, rows.parts.as_slice())
 }
 
-/// The rows that a fetch gets, if it waits for these.
-fn rows_for(
-    catalog: &Catalog,
-    site: &Text,
-    rows: &Rows,
-    ask: &Ask,
-) -> Result<Option<Seq<Part>>, Memory>
-    ensures { IfOk result (λ found. found ≡ rows_for (catalogue_of catalog.now) site.now rows.now.op rows.now.parts ask.now) }
+/// How many fetches stand before the first that waits for these rows; all of them, where none does.
+fn before_waiting(catalog: &Catalog, site: &Text, rows: &Rows, asks: &[Ask]) -> usize
+    ensures first { result ≡ position_or_len (awaits (catalogue_of catalog.now) site.now rows.now.op rows.now.parts) asks.now }
+    ensures within { result ≤ length asks.now }
 {
+    let Some((ask, rest)) = asks.split_first() else {
+        return 0;
+    };
     if awaits(catalog, site, rows, ask) {
-        return Ok(Some(rows.parts.copy()?));
+        return 0;
     }
-    Ok(None)
+    before_waiting(catalog, site, rows, rest) + 1
 }
 
-/// Each fetch that waits for these rows gets them once all have been looked at, so on an error none has.
+/// Each fetch that waits for these rows gets them once all have been looked at, so on an error none has. Those that don't are
+/// passed over at once.
 fn put_rows(catalog: &Catalog, site: &Text, rows: &Rows, asks: &mut [Ask]) -> Result<(), Memory>
     ensures ok { OnOk result (asks.new ≡ map (with_rows (catalogue_of catalog.now) site.now rows.now.op rows.now.parts) asks.old) }
     ensures same { OnErr result (asks.new ≡ asks.old) }
 {
-    let Some((ask, rest)) = asks.split_first_mut() else {
+    let before = before_waiting(catalog, site, rows, asks);
+    let (_, waiting) = asks.split_at_mut(before);
+    let Some((ask, rest)) = waiting.split_first_mut() else {
         return Ok(());
     };
-    let found = rows_for(catalog, site, rows, ask)?;
+    let parts = rows.parts.copy()?;
     put_rows(catalog, site, rows, rest)?;
-    if let Some(parts) = found {
-        ask.rows = Some(parts);
-    }
+    ask.rows = Some(parts);
     Ok(())
 }
 
