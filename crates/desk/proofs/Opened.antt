@@ -1,8 +1,9 @@
 -- Opens go to the sites that the protocol says.
-use Rattle.std.proofs.Common.{◌≡◌, refl, sym, ap, ◌∙◌, subst, ℕ, nat_eq, Bool, true, false, ◌&&◌, ◌||◌, not, List, [], ◌∷◌, map, Some, None, if◌then◌else◌}
+use Rattle.std.proofs.Common.{◌≡◌, refl, sym, ap, ◌∙◌, subst, ℕ, nat_eq, Bool, true, false, ◌&&◌, ◌||◌, not, List, [], ◌∷◌, ◌++◌, map, append_assoc, Some, None, if◌then◌else◌}
 use Rattle.std.specs.Cmp.Lexicographic.{pointwise}
 use Rattle.std.specs.List.{cons_option, list_any}
 use Rattle.std.specs.Option.{option_map}
+use Rattle.store.specs.declared.letter.Letter.{Letter}
 use Rattle.store.specs.declared.name.Txn.{Txn}
 use Rattle.store.specs.declared.order.Order.TheVariants as order
 use Rattle.protocol.specs.Desk as desk
@@ -13,7 +14,7 @@ use Rattle.desk.specs.declared.participant.Participant.{Participant}
 use Rattle.desk.specs.declared.transaction.Stage.{Stage}
 use Rattle.desk.specs.Database.{Database, language, sent}
 use Rattle.desk.specs.Orders.{ordered}
-use Rattle.desk.specs.Opening.{is_new, open_at, opens, visited, visits, HaveParticipants}
+use Rattle.desk.specs.Opening.{is_new, open_at, opens, opens_if, visited, visited_if, visits, HaveParticipants}
 use Rattle.desk.specs.Participants.{is_at, nowhere, participant_in}
 use Rattle.desk.specs.Place.{Place}
 use Rattle.desk.specs.Transaction.{undecided_of}
@@ -23,6 +24,19 @@ use Rattle.desk.proofs.Participants.{at_home, orders_all, said, text_is}
 pub any_mapped : {A B : Type 0} (p : B → Bool) (f : A → B) (xs : List A) → list_any p (map f xs) ≡ list_any (λ x. p (f x)) xs
 any_mapped p f [] = refl
 any_mapped p f (x ∷ xs) = ap (λ b. p (f x) || b) (any_mapped p f xs)
+
+-- one participant more is visited, where it is new
+pub one_visited : (sites : List (List ℕ)) (p : Participant) (rest old new : List Participant) (b : Bool) → b ≡ is_new sites p → new ≡ old ++ visited_if b p ∷ [] → new ++ visits sites rest ≡ old ++ visits sites (p ∷ rest)
+one_visited sites p rest old new b is made = (λ i. made i ++ visits sites rest) ∙ append_assoc old (visited_if b p ∷ []) (visits sites rest) ∙ (λ i. old ++ visited_if (is i) p ∷ visits sites rest)
+
+-- and hears Open
+pub one_opens : (txn : Txn) (sites : List (List ℕ)) (p : Participant) (rest : List Participant) (old new : List Letter) (b : Bool) → b ≡ is_new sites p → new ≡ old ++ opens_if txn b p → new ++ opens txn sites rest ≡ old ++ opens txn sites (p ∷ rest)
+one_opens txn sites p rest old new b is made =
+    (λ i. made i ++ opens txn sites rest) ∙ append_assoc old (opens_if txn b p) (opens txn sites rest) ∙ (λ i. old ++ (opens_if txn (is i) p ++ opens txn sites rest)) ∙ ap (λ letters. old ++ letters) (go (is_new sites p))
+  where
+    go : (b : Bool) → opens_if txn b p ++ opens txn sites rest ≡ cons_option (option_map (ordered txn p.site) (if b then Some order.Open else None)) (opens txn sites rest)
+    go true = refl
+    go false = refl
 
 -- a site of these has a participant
 participant_of_one : (participants : List Participant) (sites : List (List ℕ)) (j : List ℕ) → HaveParticipants participants sites → list_any (λ site. pointwise nat_eq site j) sites ≡ true → list_any (is_at j) participants ≡ true

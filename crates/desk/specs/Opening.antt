@@ -1,5 +1,5 @@
 -- Sites are visited: each that is new hears Open.
-use Rattle.std.specs.Prelude.{◌≡◌, ℕ, nat_eq, Bool, true, ◌&&◌, ◌||◌, not, List, map, Option, Some, None, if◌then◌else◌}
+use Rattle.std.specs.Prelude.{◌≡◌, ℕ, nat_eq, Bool, true, ◌&&◌, ◌||◌, not, List, [], ◌∷◌, map, Option, Some, None, if◌then◌else◌}
 use Rattle.std.specs.Cmp.Lexicographic.{pointwise}
 use Rattle.std.specs.List.{AllByRecursion, filter_map, list_any}
 use Rattle.std.specs.Option.{option_map}
@@ -22,6 +22,14 @@ open_at sites participant = if is_new sites participant then Some order.Open els
 -- the Opens, in the order of the sites
 abbrev pub opens : Txn → List (List ℕ) → List Participant → List Letter
 opens txn sites participants = filter_map (λ participant. option_map (ordered txn participant.site) (open_at sites participant)) participants
+
+-- the Open to one, if it is new
+abbrev pub opens_if : Txn → Bool → Participant → List Letter
+opens_if txn new participant = if new then ordered txn participant.site order.Open ∷ [] else []
+
+-- it is visited from now on, if it is new
+abbrev pub visited_if : Bool → Participant → Participant
+visited_if new participant = record participant { visited = participant.visited || new }
 
 -- the new ones are visited from now on
 abbrev pub visited : List (List ℕ) → Participant → Participant

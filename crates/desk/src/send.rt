@@ -6,7 +6,8 @@ ghost use Rattle.desk.specs.Send.{AreShort, IsPast, asks_go, counted, goes_now, 
 ghost use Rattle.desk.specs.Participants.{participant_in};
 ghost use Rattle.std.specs.Cmp.Lexicographic.{pointwise};
 ghost use Rattle.std.specs.List.{list_any, position_or_len};
-ghost use Rattle.desk.specs.Opening.{is_new, opens, visits};
+ghost use Rattle.desk.specs.Opening.{is_new, opens, opens_if, visited_if, visits};
+ghost use Rattle.desk.specs.Statement.{ask_sites, write_sites};
 ghost use Rattle.desk.specs.Orders.{is_for, broadcast_letters, may_hold, order_at, order_of};
 
 use crate::fetches::Ask;
@@ -212,6 +213,19 @@ pub(crate) struct SentOut {
     pub(crate) letters: Vec<Letter>,
 }
 
+impl SentOut {
+    /// No letters, and no participants yet.
+    fn new(alloc: Global) -> SentOut
+        ensures participants { result.participants.items ≡ [] }
+        ensures letters { result.letters.items ≡ [] }
+    {
+        SentOut {
+            participants: Vec::new(alloc),
+            letters: Vec::new(alloc),
+        }
+    }
+}
+
 /// The fetches whose sites have given a ticket go out.
 #[inline(always)]
 pub(crate) fn asks_step(
@@ -267,28 +281,6 @@ fn keep_waiting(unsent: &mut Vec<Unsent>, participants: &[Participant])
     unsent.retain(|write| ticket_of(participants, &write.site).is_none());
 }
 
-/// The sites of fetches.
-pub(crate) fn ask_sites(alloc: Global, asks: &[Ask]) -> Result<Vec<Text>, Memory>
-    ensures { IfOk result (λ sites. sites.items ≡ map (λ ask. ask.site) asks.now) }
-{
-    let mut sites = Vec::new(alloc);
-    for ask in asks {
-        sites.push(ask.site.copy()?)?;
-    }
-    Ok(sites)
-}
-
-/// The sites of writes.
-pub(crate) fn write_sites(alloc: Global, writes: &[Unsent]) -> Result<Vec<Text>, Memory>
-    ensures { IfOk result (λ sites. sites.items ≡ map (λ unsent. unsent.site) writes.now) }
-{
-    let mut sites = Vec::new(alloc);
-    for unsent in writes {
-        sites.push(unsent.site.copy()?)?;
-    }
-    Ok(sites)
-}
-
 /// Whether a site is one of these.
 pub(crate) fn is_among(site: &Text, sites: &[Text]) -> bool
     ensures { result ≡ list_any (λ other. pointwise nat_eq other site.now) sites.now }
@@ -301,50 +293,102 @@ pub(crate) fn is_among(site: &Text, sites: &[Text]) -> bool
     false
 }
 
-/// Whether a site is one of these, and isn't visited yet.
-fn is_new(participant: &Participant, sites: &[Text]) -> bool
-    ensures { result ≡ is_new sites.now participant.now }
+/// Whether a fetch is for a site.
+fn has_ask_at(asks: &[Ask], site: &Text) -> bool
+    ensures { result ≡ list_any (λ other. pointwise nat_eq other site.now) (ask_sites asks.now) }
 {
-    !participant.visited && is_among(&participant.site, sites)
+    for ask in asks {
+        if ask.site == *site {
+            return true;
+        }
+    }
+    false
 }
 
-/// The Opens to those sites that aren't visited yet, in the order of the sites.
-pub(crate) fn opens(
+/// Whether a write is for a site.
+fn has_write_at(writes: &[Unsent], site: &Text) -> bool
+    ensures { result ≡ list_any (λ other. pointwise nat_eq other site.now) (write_sites writes.now) }
+{
+    for unsent in writes {
+        if unsent.site == *site {
+            return true;
+        }
+    }
+    false
+}
+
+/// Whether a fetch is for a site that isn't visited yet.
+fn is_new_to_asks(participant: &Participant, asks: &[Ask]) -> bool
+    ensures { result ≡ is_new (ask_sites asks.now) participant.now }
+{
+    !participant.visited && has_ask_at(asks, &participant.site)
+}
+
+/// Whether a write is for a site that isn't visited yet.
+fn is_new_to_writes(participant: &Participant, writes: &[Unsent]) -> bool
+    ensures { result ≡ is_new (write_sites writes.now) participant.now }
+{
+    !participant.visited && has_write_at(writes, &participant.site)
+}
+
+/// One participant more. A new site hears Open, and is visited from now on.
+fn visit(
+    going: &mut SentOut,
+    txn: Txn,
+    participant: &Participant,
+    is_new: bool,
+) -> Result<(), Memory>
+    ensures participants { OnOk result (going.new.participants.items ≡ going.old.participants.items ++ visited_if is_new participant.now ∷ []) }
+    ensures letters { OnOk result (going.new.letters.items ≡ going.old.letters.items ++ opens_if txn is_new participant.now) }
+{
+    let mut other = participant.copy()?;
+    other.visited = participant.visited || is_new;
+    going.participants.push(other)?;
+    if !is_new {
+        return Ok(());
+    }
+    going.letters.push(Letter {
+        site: participant.site.copy()?,
+        txn,
+        body: Body::Order(Order::Open),
+    })?;
+    Ok(())
+}
+
+/// The Opens to those sites of fetches that aren't visited yet, in the order of the sites, and the participants after them.
+pub(crate) fn open_for_asks(
     alloc: Global,
     txn: Txn,
     participants: &[Participant],
-    sites: &[Text],
-) -> Result<Vec<Letter>, Memory>
-    ensures { IfOk result (λ letters. letters.items ≡ opens txn sites.now participants.now) }
+    asks: &[Ask],
+) -> Result<SentOut, Memory>
+    ensures participants { IfOk result (λ going. going.participants.items ≡ visits (ask_sites asks.now) participants.now) }
+    ensures letters { IfOk result (λ going. going.letters.items ≡ opens txn (ask_sites asks.now) participants.now) }
 {
-    let mut letters = Vec::new(alloc);
+    let mut going = SentOut::new(alloc);
     for participant in participants {
-        if is_new(participant, sites) {
-            letters.push(Letter {
-                site: participant.site.copy()?,
-                txn,
-                body: Body::Order(Order::Open),
-            })?;
-        }
+        let is_new = is_new_to_asks(participant, asks);
+        visit(&mut going, txn, participant, is_new)?;
     }
-    Ok(letters)
+    Ok(going)
 }
 
-/// Participants of which those sites are visited.
-pub(crate) fn visited(
+/// So those to the sites of writes.
+pub(crate) fn open_for_writes(
     alloc: Global,
+    txn: Txn,
     participants: &[Participant],
-    sites: &[Text],
-) -> Result<Vec<Participant>, Memory>
-    ensures { IfOk result (λ others. others.items ≡ visits sites.now participants.now) }
+    writes: &[Unsent],
+) -> Result<SentOut, Memory>
+    ensures participants { IfOk result (λ going. going.participants.items ≡ visits (write_sites writes.now) participants.now) }
+    ensures letters { IfOk result (λ going. going.letters.items ≡ opens txn (write_sites writes.now) participants.now) }
 {
-    let mut others = Vec::new(alloc);
+    let mut going = SentOut::new(alloc);
     for participant in participants {
-        let mut other = participant.copy()?;
-        other.visited = participant.visited || is_new(participant, sites);
-        others.push(other)?;
+        let is_new = is_new_to_writes(participant, writes);
+        visit(&mut going, txn, participant, is_new)?;
     }
-    Ok(others)
+    Ok(going)
 }
 
 /// What is said to the sites of a transaction.

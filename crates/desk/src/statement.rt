@@ -96,9 +96,12 @@ fn asks_begin(
     ensures short { AreShort participants.now → IfOk result (λ going. AreShort going.participants.items) }
     ensures full { result ≡ Err refusals.Full → IsPast (asks_go txn asks.old.items (visits (ask_sites asks.old.items) participants.now)).participants }
 {
-    let sites = send::ask_sites(alloc, asks.as_slice())?;
-    let letters = send::opens(alloc, txn, participants, sites.as_slice())?;
-    let mut visited = send::visited(alloc, participants, sites.as_slice())?;
+    let opened = send::open_for_asks(alloc, txn, participants, asks.as_slice())?;
+    let SentOut {
+        participants: visited,
+        letters,
+    } = opened;
+    let mut visited = visited;
     let more = asks_step(alloc, txn, visited.as_mut_slice(), asks)?;
     Ok(SentOut {
         participants: visited,
@@ -393,9 +396,12 @@ fn writes_begin(
     ensures short { AreShort participants.now → IfOk result (λ going. AreShort going.participants.items) }
     ensures full { result ≡ Err refusals.Full → IsPast (writes_go txn unsent.old.items (visits (write_sites unsent.old.items) participants.now)).participants }
 {
-    let sites = send::write_sites(alloc, unsent.as_slice())?;
-    let letters = send::opens(alloc, txn, participants, sites.as_slice())?;
-    let mut visited = send::visited(alloc, participants, sites.as_slice())?;
+    let opened = send::open_for_writes(alloc, txn, participants, unsent.as_slice())?;
+    let SentOut {
+        participants: visited,
+        letters,
+    } = opened;
+    let mut visited = visited;
     let more = writes_step(alloc, txn, visited.as_mut_slice(), unsent)?;
     Ok(SentOut {
         participants: visited,

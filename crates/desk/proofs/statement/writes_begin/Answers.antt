@@ -12,16 +12,15 @@ returns-clause-letters c =
     let txn = c.args.txn in
     let unsent = c.args.unsent.now.items in
     let participants = c.args.participants.now in
-    let sites : c.in_ok-sites.sites.items ≡ write_sites unsent = search rules in
-    let first : c.in_ok-letters.letters.items ≡ opens txn c.in_ok-sites.sites.items participants = search rules in
-    let out : c.in_ok-more.more.items ≡ (writes_go txn unsent (visits c.in_ok-sites.sites.items participants)).letters = search rules in
-    let all : c.in_ok-joined.field-0.items ≡ c.in_ok-letters.letters.items ++ c.in_ok-more.more.items = search rules in
-    all ∙ (λ i. first i ++ out i) ∙ (λ i. opens txn (sites i) participants ++ (writes_go txn unsent (visits (sites i) participants)).letters)
+    let first : c.in_ok-opened.opened.letters.items ≡ opens txn (write_sites unsent) participants = search rules in
+    let out : c.in_ok-more.more.items ≡ (writes_go txn unsent (visits (write_sites unsent) participants)).letters = search rules in
+    let all : c.in_ok-joined.field-0.items ≡ c.in_ok-opened.opened.letters.items ++ c.in_ok-more.more.items = search rules in
+    all ∙ (λ i. first i ++ out i)
 
 pub returns-clause-short : goal.returns-clause-short
 returns-clause-short c = λ short.
-    let items = c.in_ok-visited.visited.items in
+    let items = c.in_ok-opened.opened.participants.items in
     let new = c.writes_step.new.participants in
-    let size : c.in_ok-visited.visited.len ≡ length items = search rules in
+    let size : c.in_ok-opened.opened.participants.len ≡ length items = search rules in
     let long : length new ≡ length items = search rules in
-    subst AreShort (sym (ap (λ n. take n (new ++ drop (length new) items)) size ∙ written_back new items long)) (c.in_ok-more.ensures.short (subst AreShort (search rules) (visits_short c.in_ok-sites.sites.items c.args.participants.now short)))
+    subst AreShort (sym (ap (λ n. take n (new ++ drop (length new) items)) size ∙ written_back new items long)) (c.in_ok-more.ensures.short (subst AreShort (search rules) (visits_short (write_sites c.args.unsent.now.items) c.args.participants.now short)))
