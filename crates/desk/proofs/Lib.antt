@@ -4,6 +4,7 @@ pub mod Changed
 pub mod Endings
 pub mod Acknowledged
 pub mod Decisions
+pub mod Reading
 pub mod InOrder
 pub mod Stages
 pub mod Counted

@@ -1,9 +1,10 @@
 -- Which votes count.
-use Rattle.std.specs.Prelude.{ℕ, Bool, true, false, ◌&&◌, not, List, [], ◌∷◌, map, Option, Some, None, is_none}
+use Rattle.std.specs.Prelude.{ℕ, Bool, true, false, ◌&&◌, ◌||◌, not, List, [], ◌∷◌, map, Option, Some, None, is_none}
 use Rattle.std.specs.List.{list_all}
 use Rattle.store.specs.declared.commit.Voter.{Voter}
 use Rattle.store.specs.declared.name.Ticket.{Ticket}
 use Rattle.store.specs.declared.reply.Vote.{Vote}
+use Rattle.store.specs.declared.reply.Vote.TheVariants.{Yes, No, Read}
 use Rattle.store.specs.declared.reply.Voted.{Voted}
 use Rattle.protocol.specs.Letters.{is_no}
 use Rattle.desk.specs.declared.participant.Participant.{Participant}
@@ -15,7 +16,7 @@ use Rattle.desk.specs.declared.transaction.Undecided.{Undecided}
 use Rattle.desk.specs.declared.transition.After.{After}
 use Rattle.desk.specs.declared.transition.After.TheVariants.{Ends, Becomes}
 use Rattle.desk.specs.Orders.{is_voting}
-use Rattle.desk.specs.Participants.{changed_at, is_in_beside, participant_in, with_vote}
+use Rattle.desk.specs.Participants.{changed_at, is_at, is_in_beside, participant_in, with_vote}
 use Rattle.desk.specs.Acknowledge.{is_ticket}
 
 -- whether this is the ticket that a site gave first
@@ -51,6 +52,21 @@ abbrev pub is_early : Option TxnState → List ℕ → Voted → Bool
 is_early None site voted = false
 is_early (Some (standing.Undecided undecided)) site voted = leaves_open undecided site voted
 is_early (Some (standing.Committed committed)) site voted = false
+
+-- whether a vote was READ
+abbrev pub is_read : Option Vote → Bool
+is_read None = false
+is_read (Some Yes) = false
+is_read (Some No) = false
+is_read (Some Read) = true
+
+-- whether a site isn't visited, has voted READ, or is this one
+abbrev pub has_read_beside : List ℕ → Participant → Bool
+has_read_beside site participant = is_at site participant || (not participant.visited || is_read participant.vote)
+
+-- whether a transaction that gives no relation another split has only READ votes, with this one
+abbrev pub only_reads : Undecided → List ℕ → Vote → Bool
+only_reads undecided site vote = not undecided.moves && (is_read (Some vote) && list_all (has_read_beside site) undecided.participants)
 
 -- the vote is counted
 abbrev pub with_counted : List ℕ → Vote → Undecided → Undecided

@@ -5,7 +5,8 @@ ghost use Rattle.protocol.specs.Desk.{on_commit_call, Choice, Known, on_known, B
 ghost use Rattle.protocol.specs.Letters.{txn_name, is_no};
 ghost use Rattle.desk.specs.declared.transaction.TxnState.TheVariants as standing;
 ghost use Rattle.desk.specs.declared.transaction.TxnState.{TxnState as TxnStateNow};
-ghost use Rattle.desk.specs.Commit.{is_idle, awaits_vote, counts_vote, is_early, is_first, leaves_open, with_counted};
+ghost use Rattle.desk.specs.Commit.{is_idle, awaits_vote, counts_vote, has_read_beside, is_early, is_first, is_read, leaves_open, only_reads, with_counted};
+ghost use Rattle.std.specs.List.{list_all};
 ghost use Rattle.desk.specs.Database.{Database, language, replied};
 ghost use Rattle.desk.specs.Participants.{sites_of, participant_in};
 ghost use Rattle.desk.specs.Transaction.{stage_of, undecided_of, voter_of, votes_of};
@@ -27,7 +28,8 @@ ghost use Rattle.desk.specs.declared.transition.After.TheVariants.{Ends};
 use crate::abort::{ends, is_voting};
 use crate::acknowledge::{commit_letters, voters_among};
 use crate::participant::{
-    Participant, are_all_in, are_others_in, find_participant, set_vote, with_vote, without_votes,
+    Participant, are_all_in, are_others_in, find_participant, is_at, set_vote, with_vote,
+    without_votes,
 };
 use crate::reply::{Reply, Why};
 use crate::send::{Broadcast, broadcast_letters};
@@ -172,7 +174,40 @@ pub(crate) fn count_in(alloc: Global, state: &mut TxnState, site: &Text, vote: V
     }
 }
 
-/// A vote comes. One NO aborts at once; with the last vote the transaction is decided. Where `kept` is
+/// Whether a vote was READ.
+fn is_read(vote: Option<Vote>) -> bool
+    ensures { result ≡ is_read vote }
+{
+    matches!(vote, Some(Vote::Read))
+}
+
+/// Whether a site isn't visited, has voted READ, or is this one.
+fn has_read_beside(participant: &Participant, site: &Text) -> bool
+    ensures { result ≡ has_read_beside site.now participant.now }
+{
+    is_at(participant, site) || !participant.visited || is_read(participant.vote)
+}
+
+/// Whether each visited site beside this one has voted READ.
+fn have_others_read(participants: &[Participant], site: &Text) -> bool
+    ensures { result ≡ list_all (has_read_beside site.now) participants.now }
+{
+    participants
+        .iter()
+        .all(|participant| has_read_beside(participant, site))
+}
+
+/// Whether a transaction that gives no relation another split has only READ votes, with this one.
+fn only_reads(undecided: &Undecided, site: &Text, vote: Vote) -> bool
+    ensures { result ≡ only_reads undecided.now site.now vote }
+{
+    if undecided.moves || !is_read(Some(vote)) {
+        return false;
+    }
+    have_others_read(undecided.participants.as_slice(), site)
+}
+
+/// A vote comes. One NO aborts at once; with the last vote the transaction is decided, and committed at once where all are READ. Where `kept` is
 /// false, the store isn't called, and counts as having refused.
 pub(crate) fn on_vote<S: DeskStore>(
     store: &mut S,
@@ -195,6 +230,9 @@ pub(crate) fn on_vote<S: DeskStore>(
 {
     if !counts(undecided, site, &voted.ticket) {
         return Ok(stays(alloc, true));
+    }
+    if only_reads(undecided, site, voted.vote) {
+        return Ok(commits_at_once(alloc));
     }
     let participants = with_vote(alloc, undecided.participants.as_slice(), site, voted.vote)?;
     if is_no(voted.vote) {

@@ -1,7 +1,8 @@
 -- Why `on_vote` meets its contract.
-use Rattle.std.proofs.Common.{Some, None, sym, ap, ◌∙◌, ◌≡◌, map, refl, subst, true}
+use Rattle.std.proofs.Common.{Ok, [], ◌&&◌, Some, None, sym, ap, ◌∙◌, ◌≡◌, map, refl, subst, true}
 use Rattle.reader.specs.Printable.{AreDistinct}
-use Rattle.protocol.specs.Desk.{Aborted, By_vote}
+use Rattle.terms.specs.declared.memory.Memory.{Memory}
+use Rattle.protocol.specs.Desk.{Aborted, By_vote, decides}
 use Rattle.protocol.specs.Letters.{txn_name}
 use Rattle.desk.specs.declared.transaction.TxnState.TheVariants as standing
 use Rattle.desk.specs.declared.transaction.Stage.TheVariants.{Voting}
@@ -10,11 +11,14 @@ use Rattle.desk.specs.Participants.{changed_at, sites_of, with_vote}
 use Rattle.desk.proofs.Acknowledged.{keeps_same, turn_as, unchanged}
 use Rattle.desk.proofs.Called.{steps_as, vote_calls}
 use Rattle.desk.proofs.Counted.{at_same, copied_vote, no_turn, vote_lost, vote_turn, voted_are, voted_sites}
-use Rattle.desk.proofs.Decisions.{ended_keeps}
+use Rattle.desk.proofs.Decisions.{ended_keeps, votes_decide}
+use Rattle.desk.proofs.Reading.{reads}
 use Rattle.desk.proofs.Raised.{low_by, quiet_by, quiet_is}
 use Rattle.protocol.proofs.Basics.{clash}
 use Rattle.desk.specs.Acknowledge.{Keeps, kept_voters}
-use Rattle.desk.specs.Transition.{after_of, raises, says_committed}
+use Rattle.desk.specs.Database.{language}
+use Rattle.desk.specs.Transaction.{undecided_of}
+use Rattle.desk.specs.Transition.{after_of, raises, says_committed, voting}
 use Rattle.desk.specs.declared.reply.Reply.TheVariants.{Aborted as Aborted_reply}
 use Rattle.desk.specs.declared.reply.Why.TheVariants.{Vote as Vote_why}
 use Rattle.desk.proofs.commit.on_vote.Goals as goal
@@ -55,6 +59,32 @@ returns-then-not-counts-clause-keeps g c = λ db are clean sound none remembered
     let here = Some (standing.Undecided c.args.undecided.now) in
     subst (λ a. Keeps c.args.txn (kept_voters (after_of here a)) (raises here c.stays.result.reply) kept kept) (sym c.stays.ensures.after)
     (keeps_same c.args.txn None (raises here c.stays.result.reply) kept kept (quiet_is here c.stays.result.reply (ap says_committed c.stays.ensures.reply)) none (unchanged kept))
+
+pub returns-then-only_reads-clause-turn : goal.returns-then-only_reads-clause-turn
+returns-then-only_reads-clause-turn g c = λ db choice are.
+    let u = c.args.undecided.now in
+    let here = Some (standing.Undecided u) in
+    let counts : counts_vote u c.args.site.now c.args.voted.ticket ≡ true = sym c.counts.ensures ∙ c.if-not-counts.false in
+    let given = map (changed_at c.args.site.now (with_vote (Some c.args.voted.vote))) u.participants in
+    let read = reads u c.args.site.now c.args.voted.vote (sym c.only_reads.ensures ∙ c.if-only_reads.true) in
+    vote_turn db c.args.txn u c.args.site.now c.args.voted.ticket c.args.voted.vote choice are counts given refl here {E = Memory} (Ok c.commits_at_once.result) read.other
+    (turn_as db c.args.txn here c.commits_at_once.result _ _
+    (votes_decide db u.moves given (voted_are db u.participants c.args.site.now c.args.voted.vote are given refl) (txn_name c.args.txn) c.commits_at_once.result.kept [] read.all (sym read.nobody)
+    ∙ ap (λ kept. decides {L = language db} (txn_name c.args.txn) (undecided_of db (voting u.moves given)) kept []) c.commits_at_once.ensures.kept)
+    (c.commits_at_once.ensures.turn db c.args.txn here))
+
+pub returns-then-only_reads-clause-keeps : goal.returns-then-only_reads-clause-keeps
+returns-then-only_reads-clause-keeps g c = λ db are clean sound none remembered.
+    let kept = g.S.DeskStore.kept c.args.store.now in
+    let here = Some (standing.Undecided c.args.undecided.now) in
+    let reply = c.commits_at_once.result.reply in
+    let read = reads c.args.undecided.now c.args.site.now c.args.voted.vote (sym c.only_reads.ensures ∙ c.if-only_reads.true) in
+    subst (λ vs. Keeps c.args.txn vs (raises here reply) kept kept) (sym (ap (λ a. kept_voters (after_of here a)) c.commits_at_once.ensures.after)) (keeps_same c.args.txn None (raises here reply) kept kept (ap (λ b. b && says_committed reply) read.still) none (unchanged kept))
+
+pub returns-then-only_reads-clause-below : goal.returns-then-only_reads-clause-below
+returns-then-only_reads-clause-below g c = λ up.
+    let read = reads c.args.undecided.now c.args.site.now c.args.voted.vote (sym c.only_reads.ensures ∙ c.if-only_reads.true) in
+    clash up (ap (λ b. b && says_committed c.commits_at_once.result.reply) read.still)
 
 pub returns-clause-below : goal.returns-clause-below
 returns-clause-below g c = c.votes_go.ensures.below c.args.undecided.now refl
