@@ -2,6 +2,8 @@
 pub mod ListIsLawful
 pub mod Seating
 pub mod SiteSteps
+pub mod Around
+pub mod AmongSites
 pub mod SitesUp
 pub mod Waking
 pub mod Recovers

@@ -1,6 +1,6 @@
 //! The sites of a database, each under its name, and what is done at one.
 
-ghost use Rattle.std.specs.Prelude.{◌≡◌, ◌≤◌, ◌⊎◌, ◌∷◌, [], ℕ, List, None, Some, IfErr, IfOk, IfSome, OnErr, OnOk, map, false, true};
+ghost use Rattle.std.specs.Prelude.{◌≡◌, ◌⊎◌, ◌∷◌, [], ℕ, List, Some, IfErr, IfOk, IfSome, OnErr, OnOk, map, false, true};
 ghost use Rattle.world.specs.Seated.{place_of, SeatDoes, SomeSeatDoes, seat_from, seats_in};
 ghost use Rattle.store.specs.declared.letter.Letter.{Letter as LetterNow};
 ghost use Rattle.store.specs.Fault.{HasRefused};
@@ -11,9 +11,8 @@ ghost use Rattle.world.specs.Frame.{LeavesSites};
 ghost use Rattle.store.specs.Frame.{LeavesStore};
 ghost use Rattle.world.specs.Counted.{HaveRefused, counts_of};
 ghost use Rattle.world.specs.declared.sites.SiteAction.TheVariants as things;
-ghost use Rattle.world.specs.declared.sites.SiteAction.{SiteAction as ActionNow};
 ghost use Rattle.world.specs.declared.fault.Fault.TheVariants as faults;
-ghost use Rattle.std.specs.List.{AllByRecursion};
+ghost use Rattle.std.specs.List.{AllByRecursion, position_or_len};
 ghost use Rattle.world.specs.Reasons.{SiteTells};
 ghost use Rattle.world.specs.Refused.{PlaceTells};
 ghost use Rattle.world.specs.Sites.{IsSeated, Seat, is_called, seat_of};
@@ -97,52 +96,19 @@ pub fn act_on<S: SiteStore>(
     }
 }
 
-/// Whether it is the site at which something is done; of nothing none is.
-fn is_for<S: SiteStore>(site: &Site<S>, what: &Option<SiteAction>) -> bool
-    ensures some { (action : ActionNow) → what.now ≡ Some action → result ≡ is_called (place_of action) (seat_from S.kept site.now) }
-    ensures none { what.now ≡ None → result ≡ false }
+/// The number of sites before the one of this name; that of all sites, where there is none.
+fn sites_before<S: SiteStore>(sites: &[Site<S>], name: &Text) -> usize
+    ensures { result ≡ position_or_len (λ site. is_called name.now (seat_from S.kept site)) sites.now }
 {
-    match what {
-        Some(action) => is_called(site, action.site()),
-        None => false,
+    for (place, site) in sites.iter().enumerate() {
+        if is_called(site, name) {
+            return place;
+        }
     }
+    sites.len()
 }
 
-/// Something is done at the site that it names. Where there is none, it is a stranger's. It is handed on as it stands, so that it is
-/// moved only where it is done.
-fn act_at<S: SiteStore>(
-    alloc: Global,
-    sites: &mut [Site<S>],
-    what: &mut Option<SiteAction>,
-    kept: bool,
-) -> Result<Vec<Letter>, SiteFault>
-    ensures leaves { LeavesSites S.is_clean S.is_sound S.refused sites.old sites.new }
-    ensures blames { (letter : LetterNow) → what.old ≡ Some (things.Take letter) → kept ≡ true → AllByRecursion (λ site. S.is_clean site.store) sites.new → AllByRecursion (λ site. S.is_sound site.store) sites.old
-        → IfErr result (λ fault. IfSome (stop_of (faults.Site fault)) (StopsFor (counts_of S.refused sites.old) (counts_of S.refused sites.new))) }
-    ensures vote { (letter : LetterNow) (seat : Seat) → what.old ≡ Some (things.Take letter) → seat_of letter.site (seats_in S.kept sites.old) ≡ Some seat → AsksToKeep seat.table letter.body
-        → IfOk result (λ letters. kept_in letters.items ≡ false → (kept ≡ false) ⊎ HaveRefused (counts_of S.refused sites.old) (counts_of S.refused sites.new)) }
-    ensures ok { (action : ActionNow) (seat : Seat) → what.old ≡ Some action → AllByRecursion (λ site. S.is_clean site.store) sites.new → AllByRecursion (λ site. S.is_sound site.store) sites.old → AllByRecursion IsSeated (seats_in S.kept sites.old) → seat_of (place_of action) (seats_in S.kept sites.old) ≡ Some seat
-        → IfOk result (λ letters. SomeSeatDoes action seat (seats_in S.kept sites.old) (seats_in S.kept sites.new) letters.items) }
-    ensures called { (site : List ℕ) → what.old ≡ Some (things.Restart site) → OnOk result (kept ≡ true) }
-    ensures told { (letter : LetterNow) (seat : Seat) → what.old ≡ Some (things.Take letter) → seat_of letter.site (seats_in S.kept sites.old) ≡ Some seat → IfErr result (SiteTells seat letter) }
-    ensures fails { (action : ActionNow) (seat : Seat) → what.old ≡ Some action → seat_of (place_of action) (seats_in S.kept sites.old) ≡ Some seat
-        → IfErr result (PlaceTells (AllByRecursion (λ site. S.is_clean site.store) sites.new × AllByRecursion (λ site. S.is_sound site.store) sites.old) (HaveRefused (counts_of S.refused sites.old) (counts_of S.refused sites.new)) action kept seat) }
-    ensures uncalled { (action : ActionNow) → what.old ≡ Some action → may_call_at action kept ≡ false → map (λ site. site.store) sites.new ≡ map (λ site. site.store) sites.old }
-    ensures err { AllByRecursion (λ site. S.is_clean site.store) sites.new → AllByRecursion (λ site. S.is_sound site.store) sites.old → OnErr result (seats_in S.kept sites.new ≡ seats_in S.kept sites.old) }
-{
-    let Some((site, rest)) = sites.split_first_mut() else {
-        return Err(SiteFault::Stranger);
-    };
-    if !is_for(site, what) {
-        return act_at(alloc, rest, what, kept);
-    }
-    match what.take() {
-        Some(action) => act_on(alloc, site, action, kept),
-        None => Err(SiteFault::Stranger),
-    }
-}
-
-/// The same of all sites.
+/// Something is done at the site that it names. Where there is none, it is a stranger's.
 #[inline(always)]
 pub(crate) fn act_among<S: SiteStore>(
     alloc: Global,
@@ -164,6 +130,9 @@ pub(crate) fn act_among<S: SiteStore>(
     ensures uncalled { may_call_at what kept ≡ false → map (λ site. site.store) sites.new.items ≡ map (λ site. site.store) sites.old.items }
     ensures err { AllByRecursion (λ site. S.is_clean site.store) sites.new.items → AllByRecursion (λ site. S.is_sound site.store) sites.old.items → OnErr result (seats_in S.kept sites.new.items ≡ seats_in S.kept sites.old.items) }
 {
-    let mut what = Some(what);
-    act_at(alloc, sites.as_mut_slice(), &mut what, kept)
+    let place = sites_before(sites.as_slice(), what.site());
+    match sites.get_mut(place) {
+        Some(site) => act_on(alloc, site, what, kept),
+        None => Err(SiteFault::Stranger),
+    }
 }
