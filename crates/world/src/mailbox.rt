@@ -265,8 +265,11 @@ pub(crate) fn deliver_all<D: DeskStore, S: SiteStore>(
     ensures own { IfErr result (λ refusal. is_stop refusal ≡ true) }
 {
     let mut post = Post::of(out);
-    // Each letter has a rank of at most nine, and what it brings about ranks lower.
+    // Each letter has a rank of at most nine, and what it brings about ranks lower. Mostly none waits after three rounds.
     for _ in 0..9usize {
+        if post.waiting.is_empty() {
+            break;
+        }
         deliver_round(machines, &mut post)?;
     }
     machines.traffic = machines.traffic.with_call(post.heard.as_slice());

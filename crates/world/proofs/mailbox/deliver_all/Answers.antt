@@ -1,5 +1,5 @@
 -- Why `deliver_all` meets its contract.
-use Rattle.std.proofs.Common.{rules, ◌≡◌, ◌+◌, ◌++◌, ◌-◌, ℕ, List, suc, refl, sym, subst, arith}
+use Rattle.std.proofs.Common.{rules, ◌≡◌, ◌==◌, ◌∙◌, ◌+◌, ◌++◌, ◌-◌, ◌≤◌, ℕ, List, [], ◌∷◌, length, true, suc, refl, sym, subst, arith}
 use Rattle.protocol.specs.Rounds.{RanksUnder}
 use Rattle.world.specs.Contents.{counted, held}
 use Rattle.store.specs.declared.letter.Letter.{Letter}
@@ -16,7 +16,18 @@ use Rattle.world.proofs.Counting.{no_fewer, no_fewer_then}
 use Rattle.world.proofs.Stops.{stops_since, told_on}
 use Rattle.world.specs.Counted.{counts}
 use Rattle.world.proofs.ListComings.{alike_comes, comes_settled, then_comes}
+use Rattle.world.proofs.mailbox.deliver_all.Goals.{else-loop-test, then-loop-test+then-is_empty}
 use Rattle.world.proofs.mailbox.deliver_all.Goals as goal
+
+-- none is left of a list of no length
+none_of : {X : Type 0} (list : List X) → length list ≡ 0 → list ≡ []
+none_of [] none = refl
+none_of (x ∷ list) none = absurd (omega arith)
+
+none_counted : {X : Type 0} (list : List X) (n : ℕ) → n ≡ length list → (n == 0) ≡ true → list ≡ []
+none_counted list n is none =
+    let length_is : length list ≡ 0 = grind (arith) in
+    none_of list length_is
 
 pub loop-init : goal.loop-init
 loop-init g c =
@@ -85,8 +96,12 @@ pub returns-clause-ok : goal.returns-clause-ok
 returns-clause-ok g c = λ db of is clean sound fit.
     let first = put_out_by (counted g.D.DeskStore.kept g.S.SiteStore.kept g.D.DeskStore.refused g.S.SiteStore.refused c.args.machines.now) c.args.out in
     let here = scene (counted g.D.DeskStore.kept g.S.SiteStore.kept g.D.DeskStore.refused g.S.SiteStore.refused c.loop.machines) c.loop.post in
-    let over : 9 - c.loop.counter ≡ 0 = omega (arith, c.loop-test.false) in
-    goes_settled db (λ w. w) first here (c.loop.invariant.goes db of is clean sound fit) (none_left db here (subst (λ (k : ℕ). RanksUnder k (world_at db here)) over (c.loop.invariant.ranks db of is clean sound fit)))
+    let over : 9 ≤ c.loop.counter → 9 - c.loop.counter ≡ 0 = λ end. omega (arith, end) in
+    let none : here.waiting ≡ [] = elim c.loop-test.branch [
+      | else-loop-test w ↦ none_left db here (subst (λ (k : ℕ). RanksUnder k (world_at db here)) (over w.loop-test.false) (c.loop.invariant.ranks db of is clean sound fit))
+      | then-loop-test+then-is_empty w ↦ none_counted c.loop.post.waiting.items c.loop.post.waiting.len c.loop.post.waiting.ok.0 (sym w.is_empty.ensures ∙ w.if-is_empty.true)
+    ] in
+    goes_settled db (λ w. w) first here (c.loop.invariant.goes db of is clean sound fit) none
 
 pub returns-in_err-deliver_round-clause-err : goal.returns-in_err-deliver_round-clause-err
 returns-in_err-deliver_round-clause-err g c = λ db of is clean sound fit.
@@ -125,6 +140,10 @@ pub returns-clause-comes : goal.returns-clause-comes
 returns-clause-comes g c = λ db listed stands clean sound fits.
     let hold = held g.D.DeskStore.kept g.S.SiteStore.kept in
     let here = scene (hold c.loop.machines) c.loop.post in
-    let over : 9 - c.loop.counter ≡ 0 = omega (arith, c.loop-test.false) in
+    let over : 9 ≤ c.loop.counter → 9 - c.loop.counter ≡ 0 = λ end. omega (arith, end) in
     let came = c.loop.invariant.comes db listed stands clean sound fits in
-    (comes_settled db (put_out_by (hold c.args.machines.now) c.args.out) here came.0 (none_left db here (subst (λ (k : ℕ). RanksUnder k (world_at db here)) over (c.loop.invariant.ranks_lists db listed stands clean sound fits))), came.1)
+    let none : here.waiting ≡ [] = elim c.loop-test.branch [
+      | else-loop-test w ↦ none_left db here (subst (λ (k : ℕ). RanksUnder k (world_at db here)) (over w.loop-test.false) (c.loop.invariant.ranks_lists db listed stands clean sound fits))
+      | then-loop-test+then-is_empty w ↦ none_counted c.loop.post.waiting.items c.loop.post.waiting.len c.loop.post.waiting.ok.0 (sym w.is_empty.ensures ∙ w.if-is_empty.true)
+    ] in
+    (comes_settled db (put_out_by (hold c.args.machines.now) c.args.out) here came.0 none, came.1)
