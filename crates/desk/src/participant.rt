@@ -74,11 +74,18 @@ pub(crate) fn are_all_in(participants: &[Participant]) -> bool
     participants.iter().all(|participant| is_in(participant))
 }
 
+/// Whether it is this site's, isn't visited, or has voted. Names are compared last, since most have voted.
+fn is_in_beside(participant: &Participant, site: &Text) -> bool
+    ensures { result ≡ is_in_beside site.now participant.now }
+{
+    is_in(participant) || is_at(participant, site)
+}
+
 /// Whether each visited site beside this one has voted.
 pub(crate) fn are_others_in(participants: &[Participant], site: &Text) -> bool
     ensures { result ≡ list_all (is_in_beside site.now) participants.now }
 {
-    participants.iter().all(|participant| is_at(participant, site) || is_in(participant))
+    participants.iter().all(|participant| is_in_beside(participant, site))
 }
 
 /// The vote of a site is counted.
@@ -141,11 +148,18 @@ pub(crate) fn without_votes(
 fn ticketed(participant: &Participant, site: &Text, ticket: Ticket) -> Result<Participant, Memory>
     ensures { IfOk result (λ other. other ≡ changed_at site.now (with_ticket (Some ticket)) participant.now) }
 {
-    let mut other = participant.copy()?;
-    if is_at(participant, site) {
-        other.ticket = Some(ticket);
-    }
-    Ok(other)
+    let first = if is_at(participant, site) {
+        Some(ticket)
+    } else {
+        participant.ticket
+    };
+    Ok(Participant {
+        site: participant.site.copy()?,
+        visited: participant.visited,
+        ticket: first,
+        sent: participant.sent,
+        vote: participant.vote,
+    })
 }
 
 /// Participants, with the ticket of one site.
@@ -157,7 +171,7 @@ pub(crate) fn with_ticket(
 ) -> Result<Vec<Participant>, Memory>
     ensures { IfOk result (λ others. others.items ≡ map (changed_at site.now (with_ticket (Some ticket))) participants.now) }
 {
-    let mut others = Vec::new(alloc);
+    let mut others = Vec::with_capacity(alloc, participants.len())?;
     for participant in participants {
         others.push(ticketed(participant, site, ticket)?)?;
     }

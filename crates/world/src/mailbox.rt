@@ -208,11 +208,11 @@ fn deliver_next<D: DeskStore, S: SiteStore>(
     let Some(letter) = post.waiting.pop_front() else {
         return Ok(());
     };
-    machines.traffic = machines.traffic.with_letter();
+    machines.traffic.count_letter();
     let is_order = is_order(&letter.body);
     match deliver_one(machines, letter) {
         Ok(out) => {
-            machines.traffic = machines.traffic.with_step(out.letters.as_slice());
+            machines.traffic.count_step(out.letters.as_slice());
             let is_unsure = is_unsure(is_order, out.kept, machines.desk.later());
             post.add(out, is_unsure)
         }
@@ -241,7 +241,7 @@ fn deliver_round<D: DeskStore, S: SiteStore>(
         (λ db before after. OnErr result (Breaks db (λ w. w) (scene before post.old) after)) }
     ensures own { IfErr result (λ refusal. is_stop refusal ≡ true) }
 {
-    machines.traffic = machines.traffic.with_round(post.waiting.len());
+    machines.traffic.count_round(post.waiting.len());
     for _ in 0..post.waiting.len() {
         deliver_next(machines, post)?;
     }

@@ -87,39 +87,28 @@ impl Traffic {
     }
 
     /// A letter comes.
-    pub(crate) fn with_letter(self) -> Traffic
-        ensures { result ≡ after_letter self }
+    pub(crate) fn count_letter(&mut self)
+        ensures { self.new ≡ after_letter self.old }
     {
-        Traffic {
-            letters: self.letters.saturating_add(1),
-            ..self
-        }
+        self.letters = self.letters.saturating_add(1);
     }
 
     /// A round of deliveries begins, where so many letters wait. One without letters isn't counted.
-    pub(crate) fn with_round(self, waiting: usize) -> Traffic
-        ensures { result ≡ after_round self waiting }
+    pub(crate) fn count_round(&mut self, waiting: usize)
+        ensures { self.new ≡ after_round self.old waiting }
     {
-        if waiting == 0 {
-            return self;
-        }
-        Traffic {
-            rounds: self.rounds.saturating_add(1),
-            ..self
+        if waiting > 0 {
+            self.rounds = self.rounds.saturating_add(1);
         }
     }
 
     /// A machine has put out these letters, by one letter that came. It calls its store at most once, so one write is
     /// counted, however many orders to commit there are.
-    pub(crate) fn with_step(self, put_out: &[Letter]) -> Traffic
-        ensures { result ≡ after_step self put_out.now }
+    pub(crate) fn count_step(&mut self, put_out: &[Letter])
+        ensures { self.new ≡ after_step self.old put_out.now }
     {
-        if !has_kept(put_out) {
-            return self;
-        }
-        Traffic {
-            forced: self.forced.saturating_add(1),
-            ..self
+        if has_kept(put_out) {
+            self.forced = self.forced.saturating_add(1);
         }
     }
 }
