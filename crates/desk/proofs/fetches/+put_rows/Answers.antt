@@ -1,8 +1,7 @@
 -- Why `put_rows` meets its contract.
-use Rattle.std.proofs.Common.{rules, ◌≡◌, ◌∷◌, ◌++◌, sym, ap, ◌∙◌, map, Some}
+use Rattle.std.proofs.Common.{rules, ◌≡◌, ◌∷◌, ◌++◌, sym, ap, ◌∙◌, Some}
 use Rattle.catalog.specs.Relation.{catalogue_of}
-use Rattle.desk.specs.declared.fetches.Ask.{Ask}
-use Rattle.desk.specs.Fetches.{awaits, with_rows}
+use Rattle.desk.specs.Fetches.{awaits}
 use Rattle.desk.proofs.Heads.{none_changes, one_changes}
 use Rattle.desk.proofs.Operations.{on_err}
 use Rattle.desk.proofs.fetches.+put_rows.Goals as goal
