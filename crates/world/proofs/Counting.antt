@@ -1,5 +1,5 @@
 -- Machines of which refusals are counted.
-use Rattle.std.proofs.Common.{◌≡◌, ◌≤◌, ◌<◌, ◌-◌, ◌^◌, refl, sym, ap, subst, ◌∙◌, ℕ, true, false, List, [], ◌∷◌, ◌++◌, map, ◌⊎◌, inl, inr, ⊎_elim, Some, arith}
+use Rattle.std.proofs.Common.{◌≡◌, ◌≤◌, ◌<◌, ◌-◌, ◌^◌, refl, sym, ap, subst, ◌∙◌, ℕ, true, false, List, [], ◌∷◌, ◌++◌, map, ◌⊎◌, inl, inr, ⊎_elim, arith}
 use Rattle.store.specs.declared.letter.Letter as letters
 use Rattle.store.specs.DeskContent.{DeskContent}
 use Rattle.store.specs.SiteContent.{SiteContent}
@@ -17,9 +17,8 @@ use Rattle.world.specs.Frame.{CallsNoStore}
 use Rattle.world.specs.Contents.{held, unrefused}
 use Rattle.world.specs.Machines.{AreFit, Leads, Machines}
 use Rattle.world.specs.Seated.{seats_in}
-use Rattle.world.specs.Sites.{Seat, is_called, seat_of}
+use Rattle.world.specs.Sites.{Seat}
 use Rattle.world.specs.Taking.{CameUnless}
-use Rattle.protocol.proofs.Basics.{if_true, some_is}
 use Rattle.world.specs.Reasons.{Tells}
 
 -- ---- counts
@@ -107,10 +106,6 @@ none_fewer a b same = subst (NoFewer a) (sym same) (no_fewer a)
 -- a letter that is delivered so that its store call is made
 pub spared_so : (Refused : Type 0) (db : Database) (letter : letters.Letter) (before after : Machines) (out : List letters.Letter) (notices : List Notice) → CameUnless ((true ≡ false) ⊎ Refused) db letter before after out notices → CameUnless Refused db letter before after out notices
 spared_so Refused db letter before after out notices taken = record { kept = taken.kept; came = taken.came; ends = taken.ends; spared = ⊎_elim (λ is. inl is) (λ why. ⊎_elim (λ wrong. absurd (cc)) (λ refused. inr refused) why) taken.spared }
-
--- the first seat, where it has the name
-pub first_is : (name : List ℕ) (first seat : Seat) (seats : List Seat) → is_called name first ≡ true → seat_of name (first ∷ seats) ≡ Some seat → first ≡ seat
-first_is name first seat seats called there = some_is (sym (if_true (is_called name first) (Some first) (seat_of name seats) called) ∙ there)
 
 -- ---- where the medium of no store ever refuses
 zeros : {S : Type 0} (content : S → SiteContent) (sites : List (Site S)) → counts_of (λ _. 0) sites ≡ map (λ (seat : Seat). 0) (seats_in content sites)

@@ -26,7 +26,7 @@ use Rattle.protocol.specs.Serial.{AllExplained}
 use Rattle.protocol.specs.Site.{Act, SiteState, is_within, on_letter, site_after}
 use Rattle.protocol.specs.Catalogues.{body_at, site_at}
 use Rattle.protocol.specs.World.{World}
-use Rattle.protocol.proofs.Basics.{by_test, clash, either, some_is}
+use Rattle.protocol.proofs.Basics.{by_test, clash, either}
 use Rattle.protocol.proofs.Limits.{OfTheEnd, end_within, turn_within}
 use Rattle.protocol.proofs.Placing.{act_same, after_same, within_same}
 use Rattle.site.specs.declared.fault.SiteFault as site_faults
@@ -386,9 +386,3 @@ named_tells result seat locks letter mine what own is same called full strange c
     let one : mine ≡ letter = taken_same mine letter (sym own ∙ is) in
     subst (λ (l : letters.Letter). IfErr result (SiteTells seat l)) one
     (site_tells result seat locks mine same full (λ e. ⊎_elim (λ apart. absurd (apart (ap (λ (l : letters.Letter). l.site) one ∙ name_is letter.site seat.name called))) (λ there. there) (strange e)) calls)
-
--- the first site of a name tells, or one behind it
-pub first_tells : {T : Type 0} (result : Result T site_faults.SiteFault) (first seat : Seat) (rest : List Seat) (letter : letters.Letter) → is_called letter.site first ≡ true → seat_of letter.site (first ∷ rest) ≡ Some seat → IfErr result (SiteTells first letter) → IfErr result (SiteTells seat letter)
-first_tells result first seat rest letter called there =
-    let same : first ≡ seat = some_is (sym (ap (λ (b : Bool). if b then Some first else seat_of letter.site rest) called) ∙ there) in
-    subst (λ (s : Seat). IfErr result (SiteTells s letter)) same

@@ -1,12 +1,10 @@
 -- A site of the code that makes a step, alone and among the others.
-use Rattle.std.proofs.Common.{◌≡◌, sym, ap, ◌∙◌, subst, ℕ, Bool, true, false, List, ◌∷◌, Some, Result, Ok, Err, IfOk, OnErr, OnOk, if◌then◌else◌}
-use Rattle.std.specs.List.{AllByRecursion}
+use Rattle.std.proofs.Common.{◌≡◌, sym, ap, ◌∙◌, subst, Bool, true, false, List, ◌∷◌, Some, Result, Ok, Err, IfOk, OnErr, OnOk, if◌then◌else◌}
 use Rattle.store.specs.declared.letter.Letter.{Letter}
 use Rattle.store.specs.SiteContent.{IsUnchanged, SiteContent}
 use Rattle.protocol.proofs.Basics.{some_is}
-use Rattle.world.specs.Sites.{IsSeated, Seat, is_called, reseated, seat_of}
-use Rattle.site.specs.declared.site.Site.{Site}
-use Rattle.world.specs.Seated.{SeatDoes, SomeSeatDoes, place_of, seat_from, seats_in}
+use Rattle.world.specs.Sites.{Seat, is_called, reseated, seat_of}
+use Rattle.world.specs.Seated.{SeatDoes, SomeSeatDoes, place_of}
 use Rattle.world.specs.declared.sites.SiteAction.{SiteAction}
 use Rattle.world.proofs.Seating.{name_is}
 
@@ -80,30 +78,3 @@ take_later first seat before after what letters apart takes = record {
   };
   does = takes.does;
 }
-
-pub there_later : (name : List ℕ) (first seat : Seat) (rest : List Seat) → is_called name first ≡ false → seat_of name (first ∷ rest) ≡ Some seat → seat_of name rest ≡ Some seat
-there_later name first seat rest apart there = sym (ap (λ (b : Bool). if b then Some first else seat_of name rest) apart) ∙ there
-
--- ---- the sites of the code
-module _ {S T E : Type 0} (content : S → SiteContent) (items : T → List Letter) (result : Result T E) (sites rest : List (Site S)) (first : Site S) (seat : Seat) (what : SiteAction) (is : sites ≡ first ∷ rest) (there : seat_of (place_of what) (seats_in content sites) ≡ Some seat) where
-  there_now : seat_of (place_of what) (seat_from content first ∷ seats_in content rest) ≡ Some seat
-  there_now = subst (λ (all : List (Site S)). seat_of (place_of what) (seats_in content all) ≡ Some seat) is there
-
-  pub first_takes : (new : Site S) → is_called (place_of what) (seat_from content first) ≡ true → IfOk result (λ letters. SeatDoes what (seat_from content first) (seat_from content new) (items letters)) →
-      IfOk result (λ letters. SomeSeatDoes what seat (seats_in content sites) (seat_from content new ∷ seats_in content rest) (items letters))
-  first_takes new called = if_ok result (λ letters takes. subst (λ (all : List (Site S)). SomeSeatDoes what seat (seats_in content all) (seat_from content new ∷ seats_in content rest) (items letters)) (sym is)
-      (take_here (seat_from content first) (seat_from content new) seat (seats_in content rest) what (items letters) called takes there_now))
-
-  pub other_takes : (after : List (Site S)) → is_called (place_of what) (seat_from content first) ≡ false → (seat_of (place_of what) (seats_in content rest) ≡ Some seat → IfOk result (λ letters. SomeSeatDoes what seat (seats_in content rest) (seats_in content after) (items letters))) →
-      IfOk result (λ letters. SomeSeatDoes what seat (seats_in content sites) (seat_from content first ∷ seats_in content after) (items letters))
-  other_takes after apart later = if_ok result (λ letters takes. subst (λ (all : List (Site S)). SomeSeatDoes what seat (seats_in content all) (seat_from content first ∷ seats_in content after) (items letters)) (sym is)
-      (take_later (seat_from content first) seat (seats_in content rest) (seats_in content after) what (items letters) apart takes)) (later (there_later (place_of what) (seat_from content first) seat (seats_in content rest) apart there_now))
-
-  pub rest_seated : AllByRecursion IsSeated (seats_in content sites) → AllByRecursion IsSeated (seats_in content rest)
-  rest_seated all = (subst (λ (all : List (Site S)). AllByRecursion IsSeated (seats_in content all)) is all).1
-
-  pub all_there : (P : Site S → Type 0) → AllByRecursion P sites → P first × AllByRecursion P rest
-  all_there P all = subst (AllByRecursion P) is all
-
-  pub first_seated : AllByRecursion IsSeated (seats_in content sites) → IsSeated (seat_from content first)
-  first_seated all = (subst (λ (all : List (Site S)). AllByRecursion IsSeated (seats_in content all)) is all).0
