@@ -1,1 +1,2 @@
 pub mod NearestLemmas
+pub mod SeparatedLemmas

@@ -5,6 +5,7 @@ ghost use Rattle.std.specs.List.{flat_map};
 ghost use Rattle.shell.specs.Columns as spec;
 ghost use Rattle.shell.specs.Columns.{aligned, at_left, field, gap, line_of, names_line, row_line, rule_line, shown_character, shown_text, widths_from};
 
+use crate::Made;
 use std::alloc::{AllocError, Global};
 use terms::row::Row;
 use terms::text::Text;
@@ -120,11 +121,7 @@ fn put_left(out: &mut String, width: usize, text: &str) -> Result<(), AllocError
 }
 
 /// Puts a character of ASCII so many times.
-pub(crate) fn put_repeated(
-    out: &mut String,
-    count: usize,
-    character: char,
-) -> Result<(), AllocError>
+pub(crate) fn put_repeated(out: &mut String, count: usize, character: char) -> Made<()>
     requires { character < 128 }
     ensures { OnOk result (string_bytes out.new ≡ string_bytes out.old ++ replicate count character) }
 {
@@ -135,7 +132,7 @@ pub(crate) fn put_repeated(
     Ok(())
 }
 
-/// A value as it is shown.
+/// A value as it is shown: of a text each character, or a space where it has no width.
 fn field_of(alloc: Global, value: &Value) -> Result<String, AllocError>
     ensures { IfOk result (λ text. string_bytes text ≡ field value.now) }
 {
@@ -151,17 +148,10 @@ fn put_shown(out: &mut String, text: &str) -> Result<(), AllocError>
     ensures { OnOk result (string_bytes out.new ≡ string_bytes out.old ++ shown_text text.now) }
 {
     for character in text.chars() {
-        put_character(out, character)?;
+        match character.width() {
+            Some(_) => out.push(character)?,
+            None => out.push(' ')?,
+        }
     }
     Ok(())
-}
-
-fn put_character(out: &mut String, character: char) -> Result<(), AllocError>
-    ensures { OnOk result (string_bytes out.new ≡ string_bytes out.old ++ shown_character character) }
-{
-    if character.width().is_some() {
-        out.push(character)
-    } else {
-        out.push(' ')
-    }
 }

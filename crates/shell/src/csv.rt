@@ -77,9 +77,7 @@ fn put_text(out: &mut String, text: &str) -> Result<(), AllocError>
     ensures { OnOk result (string_bytes out.new ≡ string_bytes out.old ++ csv_text text.now) }
 {
     if text.is_empty() || has_special(text.as_bytes()) {
-        out.push('"')?;
-        put_doubled(out, text)?;
-        out.push('"')
+        put_quoted(out, text)
     } else {
         out.push_str(text)
     }
@@ -91,22 +89,16 @@ fn has_special(bytes: &[u8]) -> bool
     bytes.iter().any(|byte| *byte == b',' || *byte == b'"' || *byte == b'\r' || *byte == b'\n')
 }
 
-/// Puts a text, each quote doubled.
-fn put_doubled(out: &mut String, text: &str) -> Result<(), AllocError>
-    ensures { OnOk result (string_bytes out.new ≡ string_bytes out.old ++ flat_map doubled (chars text.now)) }
+/// Puts a text in quotes, each quote in it doubled.
+fn put_quoted(out: &mut String, text: &str) -> Result<(), AllocError>
+    ensures { OnOk result (string_bytes out.new ≡ string_bytes out.old ++ (34 ∷ flat_map doubled (chars text.now) ++ 34 ∷ [])) }
 {
+    out.push_str("\"")?;
     for character in text.chars() {
-        put_character(out, character)?;
+        match character {
+            '"' => out.push_str("\"\"")?,
+            other => out.push(other)?,
+        }
     }
-    Ok(())
-}
-
-fn put_character(out: &mut String, character: char) -> Result<(), AllocError>
-    ensures { OnOk result (string_bytes out.new ≡ string_bytes out.old ++ doubled character) }
-{
-    if character == '"' {
-        out.push_str("\"\"")
-    } else {
-        out.push(character)
-    }
+    out.push_str("\"")
 }

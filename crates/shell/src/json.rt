@@ -32,33 +32,14 @@ pub fn put_json_line(out: &mut String, text: &str) -> Result<(), AllocError>
 fn put_row(out: &mut String, header: &[Text], values: &[Value]) -> Result<(), AllocError>
     ensures { OnOk result (string_bytes out.new ≡ string_bytes out.old ++ json_row header.now values.now) }
 {
-    out.push('{')?;
-    put_members(out, header, values)?;
-    out.push_str("}\n")
-}
-
-fn put_members(out: &mut String, header: &[Text], values: &[Value]) -> Result<(), AllocError>
-    ensures { OnOk result (string_bytes out.new ≡ string_bytes out.old ++ separated json_member 44 (zip header.now values.now)) }
-{
-    let Some((name, names)) = header.split_first() else {
-        return Ok(());
-    };
-    let Some((value, values)) = values.split_first() else {
-        return Ok(());
-    };
-    put_member(out, name, value)?;
-    put_more(out, names, values)
-}
-
-/// Puts members, with a comma before each.
-fn put_more(out: &mut String, names: &[Text], values: &[Value]) -> Result<(), AllocError>
-    ensures { OnOk result (string_bytes out.new ≡ string_bytes out.old ++ flat_map (λ member. 44 ∷ json_member member) (zip names.now values.now)) }
-{
-    for (name, value) in names.iter().zip(values.iter()) {
-        out.push(',')?;
+    out.push_str("{")?;
+    let mut between = "";
+    for (name, value) in header.iter().zip(values.iter()) {
+        out.push_str(between)?;
         put_member(out, name, value)?;
+        between = ",";
     }
-    Ok(())
+    out.push_str("}\n")
 }
 
 fn put_member(out: &mut String, name: &Text, value: &Value) -> Result<(), AllocError>
@@ -66,12 +47,6 @@ fn put_member(out: &mut String, name: &Text, value: &Value) -> Result<(), AllocE
 {
     put_text(out, name.as_str())?;
     out.push(':')?;
-    put_value(out, value)
-}
-
-fn put_value(out: &mut String, value: &Value) -> Result<(), AllocError>
-    ensures { OnOk result (string_bytes out.new ≡ string_bytes out.old ++ json_value value.now) }
-{
     match value {
         Value::Int(number) => write!(out, "{number}"),
         Value::Text(text) => put_text(out, text.as_str()),
@@ -82,29 +57,16 @@ fn put_value(out: &mut String, value: &Value) -> Result<(), AllocError>
 fn put_text(out: &mut String, text: &str) -> Result<(), AllocError>
     ensures { OnOk result (string_bytes out.new ≡ string_bytes out.old ++ json_text text.now) }
 {
-    out.push('"')?;
-    put_characters(out, text)?;
-    out.push('"')
-}
-
-fn put_characters(out: &mut String, text: &str) -> Result<(), AllocError>
-    ensures { OnOk result (string_bytes out.new ≡ string_bytes out.old ++ flat_map json_character (chars text.now)) }
-{
+    out.push_str("\"")?;
     for character in text.chars() {
-        put_character(out, character)?;
+        match character {
+            '"' => out.push_str("\\\"")?,
+            '\\' => out.push_str("\\\\")?,
+            control if control < ' ' => put_control(out, control as u8)?,
+            other => out.push(other)?,
+        }
     }
-    Ok(())
-}
-
-fn put_character(out: &mut String, character: char) -> Result<(), AllocError>
-    ensures { OnOk result (string_bytes out.new ≡ string_bytes out.old ++ json_character character) }
-{
-    match character {
-        '"' => out.push_str("\\\""),
-        '\\' => out.push_str("\\\\"),
-        control if control < ' ' => put_control(out, control as u8),
-        other => out.push(other),
-    }
+    out.push_str("\"")
 }
 
 /// Puts the code of a control character.

@@ -25,5 +25,4 @@ pub mod mode;
 pub mod nearest;
 mod place;
 pub mod sentence;
-mod told;
 mod window;

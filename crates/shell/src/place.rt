@@ -2,8 +2,7 @@
 
 use crate::Made;
 use crate::nearest::{listed, put_choices};
-use crate::sentence::{explain_over, unless_memory};
-use crate::told::names_of;
+use crate::sentence::{explain_over, names_of, unless_memory};
 use catalog::fault::{CatFault, Cell, Rule};
 use meaning::schema::{Column, RelationSchema};
 use reader::fault;
@@ -19,31 +18,22 @@ use toml::Value;
 /// The most nodes that are looked at.
 const NODES: usize = 65_536;
 
-/// The keys of a table of the document: one that it has, and those of which it has one besides.
-const DOCUMENT: [&str; 2] = ["sites", "relations"];
-
-const RELATION: [&str; 4] = ["columns", "site", "rows", "cols"];
-
-const BRANCH: [&str; 4] = ["where", "site", "rows", "cols"];
-
-const GROUP: [&str; 4] = ["of", "site", "rows", "cols"];
-
-/// A table of the document, how it is reached from the root, and the group around it, if it is in one.
+/// A table of the document: how it is reached from the root, its first key, and the group around it, if it is in one.
 #[derive(Drop)]
 struct Node<'a> {
     path: String,
     value: &'a Value,
+    own: &'static str,
     group: Option<&'a Value>,
-    keys: &'static [&'static str],
 }
 
-/// What a place is looked for in: the document, or a relation of it with these columns, and the rule that is broken.
+/// What a place is looked for in: the document, or a relation of it, and the rule that is broken.
 #[derive(Drop)]
 struct Around<'a> {
     alloc: Global,
     root: &'a Value,
     top: &'a Value,
-    table: &'a RelationSchema,
+    name: &'a str,
     rule: &'a Rule,
 }
 
@@ -51,25 +41,26 @@ struct Around<'a> {
 pub(crate) fn put_place(out: &mut String, root: &Value, fault: &CatFault) -> Made<()> {
     let alloc = *out.allocator();
     let name = fault.relation().map_or("", |name| name.as_str());
-    let relations = root.get("relations");
-    let relation = relations.and_then(|relations| relations.get(name));
-    let (mut path, mut keys) = (format!(in alloc; "the document")?, DOCUMENT.as_slice());
-    if relation.is_some() {
-        (path, keys) = (format!(in alloc; "relations.{name}")?, RELATION.as_slice());
-    }
-    let top = relation.unwrap_or(root);
+    let relation = root
+        .get("relations")
+        .and_then(|relations| relations.get(name));
+    let (path, own) = match relation {
+        Some(_) => (format!(in alloc; "relations.{name}")?, "columns"),
+        None => (format!(in alloc; "the document")?, "sites"),
+    };
+    let (top, rule) = (relation.unwrap_or(root), fault.rule());
     let around = Around {
         alloc,
         root,
         top,
-        table: &columns_around(alloc, name, top, None)?,
-        rule: fault.rule(),
+        name,
+        rule,
     };
     let first = Node {
         path,
         value: top,
+        own,
         group: None,
-        keys,
     };
     put_first(out, &around, first)
 }
@@ -77,28 +68,25 @@ pub(crate) fn put_place(out: &mut String, root: &Value, fault: &CatFault) -> Mad
 /// Puts what of a node and those below it breaks the rule first, each before those below itself; where the rule has a
 /// cell, of those that its row comes to.
 fn put_first<'a>(out: &mut String, around: &Around<'a>, first: Node<'a>) -> Made<()> {
-    let mut waiting = Vec::new(around.alloc);
-    waiting.push(first)?;
+    let mut waiting = vec![in around.alloc; first]?;
     for _ in 0..NODES {
         let Some(node) = waiting.pop() else {
             break;
         };
         match around.rule {
             Rule::Gap(cell) | Rule::Overlap(cell) if !meets(around, node.value, cell)? => continue,
-            _ => {}
+            _ => put_told(out, around, &node)?,
         }
-        put_told(out, around, &node)?;
         if !out.is_empty() {
             break;
         }
-        for (split, keys) in [("cols", &GROUP), ("rows", &BRANCH)] {
+        for (split, own) in [("cols", "of"), ("rows", "where")] {
             for (index, value) in items_at(node.value, split).iter().enumerate().rev() {
-                let is_group = value.get("of").is_some();
                 waiting.push(Node {
                     path: format!(in around.alloc; "{}.{split}[{index}]", node.path)?,
                     value,
-                    group: if is_group { Some(value) } else { node.group },
-                    keys,
+                    own,
+                    group: value.get("of").map_or(node.group, |_| Some(value)),
                 })?;
             }
         }
@@ -106,9 +94,28 @@ fn put_first<'a>(out: &mut String, around: &Around<'a>, first: Node<'a>) -> Made
     Ok(())
 }
 
-/// The place of a name among others.
-fn position(names: &[&str], name: &str) -> Option<usize> {
-    names.iter().position(|other| *other == name)
+/// Puts what of a node breaks the rule.
+fn put_told(out: &mut String, around: &Around<'_>, node: &Node<'_>) -> Made<()> {
+    let alloc = around.alloc;
+    match around.rule {
+        Rule::Name | Rule::Twice | Rule::KeyType | Rule::Field => put_misnamed(out, around, node)?,
+        Rule::ColumnTwice | Rule::ColumnLost => put_groups(out, around, node)?,
+        Rule::Gap(cell) | Rule::Overlap(cell) => put_branches(out, around, node, cell)?,
+        _ => put_conditions(out, around, node)?,
+    }
+    match around.rule {
+        _ if !out.is_empty() => Ok(()),
+        Rule::Field => put_wrong_key(out, around, node),
+        Rule::NoSite => {
+            let sites = texts_at(alloc, around.root, "sites")?;
+            put_unknown(out, node, "site", sites.as_slice())
+        }
+        Rule::ColumnAbsent => {
+            let columns = columns_around(around, None)?;
+            put_unknown(out, node, "of", names_of(alloc, &columns, 1)?.as_slice())
+        }
+        _ => Ok(()),
+    }
 }
 
 /// The items of an array at a key.
@@ -143,16 +150,12 @@ fn name_and_kind(text: &str) -> (&str, Option<Kind>) {
     }
 }
 
-/// A relation's key and the columns of the group around a node, as far as their texts say them.
-fn columns_around(
-    alloc: Global,
-    name: &str,
-    relation: &Value,
-    group: Option<&Value>,
-) -> Made<RelationSchema> {
+/// A relation's key and the columns of a group, or all, as far as their texts say them.
+fn columns_around(around: &Around<'_>, group: Option<&Value>) -> Made<RelationSchema> {
+    let alloc = around.alloc;
     let mut columns = Vec::new(alloc);
-    let within = texts_at(alloc, group.unwrap_or(relation), "of")?;
-    for text in texts_at(alloc, relation, "columns")?.as_slice() {
+    let within = texts_at(alloc, group.unwrap_or(around.top), "of")?;
+    for text in texts_at(alloc, around.top, "columns")?.as_slice() {
         if let (name, Some(kind)) = name_and_kind(text) {
             if columns.is_empty() || group.is_none() || within.contains(&name) {
                 let name = Text::copy_of(alloc, name).map_err(|_| AllocError)?;
@@ -160,64 +163,35 @@ fn columns_around(
             }
         }
     }
-    let name = Text::copy_of(alloc, name).map_err(|_| AllocError)?;
+    let name = Text::copy_of(alloc, around.name).map_err(|_| AllocError)?;
     let columns = Seq::new(columns);
     Ok(RelationSchema { name, columns })
 }
 
 /// Whether a cell's row meets the conditions of a node, which has them if it is a branch.
 fn meets(around: &Around<'_>, node: &Value, cell: &Cell) -> Made<bool> {
-    let Some(text) = where_of(node) else {
-        return Ok(true);
-    };
-    let read = read_conds(around.alloc, text, around.table.columns.as_slice());
-    Ok(unless_memory(read)?.is_ok_and(|conds| conds.hold(&cell.row)))
-}
-
-/// Puts what of a node breaks the rule.
-fn put_told(out: &mut String, around: &Around<'_>, node: &Node<'_>) -> Made<()> {
-    let alloc = around.alloc;
-    match around.rule {
-        Rule::Name | Rule::Twice | Rule::KeyType | Rule::Field => put_misnamed(out, around, node)?,
-        Rule::NoSite => {
-            let sites = texts_at(alloc, around.root, "sites")?;
-            put_unknown(out, node, "site", sites.as_slice())?;
-        }
-        Rule::ColumnTwice | Rule::ColumnLost => out.push_str(told_of_groups(
-            around, node,
-        )?.as_str())?,
-        Rule::Gap(cell) | Rule::Overlap(cell) => put_branches(out, around, node, cell)?,
-        _ => {}
-    }
-    if out.is_empty() && matches!(around.rule, Rule::Field) {
-        put_wrong_key(out, node)?;
-    }
-    if out.is_empty() {
-        put_conditions(out, around, node)?;
-    }
-    if out.is_empty() && matches!(around.rule, Rule::ColumnAbsent) {
-        let columns = names_of(alloc, around.table, 1)?;
-        put_unknown(out, node, "of", columns.as_slice())?;
-    }
-    Ok(())
+    let table = columns_around(around, None)?;
+    let text = where_of(node).unwrap_or("");
+    let read = unless_memory(read_conds(around.alloc, text, table.columns.as_slice()))?;
+    Ok(where_of(node).is_none() || read.is_ok_and(|conds| conds.hold(&cell.row)))
 }
 
 /// The first of the sites, or of a relation's columns, that has no name, one that stands before, or no form.
 fn put_misnamed(out: &mut String, around: &Around<'_>, node: &Node<'_>) -> Made<()> {
-    let (alloc, path) = (around.alloc, &node.path);
-    let (key, front, is_site) = match node.keys {
-        ["sites", ..] => ("sites", format!(in alloc; "sites")?, true),
-        ["columns", ..] => ("columns", format!(in alloc; "{path}.columns")?, false),
+    let (alloc, is_site) = (around.alloc, node.own == "sites");
+    let front = match node.own {
+        "sites" => format!(in alloc; "sites")?,
+        "columns" => format!(in alloc; "{}.columns", node.path)?,
         _ => return Ok(()),
     };
     let mut names = Vec::new(alloc);
-    for (index, item) in items_at(node.value, key).iter().enumerate() {
+    for (index, item) in items_at(node.value, node.own).iter().enumerate() {
         let Some(text) = item.as_str() else {
             return write!(out, "{front}[{index}] has no text\n");
         };
         let (word, kind) = name_and_kind(text);
         let name = if is_site { text } else { word };
-        let before = position(names.as_slice(), name);
+        let before = names.iter().position(|other| *other == name);
         let told = match (around.rule, before) {
             (Rule::Name, _) if is_site && name == "desk" => {
                 format!(in alloc; ", the coordinator's name")?
@@ -239,16 +213,20 @@ fn put_misnamed(out: &mut String, around: &Around<'_>, node: &Node<'_>) -> Made<
     Ok(())
 }
 
-/// The first key of a node that is unknown, missing, or one too many.
-fn put_wrong_key(out: &mut String, node: &Node<'_>) -> Made<()> {
-    let (alloc, path) = (*out.allocator(), &node.path);
-    let (Value::Table(table), [own, others @ ..]) = (node.value, node.keys) else {
+/// The first key of a node that is unknown, missing, or one too many, or else what is wrong with its conditions.
+fn put_wrong_key(out: &mut String, around: &Around<'_>, node: &Node<'_>) -> Made<()> {
+    let (path, own) = (&node.path, node.own);
+    let keys = match own {
+        "sites" => vec![in around.alloc; own, "relations"]?,
+        _ => vec![in around.alloc; own, "site", "rows", "cols"]?,
+    };
+    let (Value::Table(table), [_, others @ ..]) = (node.value, keys.as_slice()) else {
         return write!(out, "{path} is no table\n");
     };
     for (key, _) in table.iter() {
-        if !node.keys.contains(&key.as_str()) {
+        if !keys.contains(&key.as_str()) {
             write!(out, "{path} has the unknown key `{key}`; there can be ")?;
-            put_choices(out, key.as_str(), node.keys)?;
+            put_choices(out, key.as_str(), keys.as_slice())?;
             return out.push('\n');
         }
     }
@@ -256,18 +234,22 @@ fn put_wrong_key(out: &mut String, node: &Node<'_>) -> Made<()> {
         .iter()
         .copied()
         .filter(|key| table.get(*key).is_some());
-    let had: Vec<&str> = had.collect(alloc)?;
+    let had: Vec<&str> = had.collect(around.alloc)?;
     match (had.as_slice(), others) {
-        _ if table.get(*own).is_none() => write!(out, "{path} has no key `{own}`\n"),
+        _ if table.get(own).is_none() => write!(out, "{path} has no key `{own}`\n"),
         ([], [other]) => write!(out, "{path} has no key `{other}`\n"),
-        ([], _) => write!(out, "{path} has none of {}\n", listed(alloc, others)?),
+        ([], _) => write!(
+            out,
+            "{path} has none of {}\n",
+            listed(around.alloc, others)?
+        ),
         ([first, second, ..], _) => {
             write!(
                 out,
                 "{path} has both `{first}` and `{second}`; it has one of them\n"
             )
         }
-        _ => Ok(()),
+        _ => put_conditions(out, around, node),
     }
 }
 
@@ -285,10 +267,12 @@ fn put_unknown(out: &mut String, node: &Node<'_>, key: &str, known: &[&str]) -> 
 
 /// The fault of a branch's conditions, where the rule stands for it.
 fn put_conditions(out: &mut String, around: &Around<'_>, node: &Node<'_>) -> Made<()> {
-    let (alloc, name) = (around.alloc, around.table.name.as_str());
-    let tables = [columns_around(alloc, name, around.top, node.group)?];
-    let text = where_of(node.value).unwrap_or("");
-    let Err(fault) = unless_memory(read_conds(alloc, text, tables[0].columns.as_slice()))? else {
+    let tables = [columns_around(around, node.group)?];
+    let Some(text) = where_of(node.value) else {
+        return Ok(());
+    };
+    let read = read_conds(around.alloc, text, tables[0].columns.as_slice());
+    let Err(fault) = unless_memory(read)? else {
         return Ok(());
     };
     let stands = match fault.rule() {
@@ -297,44 +281,37 @@ fn put_conditions(out: &mut String, around: &Around<'_>, node: &Node<'_>) -> Mad
         fault::Rule::Limit => matches!(around.rule, Rule::Limit),
         _ => matches!(around.rule, Rule::Field),
     };
-    if !stands || where_of(node.value).is_none() {
+    if !stands {
         return Ok(());
     }
-    let told = explain_over(alloc, &tables, false, text, &fault)?;
+    let told = explain_over(around.alloc, &tables, false, text, &fault)?;
     write!(out, "{}.where\n{told}", node.path)
 }
 
-/// What is told of the first column that stands twice in the groups of a split, or in none of them.
-fn told_of_groups(around: &Around<'_>, node: &Node<'_>) -> Made<String> {
+/// The first column that stands twice in the groups of a split, or in none of them.
+fn put_groups(out: &mut String, around: &Around<'_>, node: &Node<'_>) -> Made<()> {
     let (alloc, path) = (around.alloc, &node.path);
     let is_twice = matches!(around.rule, Rule::ColumnTwice);
-    let mut grouped = Vec::new(alloc);
-    let mut places = Vec::new(alloc);
+    let mut grouped: Vec<(&str, usize)> = Vec::new(alloc);
     for (index, group) in items_at(node.value, "cols").iter().enumerate() {
-        let texts = texts_at(alloc, group, "of")?;
-        for text in texts.as_slice() {
-            if let Some(at) = position(grouped.as_slice(), text) {
-                if is_twice {
-                    let first = places.get(at).copied().unwrap_or(index);
-                    return format!(in alloc;
-                        "{path}.cols[{index}].of has `{text}`, as cols[{first}].of has\n"
-                    );
+        for text in texts_at(alloc, group, "of")?.as_slice() {
+            match grouped.iter().find(|it| it.0 == *text) {
+                Some((_, first)) if is_twice => {
+                    let before = format!(in alloc; "as cols[{first}].of has")?;
+                    return write!(out, "{path}.cols[{index}].of has `{text}`, {before}\n");
                 }
+                _ => grouped.push((*text, index))?,
             }
-            grouped.push(*text)?;
-            places.push(index)?;
         }
     }
-    let table = columns_around(alloc, around.table.name.as_str(), around.top, node.group)?;
-    for column in table.columns.as_slice().iter().skip(1) {
-        let name = column.name.as_str();
-        if !is_twice && !grouped.is_empty() && position(grouped.as_slice(), name).is_none() {
-            return format!(in alloc;
-                "{path}.cols: no group has `{name}`; add it to the `of` of one of them\n"
-            );
+    let table = columns_around(around, node.group)?;
+    for name in names_of(alloc, &table, 1)?.as_slice() {
+        if !is_twice && !grouped.is_empty() && !grouped.iter().any(|it| it.0 == *name) {
+            write!(out, "{path}.cols: no group has `{name}`; ")?;
+            return out.push_str("add it to the `of` of one of them\n");
         }
     }
-    Ok(String::new(alloc))
+    Ok(())
 }
 
 /// The branches of a split, where the cell's row meets none of them or several, and what to do.
@@ -342,11 +319,14 @@ fn put_branches(out: &mut String, around: &Around<'_>, node: &Node<'_>, cell: &C
     let mut lines = String::new(around.alloc);
     let mut takers: usize = 0;
     for branch in items_at(node.value, "rows") {
-        let text = where_of(branch).unwrap_or("");
         let takes = meets(around, branch, cell)?;
         let told = if takes { "takes it" } else { "does not" };
         takers = takers.saturating_add(usize::from(takes));
-        write!(lines, "  where = \"{text}\" {told}\n")?;
+        write!(
+            lines,
+            "  where = \"{}\" {told}\n",
+            where_of(branch).unwrap_or("")
+        )?;
     }
     if lines.is_empty() || takers == 1 {
         return Ok(());
