@@ -15,7 +15,7 @@
 use std::alloc::AllocError;
 
 /// What was made, unless memory ran out.
-pub(crate) type Made<T> = Result<T, AllocError>;
+pub type Made<T> = Result<T, AllocError>;
 
 pub mod catalogue;
 pub mod columns;

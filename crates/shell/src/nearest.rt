@@ -4,16 +4,12 @@ ghost use Rattle.std.specs.Prelude.{IfOk};
 ghost use Rattle.shell.specs.Nearest.{IsLikely};
 
 use crate::Made;
-use std::alloc::{AllocError, Global};
+use std::alloc::Global;
 use strsim::levenshtein;
 
 /// The first of the names with the fewest edits that lead to it from the word, if these are at most two and
 /// fewer than the word has bytes.
-pub fn nearest<'a>(
-    alloc: Global,
-    word: &str,
-    names: &[&'a str],
-) -> Result<Option<&'a str>, AllocError>
+pub fn nearest<'a>(alloc: Global, word: &str, names: &[&'a str]) -> Made<Option<&'a str>>
     ensures { IfOk result (λ found. IsLikely word.now names.now found) }
 {
     let mut limit = word.len().min(3);

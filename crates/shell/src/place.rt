@@ -37,7 +37,8 @@ struct Around<'a> {
     rule: &'a Rule,
 }
 
-/// Puts into an empty text the first place that breaks the fault's rule, in lines; nothing where none is found.
+/// Puts into an empty text the first place that breaks the fault's rule, in lines; nothing where none is found. Each
+/// node comes before those below it; where the rule has a cell, only those to which its row comes.
 pub(crate) fn put_place(out: &mut String, root: &Value, fault: &CatFault) -> Made<()> {
     let alloc = *out.allocator();
     let name = fault.relation().map_or("", |name| name.as_str());
@@ -62,20 +63,14 @@ pub(crate) fn put_place(out: &mut String, root: &Value, fault: &CatFault) -> Mad
         own,
         group: None,
     };
-    put_first(out, &around, first)
-}
-
-/// Puts what of a node and those below it breaks the rule first, each before those below itself; where the rule has a
-/// cell, of those that its row comes to.
-fn put_first<'a>(out: &mut String, around: &Around<'a>, first: Node<'a>) -> Made<()> {
-    let mut waiting = vec![in around.alloc; first]?;
+    let mut waiting = vec![in alloc; first]?;
     for _ in 0..NODES {
         let Some(node) = waiting.pop() else {
             break;
         };
         match around.rule {
-            Rule::Gap(cell) | Rule::Overlap(cell) if !meets(around, node.value, cell)? => continue,
-            _ => put_told(out, around, &node)?,
+            Rule::Gap(cell) | Rule::Overlap(cell) if !meets(&around, node.value, cell)? => continue,
+            _ => put_told(out, &around, &node)?,
         }
         if !out.is_empty() {
             break;
@@ -83,7 +78,7 @@ fn put_first<'a>(out: &mut String, around: &Around<'a>, first: Node<'a>) -> Made
         for (split, own) in [("cols", "of"), ("rows", "where")] {
             for (index, value) in items_at(node.value, split).iter().enumerate().rev() {
                 waiting.push(Node {
-                    path: format!(in around.alloc; "{}.{split}[{index}]", node.path)?,
+                    path: format!(in alloc; "{}.{split}[{index}]", node.path)?,
                     value,
                     own,
                     group: value.get("of").map_or(node.group, |_| Some(value)),

@@ -37,12 +37,7 @@ struct Around<'a> {
 
 /// Three lines: the text, or what of it is near the fault; a caret below the fault's place; and a sentence on
 /// what was found there and what could stand there.
-pub fn explain(
-    alloc: Global,
-    schema: &Schema,
-    text: &str,
-    fault: &ReadFault,
-) -> Result<String, AllocError>
+pub fn explain(alloc: Global, schema: &Schema, text: &str, fault: &ReadFault) -> Made<String>
     ensures { IfOk result (λ lines. PointsAt text.now fault.now.offset (string_bytes lines)) }
 {
     explain_over(alloc, schema.relations.as_slice(), true, text, fault)
@@ -55,7 +50,7 @@ pub(crate) fn explain_over(
     is_statement: bool,
     text: &str,
     fault: &ReadFault,
-) -> Result<String, AllocError>
+) -> Made<String>
     ensures { IfOk result (λ lines. PointsAt text.now fault.now.offset (string_bytes lines)) }
 {
     let (line, column) = line_at(alloc, text, fault.offset())?;
