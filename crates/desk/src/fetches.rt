@@ -213,10 +213,10 @@ fn has_rows_with(catalog: &Catalog, site: &Text, rows: &Rows, ask: &Ask) -> bool
 pub(crate) fn are_in_with(catalog: &Catalog, site: &Text, rows: &Rows, asks: &[Ask]) -> bool
     ensures { result ≡ are_in_with (catalogue_of catalog.now) site.now rows.now.op rows.now.parts asks.now }
 {
-    let Some((ask, rest)) = asks.split_first() else {
+    let Some((ask, rest)) = asks.split_last() else {
         return true;
     };
-    are_in_with(catalog, site, rows, rest) && has_rows_with(catalog, site, rows, ask)
+    has_rows_with(catalog, site, rows, ask) && are_in_with(catalog, site, rows, rest)
 }
 
 /// What a fetch has brought, where it waited for these rows or had its own. The rows stay where they are.

@@ -16,14 +16,14 @@ use terms::text::Text;
 #[derive(Debug, Drop)]
 pub(crate) struct Participant {
     pub(crate) site: Text,
-    /// Whether an Open was sent there.
-    pub(crate) visited: bool,
     /// The first ticket that came.
     pub(crate) ticket: Option<Ticket>,
     /// How many operations were sent there.
     pub(crate) sent: u64,
     /// In the first phase: the vote that was counted.
     pub(crate) vote: Option<Vote>,
+    /// Whether an Open was sent there.
+    pub(crate) visited: bool,
 }
 
 impl TryCopy for Participant {
