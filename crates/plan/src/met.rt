@@ -64,13 +64,14 @@ fn some_value_meets(
     if is_free(places, of_leaf, others, col) {
         return Ok(true);
     }
-    let least = least(alloc, kind)?;
-    if holds(places, of_leaf, others, col, &least)
-        || own_constant_meets(alloc, places, of_leaf, others, col)?
-    {
+    if other_constant_meets(alloc, places, of_leaf, others, col)? {
         return Ok(true);
     }
-    other_constant_meets(alloc, places, of_leaf, others, col)
+    let least = least(alloc, kind)?;
+    if holds(places, of_leaf, others, col, &least) {
+        return Ok(true);
+    }
+    own_constant_meets(alloc, places, of_leaf, others, col)
 }
 
 /// Whether no condition is on a column.
