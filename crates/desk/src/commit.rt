@@ -149,6 +149,7 @@ fn leaves_open(undecided: &Undecided, site: &Text, voted: Voted) -> bool
 }
 
 /// The vote that a letter of a site is, if its transaction isn't decided yet by it.
+#[inline(always)]
 pub(crate) fn early_vote(found: Option<&TxnState>, site: &Text, said: &Said) -> Option<Voted>
     ensures { IfSome result (λ voted. (said.now ≡ reply.Voted voted) × (is_early (option_copied found.entry) site.now voted ≡ true)) }
 {

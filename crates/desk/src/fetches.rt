@@ -149,6 +149,7 @@ fn fits_leaf(catalog: &Catalog, leaf: &Leaf, parts: &[Part]) -> bool
 }
 
 /// Whether these rows of a site are those that a fetch waits for.
+#[inline(always)]
 fn awaits(catalog: &Catalog, site: &Text, rows: &Rows, ask: &Ask) -> bool
     ensures { result ≡ awaits (catalogue_of catalog.now) site.now rows.now.op rows.now.parts ask.now }
 {

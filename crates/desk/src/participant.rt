@@ -85,7 +85,9 @@ fn is_in_beside(participant: &Participant, site: &Text) -> bool
 pub(crate) fn are_others_in(participants: &[Participant], site: &Text) -> bool
     ensures { result ≡ list_all (is_in_beside site.now) participants.now }
 {
-    participants.iter().all(|participant| is_in_beside(participant, site))
+    participants
+        .iter()
+        .all(|participant| is_in_beside(participant, site))
 }
 
 /// The vote of a site is counted.

@@ -169,6 +169,7 @@ fn step<S: DeskStore>(
 }
 
 /// A vote comes by which its transaction isn't decided yet.
+#[inline(always)]
 fn take_vote(volatile: &mut Volatile, txn: Txn, site: &Text, voted: Voted) -> Out
     requires { is_early ((volatile_of volatile.old).standing txn) site.now voted ≡ true }
     ensures ok { (db : Database) (choice : Choice (language db)) (kept : DeskContent) → AreDistinct db.sites → Fits db kept (volatile_of volatile.old)
@@ -294,6 +295,7 @@ fn resume_on(
 }
 
 /// The statement of what stands behind a transaction goes on.
+#[inline(always)]
 fn resume_in(
     alloc: Global,
     catalog: &Catalog,
@@ -320,6 +322,7 @@ fn resume_in(
 }
 
 /// A statement of a transaction in memory goes on.
+#[inline(always)]
 fn resume(
     volatile: &mut Volatile,
     catalog: &Catalog,

@@ -74,6 +74,7 @@ fn next_number(participants: &[Participant], site: &Text) -> Option<u64>
 }
 
 /// The number of a fetch: a new one where it goes out now.
+#[inline(always)]
 fn ask_out(
     letters: &mut Vec<Letter>,
     participants: &mut [Participant],
