@@ -76,8 +76,13 @@ fn list_shelf(alloc: Global, shelf: &Shelf, conds: &Conds) -> Result<Vec<Part>, 
     ensures parts { IfOk result (λ parts. parts.items ≡ filter (conds_hold conds.now) (shelf_parts shelf.now.entries)) }
     ensures ordered { IsOrdered int_cmp shelf.now }
 {
-    let mut parts = Vec::new(alloc);
-    let _count = shelf.len();
+    let count = shelf.len();
+    let room = if conds.as_slice().is_empty() {
+        count
+    } else {
+        0
+    };
+    let mut parts = Vec::with_capacity(alloc, room)?;
     for (_, part) in shelf {
         push_meeting(&mut parts, part, conds)?;
     }
