@@ -159,6 +159,7 @@ fn constant_meets(
 }
 
 /// Whether a value meets all conditions on a column.
+#[inline(always)]
 fn holds(places: Places, of_leaf: &[Cond], others: &[Cond], col: usize, value: &Value) -> bool
     ensures { result ≡ column_holds (put_on places of_leaf.now ++ others.now) col value.now }
 {
@@ -166,6 +167,7 @@ fn holds(places: Places, of_leaf: &[Cond], others: &[Cond], col: usize, value: &
 }
 
 /// Whether a value meets those of a leaf.
+#[inline(always)]
 fn own_holds(places: Places, of_leaf: &[Cond], col: usize, value: &Value) -> bool
     ensures { result ≡ column_holds (put_on places of_leaf.now) col value.now }
 {
@@ -178,6 +180,7 @@ fn own_holds(places: Places, of_leaf: &[Cond], col: usize, value: &Value) -> boo
 }
 
 /// Whether a column of a leaf stands at this one of the rows that are tried.
+#[inline(always)]
 fn stands_at(places: Places, own: usize, col: usize) -> bool
     ensures { result ≡ (place_of places own == col) }
 {
