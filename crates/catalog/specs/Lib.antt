@@ -21,6 +21,7 @@ pub mod Inexact
 pub mod Refusal
 pub mod Document
 pub mod Relation
+pub mod Trail
 pub mod Fault
 pub mod Refuses
 pub mod NodeBreaks

@@ -30,6 +30,7 @@ use crate::fragment_leaf::{
 };
 use crate::relation::{SplitRelation, copy_relations, find_relation, relation, schema_of};
 use crate::sites::{site_numbered, sites};
+use crate::trail::Trail;
 use meaning::schema::Schema;
 use reader::read_conds::{conds_of_a_text_fit, one_list_of_conds};
 use std::alloc::Global;
@@ -239,9 +240,10 @@ fn catalog_of(alloc: Global, root: &Value) -> Result<Catalog, CatFault>
     if !are_tables(parts.relations) {
         return Err(CatFault::new(Rule::Field));
     }
-    let sites = match sites(alloc, parts.sites.as_slice()) {
+    let mut trail = Trail::new();
+    let sites = match sites(alloc, parts.sites.as_slice(), &mut trail) {
         Ok(sites) => sites,
-        Err(rule) => return Err(CatFault::outside(rule)),
+        Err(rule) => return Err(CatFault::at(trail, rule)),
     };
     let count = parts.relations.len();
     if count == 0 {
@@ -352,9 +354,10 @@ pub(crate) fn relations(
     one_list_of_conds();
     let mut relations = Vec::new(alloc);
     for (name, node) in table.iter() {
-        match relation(alloc, sites, name.as_str(), node) {
+        let mut trail = Trail::new();
+        match relation(alloc, sites, name.as_str(), node, &mut trail) {
             Ok(next) => relations.push(next)?,
-            Err(rule) => return Err(CatFault::in_relation(alloc, name.as_str(), rule)),
+            Err(rule) => return Err(CatFault::in_relation(alloc, name.as_str(), trail, rule)),
         }
     }
     Ok(relations)

@@ -10,6 +10,7 @@ ghost use Rattle.catalog.specs.Refuses.{is_of_text, is_shown};
 ghost use Rattle.catalog.specs.Columns.{HasNoForm, AreColumns, RefusesColumns, RefusesColumn, FitRelation, RefusesFit, IsFitFault, IsColumnFault};
 
 use crate::fault::Rule;
+use crate::trail::{ListItem, Trail};
 use meaning::schema::Column;
 use reader::word::is_name;
 use std::alloc::Global;
@@ -22,28 +23,35 @@ use toml::Value;
 const COLUMNS: usize = 16;
 
 /// The columns that texts say, each name once, and an integer as the key.
-pub(crate) fn columns(alloc: Global, texts: &[&str]) -> Result<Vec<Column>, Rule>
+pub(crate) fn columns(alloc: Global, texts: &[&str], trail: &mut Trail) -> Result<Vec<Column>, Rule>
     ensures found { IfOk result (λ columns. AreColumns (map (λ text. text.now) texts.now) columns.items) }
     ensures none { IfErr result (λ rule. RefusesColumns (map (λ text. text.now) texts.now) rule) }
     ensures breaks { IfErr result (λ rule. is_of_text rule ≡ true → ColumnsBreak rule (map (λ text. text.now) texts.now)) }
 {
     let mut columns = Vec::new(alloc);
     for text in texts {
+        trail.enter(ListItem::Column(columns.len()));
         let column = next_column(alloc, columns.as_slice(), text)?;
+        trail.leave();
         columns.push(column)?;
     }
-    require_relation(columns.as_slice())?;
+    require_relation(columns.as_slice(), trail)?;
     Ok(columns)
 }
 
 /// The rule that columns break which are not all said by texts: the first fault of those before the
 /// first that is no text, or that it is none.
-pub(crate) fn broken_columns(alloc: Global, items: &[Value]) -> Result<Rule, Memory>
+pub(crate) fn broken_columns(
+    alloc: Global,
+    items: &[Value],
+    trail: &mut Trail,
+) -> Result<Rule, Memory>
     ensures shown { IfOk result (λ rule. is_shown rule ≡ false) }
     ensures breaks { IfOk result (λ rule. is_of_text rule ≡ true → (rule ≡ Field) ⊎ ColumnsBreak rule (texts_before (map view items.now))) }
 {
     let mut columns = Vec::new(alloc);
     for item in items {
+        trail.enter(ListItem::Column(columns.len()));
         let Some(text) = item.as_str() else {
             return Ok(Rule::Field);
         };
@@ -51,6 +59,7 @@ pub(crate) fn broken_columns(alloc: Global, items: &[Value]) -> Result<Rule, Mem
             Ok(column) => columns.push(column)?,
             Err(rule) => return Ok(rule),
         }
+        trail.leave();
     }
     Ok(Rule::Field)
 }
@@ -104,7 +113,7 @@ fn has_column(before: &[Column], name: &str) -> bool
 }
 
 /// Refuses too many columns, and a key that is no integer.
-fn require_relation(columns: &[Column]) -> Result<(), Rule>
+fn require_relation(columns: &[Column], trail: &mut Trail) -> Result<(), Rule>
     ensures fit { OnOk result (FitRelation columns.now) }
     ensures none { IfErr result (λ rule. RefusesFit columns.now rule) }
     ensures fault { IfErr result (λ rule. IsFitFault columns.now rule) }
@@ -114,7 +123,10 @@ fn require_relation(columns: &[Column]) -> Result<(), Rule>
     }
     match columns.first() {
         Some(key) if key.kind == Kind::Int => Ok(()),
-        Some(_) => Err(Rule::KeyType),
+        Some(_) => {
+            trail.enter(ListItem::Column(0));
+            Err(Rule::KeyType)
+        }
         None => Err(Rule::Field),
     }
 }

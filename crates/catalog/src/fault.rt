@@ -5,6 +5,7 @@ ghost use Rattle.std.specs.Option.{option_copied};
 ghost use Rattle.catalog.specs.Fault.{rule_number, rule_name, shown_text, cell_text, fault_text};
 ghost use Rattle.catalog.specs.declared.fault.Rule.TheVariants as rules;
 
+use crate::trail::{ListItem, Trail};
 use reader::print_constant::PrintedConstant;
 use std::alloc::{AllocError, AllocFailed, Global};
 use std::fmt;
@@ -138,6 +139,7 @@ impl Rule {
 pub struct CatFault {
     rule: Rule,
     relation: Option<Text>,
+    trail: Trail,
 }
 
 impl Model for CatFault {
@@ -148,8 +150,6 @@ impl Model for CatFault {
     ghost Value = { Fault };
 
     ghost view = { λ f. record { rule = f.rule; relation = f.relation } };
-
-    ghost inverse = { λ f. record { rule = f.rule; relation = f.relation } };
 
     ghost invariant = { λ f. f.rule ≡ Memory → f.relation ≡ None };
 }
@@ -162,10 +162,7 @@ impl CatFault {
         ensures rule { result.rule ≡ rule }
         ensures relation { result.relation ≡ None }
     {
-        CatFault {
-            rule,
-            relation: None,
-        }
+        CatFault::outside(rule)
     }
 
     /// A fault outside of the relations, or that memory ran out.
@@ -173,14 +170,23 @@ impl CatFault {
         ensures rule { result.rule ≡ rule }
         ensures relation { result.relation ≡ None }
     {
+        CatFault::at(Trail::new(), rule)
+    }
+
+    /// A fault at a part of the document outside of the relations, or that memory ran out.
+    pub(crate) fn at(trail: Trail, rule: Rule) -> CatFault
+        ensures rule { result.rule ≡ rule }
+        ensures relation { result.relation ≡ None }
+    {
         CatFault {
             rule,
             relation: None,
+            trail,
         }
     }
 
-    /// A fault in the relation of this name.
-    pub(crate) fn in_relation(alloc: Global, name: &str, rule: Rule) -> CatFault
+    /// A fault at a part of the relation of this name.
+    pub(crate) fn in_relation(alloc: Global, name: &str, trail: Trail, rule: Rule) -> CatFault
         ensures { ((result.rule ≡ rule) × (result.relation ≡ Some name.now)) ⊎ (result.rule ≡ Rule.Memory) }
     {
         if matches!(rule, Rule::Memory) {
@@ -190,6 +196,7 @@ impl CatFault {
             Ok(name) => CatFault {
                 rule,
                 relation: Some(name),
+                trail,
             },
             Err(_) => CatFault::outside(Rule::Memory),
         }
@@ -208,6 +215,12 @@ impl CatFault {
         ensures memory { self.now.rule ≡ Rule.Memory → self.now.relation ≡ None }
     {
         self.relation.as_ref()
+    }
+
+    /// The items on the way to the part of the document that breaks the rule, from the relation's table, or from the
+    /// root: a branch or group for each split, and last a column's or a site's text. No contract says which.
+    pub fn trail(&self) -> &[ListItem] {
+        self.trail.items()
     }
 }
 

@@ -17,6 +17,7 @@ use crate::fault::Rule;
 use crate::form::texts_at;
 use crate::frame::Frame;
 use crate::parts::{PartFault, first_again, part_fault};
+use crate::trail::{ListItem, Trail};
 use std::alloc::Global;
 use terms::memory::Memory;
 use terms::seq::Seq;
@@ -27,17 +28,23 @@ pub(crate) fn named_columns(
     frame: &Frame<'_>,
     within: &[usize],
     nodes: &[Value],
+    trail: &mut Trail,
 ) -> Result<Vec<Seq<usize>>, Rule>
     ensures found { IfOk result (λ groups. AreNamedIn (frame_of frame.now) within.now (map view nodes.now) groups.items) }
     ensures none { IfErr result (λ rule. RefusesNamed (frame_of frame.now) within.now (map view nodes.now) rule) }
     ensures breaks { IfErr result (λ rule. is_of_text rule ≡ true → GroupsBreak rule (frame_of frame.now) within.now (map view nodes.now)) }
 {
-    let groups = all_groups(frame, within, nodes)?;
+    let groups = all_groups(frame, within, nodes, trail)?;
     require_parts(frame.alloc, within, groups)
 }
 
 /// The places that each group names.
-fn all_groups(frame: &Frame<'_>, within: &[usize], nodes: &[Value]) -> Result<Vec<Seq<usize>>, Rule>
+fn all_groups(
+    frame: &Frame<'_>,
+    within: &[usize],
+    nodes: &[Value],
+    trail: &mut Trail,
+) -> Result<Vec<Seq<usize>>, Rule>
     ensures found { IfOk result (λ groups. all_of (named_in (frame_of frame.now) within.now) (map view nodes.now) ≡ Some groups.items) }
     ensures none { IfErr result (λ rule. RefusesNames (frame_of frame.now) within.now (map view nodes.now) rule) }
     ensures breaks { IfErr result (λ rule. is_of_text rule ≡ true → GroupsBreak rule (frame_of frame.now) within.now (map view nodes.now)) }
@@ -45,7 +52,9 @@ fn all_groups(frame: &Frame<'_>, within: &[usize], nodes: &[Value]) -> Result<Ve
     let mut seen = Vec::new(frame.alloc);
     let mut groups = Vec::new(frame.alloc);
     for node in nodes {
-        let places = group(frame, within, node, &mut seen)?;
+        trail.enter(ListItem::Group(groups.len()));
+        let places = group(frame, within, node, &mut seen, trail)?;
+        trail.leave();
         groups.push(Seq::new(places))?;
     }
     Ok(groups)
@@ -57,6 +66,7 @@ fn group(
     within: &[usize],
     node: &Value,
     seen: &mut Vec<usize>,
+    trail: &mut Trail,
 ) -> Result<Vec<usize>, Rule>
     ensures found { IfOk result (λ places. named_in (frame_of frame.now) within.now (view node.now) ≡ Some places.items) }
     ensures none { IfErr result (λ rule. RefusesGroup (frame_of frame.now) within.now (view node.now) rule) }
@@ -64,11 +74,11 @@ fn group(
     ensures breaks { IfErr result (λ rule. is_of_text rule ≡ true → GroupBreaks rule (frame_of frame.now) within.now seen.old.items (view node.now)) }
 {
     let Some(names) = texts_at(frame.alloc, "of", node)? else {
-        return Err(missing(seen.as_slice()));
+        return Err(missing(seen.as_slice(), trail));
     };
     match places_of(frame, within, names.as_slice(), seen)? {
         Some(places) => Ok(places),
-        None => Err(absent(seen.as_slice())),
+        None => Err(absent(seen.as_slice(), trail)),
     }
 }
 
@@ -93,24 +103,30 @@ fn places_of(
     Ok(Some(places))
 }
 
-/// The rule that a group without names breaks, if no name before it stands twice.
-fn missing(seen: &[usize]) -> Rule
+/// The rule that a group without names breaks, or, of the split around it, that a name before it stands twice.
+fn missing(seen: &[usize], trail: &mut Trail) -> Rule
     ensures of_text { is_of_text result ≡ true }
     ensures twice { IsAgain result Field seen.now }
 {
     match first_again(seen) {
-        Some(_) => Rule::ColumnTwice,
+        Some(_) => {
+            trail.leave();
+            Rule::ColumnTwice
+        }
         None => Rule::Field,
     }
 }
 
-/// The rule that a name of no column breaks, if no name before it stands twice.
-fn absent(seen: &[usize]) -> Rule
+/// The rule that a name of no column breaks, or, of the split around it, that a name before it stands twice.
+fn absent(seen: &[usize], trail: &mut Trail) -> Rule
     ensures of_text { is_of_text result ≡ true }
     ensures twice { IsAgain result ColumnAbsent seen.now }
 {
     match first_again(seen) {
-        Some(_) => Rule::ColumnTwice,
+        Some(_) => {
+            trail.leave();
+            Rule::ColumnTwice
+        }
         None => Rule::ColumnAbsent,
     }
 }

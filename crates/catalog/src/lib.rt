@@ -36,6 +36,7 @@ pub mod path;
 pub mod relation;
 mod sites;
 pub mod split;
+pub mod trail;
 mod tree;
 mod tree_paths;
 mod wheres;

@@ -22,6 +22,7 @@ use crate::fault::Rule;
 use crate::form::{some_items, texts_at};
 use crate::frame::Frame;
 use crate::split::Split;
+use crate::trail::Trail;
 use crate::tree::{Place, SPLITS};
 use meaning::schema::{Column, RelationSchema, Schema};
 use reader::word::is_name;
@@ -94,6 +95,7 @@ pub(crate) fn relation(
     sites: &[Text],
     name: &str,
     node: &Value,
+    trail: &mut Trail,
 ) -> Result<SplitRelation, Rule>
     ensures found { IfOk result (λ relation. IsRelationIn sites.now (name.now, view node.now) (relation_of relation)) }
     ensures valid { IfOk result (λ relation. IsValid (kinds_of relation.schema) (tree_of relation.split)) }
@@ -104,10 +106,10 @@ pub(crate) fn relation(
         return Err(Rule::Name);
     }
     let Some(texts) = texts_at(alloc, "columns", node)? else {
-        return Err(no_columns(alloc, node)?);
+        return Err(no_columns(alloc, node, trail)?);
     };
-    let columns = columns(alloc, texts.as_slice())?;
-    let split = split(alloc, sites, columns.as_slice(), node)?;
+    let columns = columns(alloc, texts.as_slice(), trail)?;
+    let split = split(alloc, sites, columns.as_slice(), node, trail)?;
     let name = Text::copy_of(alloc, name)?;
     let columns = Seq::new(columns);
     let schema = RelationSchema { name, columns };
@@ -115,7 +117,7 @@ pub(crate) fn relation(
 }
 
 /// The rule that a relation breaks whose columns are not all said by texts.
-fn no_columns(alloc: Global, node: &Value) -> Result<Rule, Memory>
+fn no_columns(alloc: Global, node: &Value, trail: &mut Trail) -> Result<Rule, Memory>
     ensures shown { IfOk result (λ rule. is_shown rule ≡ false) }
     ensures breaks { IfOk result (λ rule. is_of_text rule ≡ true → (rule ≡ Field) ⊎ ColumnsBreak rule (listed_texts (view node.now))) }
 {
@@ -123,13 +125,19 @@ fn no_columns(alloc: Global, node: &Value) -> Result<Rule, Memory>
         return Ok(Rule::Field);
     };
     match some_items(listed) {
-        Some(items) => broken_columns(alloc, items),
+        Some(items) => broken_columns(alloc, items, trail),
         None => Ok(Rule::Field),
     }
 }
 
 /// The fragment tree that a node describes for a relation of these columns.
-fn split(alloc: Global, sites: &[Text], columns: &[Column], node: &Value) -> Result<Split, Rule>
+fn split(
+    alloc: Global,
+    sites: &[Text],
+    columns: &[Column],
+    node: &Value,
+    trail: &mut Trail,
+) -> Result<Split, Rule>
     ensures found { IfOk result (λ split. Describes (record { sites = sites.now; columns = columns.now }) 4 [] (columns_beside_key (map (λ column. column.kind) columns.now)) (codes "columns") (view node.now) (tree_of split)) }
     ensures valid { IfOk result (λ split. IsValid (map (λ column. column.kind) columns.now) (tree_of split)) }
     ensures few { IfOk result (λ split. length (paths (tree_of split)) ≤ 32) }
@@ -149,7 +157,7 @@ fn split(alloc: Global, sites: &[Text], columns: &[Column], node: &Value) -> Res
         within: within.as_slice(),
     };
     let mut leaves = 0;
-    root.tree("columns", node, &mut leaves)
+    root.tree("columns", node, &mut leaves, trail)
 }
 
 /// The places of the columns beside the key.

@@ -9,6 +9,7 @@ ghost use Rattle.catalog.specs.Sites as spec;
 ghost use Rattle.catalog.specs.Sites.{AreSites, RefusesSites, IsNextSite, RefusesNextSite, IsSiteFault};
 
 use crate::fault::Rule;
+use crate::trail::{ListItem, Trail};
 use reader::word::is_name;
 use std::alloc::Global;
 use terms::text::Text;
@@ -20,14 +21,16 @@ const SITES: usize = 16;
 const COORDINATOR: &str = "desk";
 
 /// The names of the sites that texts list, each once.
-pub(crate) fn sites(alloc: Global, texts: &[&str]) -> Result<Vec<Text>, Rule>
+pub(crate) fn sites(alloc: Global, texts: &[&str], trail: &mut Trail) -> Result<Vec<Text>, Rule>
     ensures found { IfOk result (λ sites. (sites.items ≡ map (λ text. text.now) texts.now) × AreSites (map (λ text. text.now) texts.now)) }
     ensures none { IfErr result (λ rule. RefusesSites (map (λ text. text.now) texts.now) rule) }
     ensures breaks { IfErr result (λ rule. is_of_text rule ≡ true → SitesBreak rule (map (λ text. text.now) texts.now)) }
 {
     let mut sites = Vec::new(alloc);
     for text in texts {
+        trail.enter(ListItem::Site(sites.len()));
         let site = next_site(alloc, sites.as_slice(), text)?;
+        trail.leave();
         sites.push(site)?;
     }
     if sites.len() > SITES {

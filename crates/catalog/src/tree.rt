@@ -20,6 +20,7 @@ use crate::form::{Form, form_of_node};
 use crate::frame::{Frame, in_order};
 use crate::groups::named_columns;
 use crate::split::{Branch, Group, Split};
+use crate::trail::{ListItem, Trail};
 use crate::wheres::{branch_conds, require_exact};
 use reader::read_conds::one_list_of_conds;
 use std::alloc::Global;
@@ -51,7 +52,13 @@ impl<'a> Place<'a> {
     /// The tree that a node describes here; beside the key of its split the node has the one that its
     /// place asks for. The leaves are counted on.
     #[cycle(nodes)]
-    pub(crate) fn tree(&self, beside: &str, node: &Value, leaves: &mut usize) -> Result<Split, Rule>
+    pub(crate) fn tree(
+        &self,
+        beside: &str,
+        node: &Value,
+        leaves: &mut usize,
+        trail: &mut Trail,
+    ) -> Result<Split, Rule>
         requires way_fits { AllByRecursion (IsCondOf (kinds_in (frame_of self.now.frame.now))) self.now.way.now }
         requires few_leaves { leaves.old ≤ 32 }
         ensures found { IfOk result (λ split. Describes (frame_of self.now.frame.now) self.now.splits self.now.way.now self.now.within.now beside.now (view node.now) (tree_of split)) }
@@ -64,11 +71,11 @@ impl<'a> Place<'a> {
         match form_of_node(beside, node) {
             Form::AtSite(name) => Ok(Split::Leaf(self.site(name, leaves)?)),
             Form::ByRows(nodes) => {
-                let branches = self.by_rows(nodes, leaves)?;
+                let branches = self.by_rows(nodes, leaves, trail)?;
                 Ok(Split::ByRows(branches))
             }
             Form::ByCols(nodes) => {
-                let groups = self.by_cols(nodes, leaves)?;
+                let groups = self.by_cols(nodes, leaves, trail)?;
                 Ok(Split::ByCols(groups))
             }
             Form::Ill => Err(Rule::Field),
@@ -96,7 +103,12 @@ impl<'a> Place<'a> {
 
     /// The branches of a split by rows: the conditions of all first, then the cells, then what is below.
     #[cycle(nodes)]
-    fn by_rows(&self, nodes: &[Value], leaves: &mut usize) -> Result<Vec<Branch>, Rule>
+    fn by_rows(
+        &self,
+        nodes: &[Value],
+        leaves: &mut usize,
+        trail: &mut Trail,
+    ) -> Result<Vec<Branch>, Rule>
         requires way_fits { AllByRecursion (IsCondOf (kinds_in (frame_of self.now.frame.now))) self.now.way.now }
         requires few_leaves { leaves.old ≤ 32 }
         ensures found { IfOk result (λ branches. AreRows (frame_of self.now.frame.now) self.now.splits self.now.way.now self.now.within.now (map view nodes.now) (branches_seen branches.items)) }
@@ -111,7 +123,7 @@ impl<'a> Place<'a> {
         if self.splits == 0 {
             return Err(Rule::Limit);
         }
-        let conds = branch_conds(self.frame, self.within, nodes)?;
+        let conds = branch_conds(self.frame, self.within, nodes, trail)?;
         require_exact(self.frame, self.way, conds.as_slice())?;
         let below = Place {
             frame: self.frame,
@@ -119,7 +131,7 @@ impl<'a> Place<'a> {
             way: self.way,
             within: self.within,
         };
-        below.branches(nodes, conds.as_slice(), leaves)
+        below.branches(nodes, conds.as_slice(), leaves, trail)
     }
 
     /// The branches with these conditions.
@@ -129,6 +141,7 @@ impl<'a> Place<'a> {
         nodes: &[Value],
         conds: &[Conds],
         leaves: &mut usize,
+        trail: &mut Trail,
     ) -> Result<Vec<Branch>, Rule>
         requires way_fits { AllByRecursion (IsCondOf (kinds_in (frame_of self.now.frame.now))) self.now.way.now }
         requires conds_fit { AllByRecursion (λ cs. AllByRecursion (IsCondOf (kinds_in (frame_of self.now.frame.now))) cs) conds.now }
@@ -145,7 +158,9 @@ impl<'a> Place<'a> {
         one_list_of_conds();
         let mut branches = Vec::new(self.frame.alloc);
         for i in 0..nodes.len() {
-            let next = self.branch(&nodes[i], &conds[i], leaves)?;
+            trail.enter(ListItem::Branch(i));
+            let next = self.branch(&nodes[i], &conds[i], leaves, trail)?;
+            trail.leave();
             branches.push(next)?;
         }
         Ok(branches)
@@ -153,7 +168,13 @@ impl<'a> Place<'a> {
 
     /// A branch with these conditions.
     #[cycle(nodes)]
-    fn branch(&self, node: &Value, conds: &Conds, leaves: &mut usize) -> Result<Branch, Rule>
+    fn branch(
+        &self,
+        node: &Value,
+        conds: &Conds,
+        leaves: &mut usize,
+        trail: &mut Trail,
+    ) -> Result<Branch, Rule>
         requires way_fits { AllByRecursion (IsCondOf (kinds_in (frame_of self.now.frame.now))) self.now.way.now }
         requires conds_fit { AllByRecursion (IsCondOf (kinds_in (frame_of self.now.frame.now))) conds.now }
         requires few_leaves { leaves.old ≤ 32 }
@@ -172,14 +193,19 @@ impl<'a> Place<'a> {
             way: longer.as_slice(),
             within: self.within,
         };
-        let split = below.tree("where", node, leaves)?;
+        let split = below.tree("where", node, leaves, trail)?;
         let conds = conds.copy()?;
         Ok(Branch { conds, split })
     }
 
     /// The groups of a split by columns: the names of all first, then what is below.
     #[cycle(nodes)]
-    fn by_cols(&self, nodes: &[Value], leaves: &mut usize) -> Result<Vec<Group>, Rule>
+    fn by_cols(
+        &self,
+        nodes: &[Value],
+        leaves: &mut usize,
+        trail: &mut Trail,
+    ) -> Result<Vec<Group>, Rule>
         requires way_fits { AllByRecursion (IsCondOf (kinds_in (frame_of self.now.frame.now))) self.now.way.now }
         requires few_leaves { leaves.old ≤ 32 }
         ensures found { IfOk result (λ groups. AreCols (frame_of self.now.frame.now) self.now.splits self.now.way.now self.now.within.now (map view nodes.now) (groups_seen groups.items)) }
@@ -192,14 +218,14 @@ impl<'a> Place<'a> {
         if self.splits == 0 {
             return Err(Rule::Limit);
         }
-        let named = named_columns(self.frame, self.within, nodes)?;
+        let named = named_columns(self.frame, self.within, nodes, trail)?;
         let below = Place {
             frame: self.frame,
             splits: self.splits - 1,
             way: self.way,
             within: self.within,
         };
-        below.groups(nodes, named.as_slice(), leaves)
+        below.groups(nodes, named.as_slice(), leaves, trail)
     }
 
     /// The groups that name these columns.
@@ -209,6 +235,7 @@ impl<'a> Place<'a> {
         nodes: &[Value],
         named: &[Seq<usize>],
         leaves: &mut usize,
+        trail: &mut Trail,
     ) -> Result<Vec<Group>, Rule>
         requires way_fits { AllByRecursion (IsCondOf (kinds_in (frame_of self.now.frame.now))) self.now.way.now }
         requires same_length { length named.now ≡ length nodes.now }
@@ -225,7 +252,9 @@ impl<'a> Place<'a> {
         let mut groups = Vec::new(self.frame.alloc);
         for i in 0..nodes.len() {
             let columns = in_order(self.frame.alloc, self.within, named[i].as_slice())?;
-            let next = self.group(&nodes[i], columns, leaves)?;
+            trail.enter(ListItem::Group(i));
+            let next = self.group(&nodes[i], columns, leaves, trail)?;
+            trail.leave();
             groups.push(next)?;
         }
         Ok(groups)
@@ -233,7 +262,13 @@ impl<'a> Place<'a> {
 
     /// A group of these columns.
     #[cycle(nodes)]
-    fn group(&self, node: &Value, columns: Vec<usize>, leaves: &mut usize) -> Result<Group, Rule>
+    fn group(
+        &self,
+        node: &Value,
+        columns: Vec<usize>,
+        leaves: &mut usize,
+        trail: &mut Trail,
+    ) -> Result<Group, Rule>
         requires way_fits { AllByRecursion (IsCondOf (kinds_in (frame_of self.now.frame.now))) self.now.way.now }
         requires few_leaves { leaves.old ≤ 32 }
         ensures found { IfOk result (λ group. Describes (frame_of self.now.frame.now) self.now.splits self.now.way.now columns.items (codes "of") (view node.now) (tree_group group).tree) }
@@ -250,7 +285,7 @@ impl<'a> Place<'a> {
             way: self.way,
             within: columns.as_slice(),
         };
-        let split = below.tree("of", node, leaves)?;
+        let split = below.tree("of", node, leaves, trail)?;
         let columns = Seq::new(columns);
         Ok(Group { columns, split })
     }

@@ -20,6 +20,7 @@ use crate::exact::{Exactness, conds_of_split, try_cells};
 use crate::fault::{Cell, Rule, Shown};
 use crate::form::text_at;
 use crate::frame::Frame;
+use crate::trail::{ListItem, Trail};
 use meaning::schema::Column;
 use reader::read_conds::read_conds;
 use std::alloc::Global;
@@ -36,6 +37,7 @@ pub(crate) fn branch_conds(
     frame: &Frame<'_>,
     within: &[usize],
     nodes: &[toml::Value],
+    trail: &mut Trail,
 ) -> Result<Vec<Conds>, Rule>
     ensures found { IfOk result (λ conds. Each (IsWhere (frame_of frame.now) within.now) (map view nodes.now) conds.items) }
     ensures fit { IfOk result (λ conds. AllByRecursion (λ cs. AllByRecursion (IsCondOf (kinds_in (frame_of frame.now))) cs) conds.items) }
@@ -43,11 +45,16 @@ pub(crate) fn branch_conds(
     ensures breaks { IfErr result (λ rule. is_of_text rule ≡ true → SomeOf (WhereBreaks rule (visible within.now (frame_of frame.now).columns)) (map view nodes.now)) }
 {
     let columns = frame.visible(within)?;
-    conds_on(frame.alloc, columns.as_slice(), nodes)
+    conds_on(frame.alloc, columns.as_slice(), nodes, trail)
 }
 
 /// The conditions of each branch on these columns.
-fn conds_on(alloc: Global, columns: &[Column], nodes: &[toml::Value]) -> Result<Vec<Conds>, Rule>
+fn conds_on(
+    alloc: Global,
+    columns: &[Column],
+    nodes: &[toml::Value],
+    trail: &mut Trail,
+) -> Result<Vec<Conds>, Rule>
     ensures found { IfOk result (λ conds. Each (IsWhereOn columns.now) (map view nodes.now) conds.items) }
     ensures fit { IfOk result (λ conds. AllByRecursion (λ cs. AllByRecursion (IsCondOf (types columns.now)) cs) conds.items) }
     ensures none { IfErr result (λ rule. RefusesConds columns.now (map view nodes.now) rule) }
@@ -55,7 +62,9 @@ fn conds_on(alloc: Global, columns: &[Column], nodes: &[toml::Value]) -> Result<
 {
     let mut conds = Vec::new(alloc);
     for node in nodes {
+        trail.enter(ListItem::Branch(conds.len()));
         conds.push(where_of(alloc, columns, node)?)?;
+        trail.leave();
     }
     Ok(conds)
 }
