@@ -6,7 +6,7 @@ use Rattle.terms.specs.declared.value.Value.{Value}
 use Rattle.catalog.specs.Catalogue.{Catalogue}
 use Rattle.world.specs.Commands.{MovesFollow}
 use Rattle.desk.specs.CatalogueDatabase.{database}
-use Rattle.shell.specs.declared.mode.Mode.TheVariants.{Tabs}
+use Rattle.forms.specs.declared.mode.Mode.TheVariants.{Tabs}
 use Rattle.lines.specs.Reply.{Told, is_refusal, text_of}
 use Rattle.lines.specs.Script.{Reading}
 use Rattle.databases.specs.Client.{Seen}

@@ -10,7 +10,7 @@ use Rattle.protocol.specs.Desk.{Deed}
 use Rattle.desk.specs.Database.{Database, language}
 use Rattle.desk.specs.CatalogueDatabase.{database}
 use Rattle.world.specs.Listed.{IsListed}
-use Rattle.shell.specs.declared.mode.Mode.TheVariants.{Tabs}
+use Rattle.forms.specs.declared.mode.Mode.TheVariants.{Tabs}
 use Rattle.lines.specs.declared.fault.ProgramFault.{ProgramFault}
 use Rattle.lines.specs.declared.reply.Reply.{Reply}
 use Rattle.databases.specs.Client.{AnswersTask, GoesOn, IsAnswered, Seen, standing_of}

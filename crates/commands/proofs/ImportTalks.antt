@@ -3,7 +3,7 @@ use Rattle.std.proofs.Common.{◌∷◌, [], append-nil, false, length, map, ref
 use Rattle.std.specs.Io.KnownBytes.{Appends}
 use Rattle.terms.specs.declared.value.Value.{Value}
 use Rattle.catalog.specs.Catalogue.{Catalogue}
-use Rattle.shell.specs.declared.mode.Mode.TheVariants.{Tabs}
+use Rattle.forms.specs.declared.mode.Mode.TheVariants.{Tabs}
 use Rattle.lines.specs.Reply.{Told}
 use Rattle.lines.specs.Script.{Reading}
 use Rattle.databases.specs.Client.{Seen, Standing, standing_of}

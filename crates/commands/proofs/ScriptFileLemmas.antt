@@ -4,7 +4,7 @@ use Rattle.std.specs.List.{flat_map}
 use Rattle.meaning.specs.Whole.{Relations}
 use Rattle.catalog.specs.Catalogue.{Catalogue}
 use Rattle.desk.specs.Database.{Database}
-use Rattle.shell.specs.declared.mode.Mode.{Mode}
+use Rattle.forms.specs.declared.mode.Mode.{Mode}
 use Rattle.commands.specs.declared.script_file.Answered.{Answered}
 use Rattle.commands.specs.declared.script_file.Answered.TheVariants.{All, Malformed}
 use Rattle.databases.specs.Client.{Seen, Standing, standing_of}

@@ -6,8 +6,8 @@ use Rattle.meaning.specs.declared.schema.RelationSchema.{RelationSchema}
 use Rattle.meaning.specs.Schema.{relation_named}
 use Rattle.catalog.specs.Catalogue.{Catalogue, IsValidCatalogue}
 use Rattle.catalog.specs.FragmentLeaf.{schemas_of}
-use Rattle.shell.specs.declared.mode.Mode.{Mode}
-use Rattle.shell.specs.declared.mode.Mode.TheVariants.{Columns, Csv, Json, Tabs}
+use Rattle.forms.specs.declared.mode.Mode.{Mode}
+use Rattle.forms.specs.declared.mode.Mode.TheVariants.{Columns, Csv, Json, Tabs}
 use Rattle.lines.specs.declared.catalog_file.CatalogFault.{CatalogFault}
 use Rattle.lines.specs.declared.catalog_file.CatalogFault.TheVariants.{Program, Refused}
 use Rattle.lines.specs.CatalogFile.{IsCatalogueFile, RefusesFile}

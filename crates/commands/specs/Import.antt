@@ -10,7 +10,7 @@ use Rattle.desk.specs.Database.{Database, language}
 use Rattle.desk.specs.CatalogueDatabase.{database}
 use Rattle.world.specs.Listed.{IsListed}
 use Rattle.exchange.specs.Insert.{insert_of}
-use Rattle.shell.specs.declared.mode.Mode.TheVariants.{Tabs}
+use Rattle.forms.specs.declared.mode.Mode.TheVariants.{Tabs}
 use Rattle.databases.specs.Client.{GoesOn, Seen, standing_of}
 use Rattle.databases.specs.ListClient.{AnswersTaskOver, GoesOnOver, Happened, list_standing_of}
 use Rattle.lines.specs.Reply.{Answered, Told}

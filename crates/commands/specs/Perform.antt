@@ -4,7 +4,7 @@ use Rattle.std.specs.Borrow.{Bor}
 use Rattle.std.specs.Io.KnownBytes.{Keeps}
 use Rattle.store.specs.declared.fault.StoreFault.{StoreFault}
 use Rattle.world.specs.declared.world.World.{World}
-use Rattle.shell.specs.declared.mode.Mode.{Mode}
+use Rattle.forms.specs.declared.mode.Mode.{Mode}
 use Rattle.lines.specs.declared.outcome.Outcome.{Outcome}
 use Rattle.lines.specs.declared.outcome.Outcome.TheVariants.{Done, Refused, RefusedStatement, Stopped}
 use Rattle.lines.specs.declared.usage.Request.{Request}

@@ -1,6 +1,6 @@
 -- What comes of the lines of a script that is named in a session.
 use Rattle.std.specs.Prelude.{◌≡◌, ℕ, List, Option, None, Some}
-use Rattle.shell.specs.declared.mode.Mode.{Mode}
+use Rattle.forms.specs.declared.mode.Mode.{Mode}
 use Rattle.commands.specs.declared.script_file.Answered.{Answered}
 use Rattle.commands.specs.declared.script_file.Answered.TheVariants.{All, Malformed}
 use Rattle.databases.specs.Client.{Seen}

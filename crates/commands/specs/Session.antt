@@ -12,8 +12,8 @@ use Rattle.world.specs.Executed.{Stands}
 use Rattle.world.specs.Listed.{IsListed}
 use Rattle.world.specs.Runs.{IsSerialRun}
 use Rattle.world.specs.Client.{IsServed}
-use Rattle.shell.specs.declared.mode.Mode.{Mode}
-use Rattle.shell.specs.declared.mode.Mode.TheVariants.{Tabs}
+use Rattle.forms.specs.declared.mode.Mode.{Mode}
+use Rattle.forms.specs.declared.mode.Mode.TheVariants.{Tabs}
 use Rattle.lines.specs.declared.fault.ProgramFault.{ProgramFault}
 use Rattle.databases.specs.declared.catalog_files.ChainFault.{ChainFault}
 use Rattle.databases.specs.declared.catalog_files.ChainFault.TheVariants.{Closed, Program, Refused, Unchained}

@@ -17,7 +17,7 @@ use lines::catalog_file::{CatalogFault, read_catalog};
 use lines::fault::ProgramFault;
 use lines::script::Item;
 use meaning::schema::Schema;
-use shell::mode::Mode;
+use forms::mode::Mode;
 use std::alloc::Global;
 use std::io::{Read, Write};
 use terms::memory::Memory;

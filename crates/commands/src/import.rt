@@ -8,7 +8,7 @@ ghost use Rattle.lines.specs.Reply.{Answered, told_by};
 ghost use Rattle.lines.specs.declared.reply.Reply.{Reply as ReplyNow};
 ghost use Rattle.lines.specs.Script.{Runs};
 ghost use Rattle.commands.specs.declared.import.Imported.TheVariants as imported;
-ghost use Rattle.shell.specs.declared.mode.Mode.TheVariants.{Tabs};
+ghost use Rattle.forms.specs.declared.mode.Mode.TheVariants.{Tabs};
 
 use crate::row_progress::RowProgress;
 use databases::database::Database;
@@ -17,7 +17,7 @@ use lines::fault::ProgramFault;
 use lines::reply::Reply;
 use lines::script::Item;
 use meaning::schema::RelationSchema;
-use shell::mode::Mode;
+use forms::mode::Mode;
 use std::alloc::Global;
 use terms::row::Row;
 

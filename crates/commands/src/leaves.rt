@@ -16,7 +16,7 @@ use databases::solo::run_items;
 use lines::fault::ProgramFault;
 use lines::listing::is_asked;
 use lines::script::Item;
-use shell::mode::Mode;
+use forms::mode::Mode;
 use std::alloc::Global;
 use std::io::Write;
 use terms::memory::Memory;

@@ -24,7 +24,7 @@ use lines::fault::ProgramFault;
 use lines::outcome::Outcome;
 use lines::plan_text::{PlanFault, plan};
 use lines::usage::Request;
-use shell::mode::Mode;
+use forms::mode::Mode;
 use std::alloc::Global;
 use std::io;
 use std::io::{Read, Write};

@@ -11,7 +11,7 @@ use databases::database::Database;
 use databases::solo::{read_script, run_items};
 use lines::fault::ProgramFault;
 use lines::script::{ScriptFault, items};
-use shell::mode::Mode;
+use forms::mode::Mode;
 use std::alloc::{AllocError, Global};
 use std::io::{Read, Write};
 

@@ -22,7 +22,7 @@ use lines::written::write_text;
 use meaning::statement::Statement;
 use reader::command::Command;
 use reader::read::read;
-use shell::mode::Mode;
+use forms::mode::Mode;
 use std::alloc::Global;
 use std::io;
 use std::io::{BufRead, Read, Write};

@@ -12,7 +12,7 @@ use databases::catalog_files::{ChainFault, Source, read_catalogs};
 use databases::database::Database;
 use databases::opener::Opens;
 use lines::fault::ProgramFault;
-use shell::mode::Mode;
+use forms::mode::Mode;
 use std::alloc::Global;
 use std::io;
 use std::io::{BufReader, Read, Write};

@@ -23,7 +23,7 @@ use lines::script::{Item, is_word};
 use lines::written::write_text;
 use meaning::schema::Schema;
 use reader::fault::ReadFault;
-use shell::mode::Mode;
+use forms::mode::Mode;
 use std::alloc::Global;
 use std::io::{Read, Write};
 use terms::memory::Memory;

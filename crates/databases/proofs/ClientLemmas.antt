@@ -21,8 +21,8 @@ use Rattle.world.specs.Client.{IsServed}
 use Rattle.world.specs.Settled.{AreThoseOf, parts_kept, rows_shown}
 use Rattle.world.specs.Stopping.{is_stop}
 use Rattle.world.specs.Replies.{Tells}
-use Rattle.shell.specs.declared.mode.Mode.{Mode}
-use Rattle.shell.specs.Mode.{line_in}
+use Rattle.forms.specs.declared.mode.Mode.{Mode}
+use Rattle.forms.specs.Mode.{line_in}
 use Rattle.lines.specs.declared.reply.Reply as replies
 use Rattle.databases.specs.PlayText.{refused_text}
 use Rattle.lines.specs.Reply.{Answered, Refused, Told, told_by}

@@ -29,8 +29,8 @@ use Rattle.world.specs.Runs.{relations_after}
 use Rattle.world.specs.Settled.{ShowsSerial, after_committed, rows_shown}
 use Rattle.world.specs.Stopping.{is_stop}
 use Rattle.world.proofs.Heard.{map_twice, what_stated, who_committed}
-use Rattle.shell.specs.declared.mode.Mode.{Mode}
-use Rattle.shell.specs.Mode.{line_in}
+use Rattle.forms.specs.declared.mode.Mode.{Mode}
+use Rattle.forms.specs.Mode.{line_in}
 use Rattle.lines.specs.declared.reply.Reply as replies
 use Rattle.databases.specs.PlayText.{refused_text}
 use Rattle.lines.specs.Reply.{Answered, Refused, told_by}

@@ -7,7 +7,7 @@ use Rattle.desk.specs.Database.{Database}
 use Rattle.world.specs.Commands.{MovesFollow}
 use Rattle.world.specs.Listed.{IsListed}
 use Rattle.world.specs.ListServed.{ListHeardIsSerial}
-use Rattle.shell.specs.declared.mode.Mode.{Mode}
+use Rattle.forms.specs.declared.mode.Mode.{Mode}
 use Rattle.lines.specs.Script.{Reading}
 use Rattle.databases.specs.Client.{Seen}
 use Rattle.databases.specs.Origin.{BeginsOver, Origin}

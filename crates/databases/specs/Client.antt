@@ -27,8 +27,8 @@ use Rattle.world.specs.Executed.{Stands}
 use Rattle.world.specs.Client.{IsServed}
 use Rattle.world.specs.Settled.{AreThoseOf, parts_kept, rows_shown}
 use Rattle.world.specs.Stopping.{is_stop}
-use Rattle.shell.specs.declared.mode.Mode.{Mode}
-use Rattle.shell.specs.Mode.{answer_in, line_in}
+use Rattle.forms.specs.declared.mode.Mode.{Mode}
+use Rattle.forms.specs.Mode.{answer_in, line_in}
 use Rattle.lines.specs.declared.fault.ProgramFault.{ProgramFault}
 use Rattle.lines.specs.declared.fault.ProgramFault.TheVariants.{Memory, Store}
 use Rattle.databases.specs.PlayText.{refused_text, reply_text}

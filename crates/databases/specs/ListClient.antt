@@ -20,8 +20,8 @@ use Rattle.world.specs.Machines.{Machines}
 use Rattle.world.specs.Replies.{Tells}
 use Rattle.world.specs.Settled.{ShowsSerial, parts_kept}
 use Rattle.world.specs.Stopping.{is_stop}
-use Rattle.shell.specs.declared.mode.Mode.{Mode}
-use Rattle.shell.specs.Mode.{line_in}
+use Rattle.forms.specs.declared.mode.Mode.{Mode}
+use Rattle.forms.specs.Mode.{line_in}
 use Rattle.databases.specs.PlayText.{refused_text}
 use Rattle.lines.specs.Reply.{Answered, Refused, Told}
 use Rattle.lines.specs.Script.{CountsLeaf as To_count_leaf, DumpsRelation as To_dump_relation, Nothing, Reading, Runs, ShowsLeaf as To_show_leaf, ShowsRelation as To_show_relation, Unreadable}

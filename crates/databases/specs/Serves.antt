@@ -7,7 +7,7 @@ use Rattle.protocol.specs.Desk.{Deed}
 use Rattle.desk.specs.CatalogueDatabase.{database}
 use Rattle.desk.specs.Database.{Database, language}
 use Rattle.world.specs.Listed.{IsListed}
-use Rattle.shell.specs.declared.mode.Mode.{Mode}
+use Rattle.forms.specs.declared.mode.Mode.{Mode}
 use Rattle.lines.specs.declared.fault.ProgramFault.{ProgramFault}
 use Rattle.lines.specs.Reply.{Told}
 use Rattle.lines.specs.Script.{Reading}

@@ -21,9 +21,9 @@ use Rattle.world.specs.Counted.{HaveRefused}
 use Rattle.world.specs.Fault.{is_of_medium}
 use Rattle.world.specs.Machines.{Machines}
 use Rattle.world.specs.Settled.{ShowsSerial, parts_kept}
-use Rattle.shell.specs.declared.mode.Mode.{Mode}
-use Rattle.shell.specs.declared.mode.Mode.TheVariants.{Tabs}
-use Rattle.shell.specs.Mode.{answer_in, line_in}
+use Rattle.forms.specs.declared.mode.Mode.{Mode}
+use Rattle.forms.specs.declared.mode.Mode.TheVariants.{Tabs}
+use Rattle.forms.specs.Mode.{answer_in, line_in}
 use Rattle.lines.specs.Check.{columns_of, leaf_told, names_of_columns}
 use Rattle.databases.specs.PlayText.{Naming, leaf_columns}
 use Rattle.databases.specs.Schedule.{HasRun, IsListReached, SeenWorld, refusal_text}

@@ -14,7 +14,7 @@ use Rattle.world.specs.Executed.{Stands}
 use Rattle.world.specs.Listed.{IsListed}
 use Rattle.world.specs.Runs.{IsSerialRun}
 use Rattle.world.specs.Client.{IsServed}
-use Rattle.shell.specs.declared.mode.Mode.{Mode}
+use Rattle.forms.specs.declared.mode.Mode.{Mode}
 use Rattle.lines.specs.declared.fault.ProgramFault.{ProgramFault}
 use Rattle.lines.specs.declared.fault.ProgramFault.TheVariants.{CannotRead, CannotWrite, Malformed, Memory, ScriptTooLong, Store}
 use Rattle.databases.specs.declared.catalog_files.ChainFault.{ChainFault}

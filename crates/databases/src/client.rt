@@ -2,7 +2,7 @@
 
 ghost use Rattle.std.specs.Prelude.{◌≡◌, ◌++◌, false, IfErr, IfOk, OnOk, string_bytes};
 ghost use Rattle.world.specs.Stopping.{is_stop};
-ghost use Rattle.shell.specs.Mode.{line_in};
+ghost use Rattle.forms.specs.Mode.{line_in};
 ghost use Rattle.databases.specs.Client as client;
 ghost use Rattle.databases.specs.Client.{IsOfClient, seen_over};
 ghost use Rattle.databases.specs.Serves.{CountsParts, Serves, ShowsParts};
@@ -19,7 +19,7 @@ use desk::reply::{Notice, Reply as Heard};
 use lines::fault::ProgramFault;
 use lines::reply::Reply;
 use lines::script::Item;
-use shell::mode::{Mode, put_answer, put_line, show_line};
+use forms::mode::{Mode, put_answer, put_line, show_line};
 use site::fault::SiteFault;
 use std::alloc::Global;
 use store::desk_store::DeskStore;

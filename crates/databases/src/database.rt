@@ -12,7 +12,7 @@ use catalog::catalogue::Catalog;
 use lines::fault::ProgramFault;
 use lines::reply::Reply;
 use lines::script::Item;
-use shell::mode::Mode;
+use forms::mode::Mode;
 use std::alloc::Global;
 use store::desk_store::DeskStore;
 use store::site_store::SiteStore;

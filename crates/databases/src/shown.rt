@@ -19,7 +19,7 @@ use exchange::dump::dump;
 use lines::cast::Cast;
 use lines::check::{columns_of, put_leaf_alone};
 use meaning::answer::Answer;
-use shell::mode::{Mode, show, show_line};
+use forms::mode::{Mode, show, show_line};
 use site::fault::SiteFault;
 use std::alloc::Global;
 use store::desk_store::DeskStore;

@@ -14,7 +14,7 @@ use catalog::chain::Chain;
 use lines::fault::ProgramFault;
 use lines::input::read_up_to;
 use lines::script::{Item, items};
-use shell::mode::Mode;
+use forms::mode::Mode;
 use std::alloc::Global;
 use std::io;
 use std::io::{Read, Write};

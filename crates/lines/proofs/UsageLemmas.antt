@@ -17,8 +17,8 @@ use Rattle.clap.specs.declared.error.kind.ErrorKind.{ErrorKind}
 use Rattle.clap.specs.declared.error.kind.ErrorKind.TheVariants.{ArgumentConflict, InvalidValue, MissingRequiredArgument, OutOfMemory}
 use Rattle.clap.specs.declared.error.Error.{Error}
 use Rattle.clap.specs.Words.{kind_of}
-use Rattle.shell.specs.declared.mode.Mode.{Mode}
-use Rattle.shell.specs.declared.mode.Mode.TheVariants.{Tabs}
+use Rattle.forms.specs.declared.mode.Mode.{Mode}
+use Rattle.forms.specs.declared.mode.Mode.TheVariants.{Tabs}
 use Rattle.lines.specs.Usage.{Asks, AsksDump, flags_of_mode, AsksImport, AsksSessions, AsksSuggest, IsGiven, IsNoCount, no_count, no_memory_for_it, IsMisuse, IsNoNumber, mode_of_flags, no_memory, no_memory_left, no_number, no_script, two_modes, asked, asked_dump, asked_import, asked_sessions, asked_suggest, every_of, retry_of, sites_of, flags_of, is_interactive, is_set, script_of}
 use Rattle.lines.specs.Grammar.{usage}
 

@@ -1,7 +1,7 @@
 -- The shell's own commands: lines that begin with a dot.
 use Rattle.std.specs.Prelude.{ℕ, Bool, true, false, if◌then◌else◌, List, [], bytes_eq, codes, Option, Some, None}
-use Rattle.shell.specs.declared.mode.Mode.{Mode}
-use Rattle.shell.specs.declared.mode.Mode.TheVariants as mode
+use Rattle.forms.specs.declared.mode.Mode.{Mode}
+use Rattle.forms.specs.declared.mode.Mode.TheVariants as mode
 use Rattle.lines.specs.Cut.{cut}
 use Rattle.lines.specs.declared.dot.Word.{Word}
 use Rattle.lines.specs.declared.dot.Word.TheVariants as word

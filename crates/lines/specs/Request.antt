@@ -1,8 +1,8 @@
 -- What a request of the command line names.
 use Rattle.std.specs.Prelude.{ℕ, Bool, false, List, Option, None, bytes_eq, codes}
 use Rattle.std.specs.Borrow.{Bor}
-use Rattle.shell.specs.declared.mode.Mode.{Mode}
-use Rattle.shell.specs.declared.mode.Mode.TheVariants.{Columns, Csv, Json, Tabs}
+use Rattle.forms.specs.declared.mode.Mode.{Mode}
+use Rattle.forms.specs.declared.mode.Mode.TheVariants.{Columns, Csv, Json, Tabs}
 use Rattle.lines.specs.declared.usage.Request.{Request}
 use Rattle.lines.specs.declared.usage.Request.TheVariants.{Solo, Check, Plan, Play}
 

@@ -8,8 +8,8 @@ use Rattle.clap.specs.Matches.{first_value}
 use Rattle.clap.specs.declared.parser.matches.Found.{Found}
 use Rattle.clap.specs.declared.error.kind.ErrorKind.{ErrorKind}
 use Rattle.clap.specs.declared.error.kind.ErrorKind.TheVariants.{ArgumentConflict, DisplayHelp, DisplayVersion, InvalidValue, MissingRequiredArgument, OutOfMemory}
-use Rattle.shell.specs.declared.mode.Mode.{Mode}
-use Rattle.shell.specs.declared.mode.Mode.TheVariants.{Columns, Csv, Json, Tabs}
+use Rattle.forms.specs.declared.mode.Mode.{Mode}
+use Rattle.forms.specs.declared.mode.Mode.TheVariants.{Columns, Csv, Json, Tabs}
 use Rattle.lines.specs.declared.outcome.Status.{Status}
 use Rattle.lines.specs.declared.outcome.Status.TheVariants as status
 use Rattle.lines.specs.Grammar.{usage}

@@ -4,7 +4,7 @@ ghost use Rattle.std.specs.Prelude.{◌≡◌};
 ghost use Rattle.lines.specs.Dot as spec;
 
 use crate::cut::cut;
-use shell::mode::Mode;
+use forms::mode::Mode;
 
 /// The word that a command of the shell begins with.
 #[derive(Clone, Copy)]

@@ -5,7 +5,7 @@ ghost use Rattle.lines.specs.Request.{catalog_of, file_of, is_of_input, is_typed
 ghost use Rattle.lines.specs.Usage.{explains, is_interactive, stores_of};
 
 use crate::usage::{Request, Stores};
-use shell::mode::Mode;
+use forms::mode::Mode;
 
 impl<'a> Request<'a> {
     /// The file that is to be read: a script or a catalogue.

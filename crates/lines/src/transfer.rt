@@ -8,7 +8,7 @@ ghost use Rattle.lines.specs.Usage.{IsNoCount, asked_import, asked_suggest, ever
 use crate::play_script::number;
 use clap::error::ErrorKind;
 use clap::{ArgMatches, Command, Error};
-use shell::mode::Mode;
+use forms::mode::Mode;
 use std::alloc::{AllocError, Global};
 
 /// How many sites a catalogue may be asked to have.

@@ -20,7 +20,7 @@ use crate::play_script::number;
 use crate::transfer::{Dump, Import, Suggest, import_given, suggest_given};
 use clap::error::ErrorKind;
 use clap::{ArgMatches, Command, Error};
-use shell::mode::Mode;
+use forms::mode::Mode;
 use std::alloc::{AllocError, Global};
 use std::convert::AsStr;
 use std::io;

@@ -32,8 +32,8 @@ use Rattle.history.proofs.OneOpened.{none_later}
 use Rattle.terms.specs.declared.value.Value.{Value}
 use Rattle.world.specs.Frame.{StaysAsItIs}
 use Rattle.world.specs.Settled.{ShowsSerial}
-use Rattle.shell.specs.declared.mode.Mode.TheVariants.{Tabs}
-use Rattle.shell.specs.Mode.{line_in}
+use Rattle.forms.specs.declared.mode.Mode.TheVariants.{Tabs}
+use Rattle.forms.specs.Mode.{line_in}
 use Rattle.databases.specs.Shown.{relation_text}
 use Rattle.runs.specs.Run.{Found, IsOneRun, IsVerdict, Prints, ShowSerial, ShowsFound, relation_lines}
 

@@ -39,7 +39,7 @@ use Rattle.history.specs.Weaving.{Rebuilds}
 use Rattle.history.specs.Woven.{IsNotARun, IsSettled, IsWoven, WeavesListRun, WeavesRun}
 use Rattle.wire.specs.declared.fault.CallFault.{CallFault}
 use Rattle.wire.specs.declared.fault.CallFault.TheVariants as call
-use Rattle.shell.specs.declared.mode.Mode.TheVariants.{Tabs}
+use Rattle.forms.specs.declared.mode.Mode.TheVariants.{Tabs}
 use Rattle.databases.specs.declared.catalog_files.ChainFault.{ChainFault}
 use Rattle.databases.specs.declared.catalog_files.ChainFault.TheVariants.{Closed, Program, Refused, Unchained}
 use Rattle.runs.specs.declared.conversation.Conversation.{Conversation}

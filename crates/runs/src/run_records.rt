@@ -25,7 +25,7 @@ use history::weave::{WeaveFault, weave};
 use lines::fault::ProgramFault;
 use lines::same_catalog::is_same;
 use meaning::schema::RelationSchema;
-use shell::mode::{Mode, put_line};
+use forms::mode::{Mode, put_line};
 use std::alloc::Global;
 use store::desk_store::DeskStore;
 use store::site_store::SiteStore;

@@ -1,2 +1,1 @@
 pub mod NearestLemmas
-pub mod SeparatedLemmas

@@ -1,8 +1,7 @@
 //! What the program says to a person: what was wrong with a text, where, and what could stand there.
 //!
-//! Stands on the reader and the catalogue. Public are `sentence`, which explains why a statement's text is
-//! refused, `catalogue`, which does so for a catalogue, `nearest`, the name that a word was likely meant
-//! to be, and `mode`, which shows answers with tabs, in `columns`, as `csv` or as `json`.
+//! Stands on the reader and the catalogue. Public are `sentence`, which explains why a statement's text is refused,
+//! `catalogue`, which does so for a catalogue, and `nearest`, the name that a word was likely meant to be.
 //!
 //! ```text
 //! explain(alloc, &schema, "SELECT nam FROM item", &fault)?
@@ -18,10 +17,6 @@ use std::alloc::AllocError;
 pub type Made<T> = Result<T, AllocError>;
 
 pub mod catalogue;
-pub mod columns;
-pub mod csv;
-pub mod json;
-pub mod mode;
 pub mod nearest;
 mod place;
 pub mod sentence;

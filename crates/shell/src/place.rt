@@ -4,21 +4,17 @@ use crate::Made;
 use crate::nearest::{listed, put_choices};
 use crate::sentence::{explain_over, names_of, unless_memory};
 use catalog::fault::{CatFault, Cell, Rule};
+use catalog::trail::ListItem;
 use meaning::schema::{Column, RelationSchema};
-use reader::fault;
 use reader::print_constant::PrintedConstant;
 use reader::read_conds::read_conds;
-use reader::word::is_name;
 use std::alloc::{AllocError, Global};
 use terms::seq::Seq;
 use terms::text::Text;
 use terms::value::Kind;
 use toml::Value;
 
-/// The most nodes that are looked at.
-const NODES: usize = 65_536;
-
-/// A table of the document: how it is reached from the root, its first key, and the group around it, if it is in one.
+/// A part of the document: how it is reached, what stands there, its first key, and the group around it, if it is in one.
 #[derive(Drop)]
 struct Node<'a> {
     path: String,
@@ -27,18 +23,16 @@ struct Node<'a> {
     group: Option<&'a Value>,
 }
 
-/// What a place is looked for in: the document, or a relation of it, and the rule that is broken.
+/// What a part is of: the document, the relation's table, or again the document, and the fault.
 #[derive(Drop)]
 struct Around<'a> {
     alloc: Global,
     root: &'a Value,
     top: &'a Value,
-    name: &'a str,
-    rule: &'a Rule,
+    fault: &'a CatFault,
 }
 
-/// Puts into an empty text the first place that breaks the fault's rule, in lines; nothing where none is found. Each
-/// node comes before those below it; where the rule has a cell, only those to which its row comes.
+/// Puts what breaks the fault's rule at the place that it names, in lines; nothing where no more is to be said.
 pub(crate) fn put_place(out: &mut String, root: &Value, fault: &CatFault) -> Made<()> {
     let alloc = *out.allocator();
     let name = fault.relation().map_or("", |name| name.as_str());
@@ -47,69 +41,62 @@ pub(crate) fn put_place(out: &mut String, root: &Value, fault: &CatFault) -> Mad
         .and_then(|relations| relations.get(name));
     let (path, own) = match relation {
         Some(_) => (format!(in alloc; "relations.{name}")?, "columns"),
-        None => (format!(in alloc; "the document")?, "sites"),
+        None => (String::new(alloc), "sites"),
     };
-    let (top, rule) = (relation.unwrap_or(root), fault.rule());
+    let top = relation.unwrap_or(root);
     let around = Around {
         alloc,
         root,
         top,
-        name,
-        rule,
+        fault,
     };
-    let first = Node {
+    let mut node = Node {
         path,
         value: top,
         own,
         group: None,
     };
-    let mut waiting = vec![in alloc; first]?;
-    for _ in 0..NODES {
-        let Some(node) = waiting.pop() else {
-            break;
+    for item in fault.trail() {
+        let (key, index) = (item.key(), item.index());
+        let items = items_at(node.value, key);
+        let Some((before, [value, ..])) = items.split_at_checked(index) else {
+            return Ok(());
         };
-        match around.rule {
-            Rule::Gap(cell) | Rule::Overlap(cell) if !meets(&around, node.value, cell)? => continue,
-            _ => put_told(out, &around, &node)?,
-        }
-        if !out.is_empty() {
-            break;
-        }
-        for (split, own) in [("cols", "of"), ("rows", "where")] {
-            for (index, value) in items_at(node.value, split).iter().enumerate().rev() {
-                waiting.push(Node {
-                    path: format!(in alloc; "{}.{split}[{index}]", node.path)?,
-                    value,
-                    own,
-                    group: value.get("of").map_or(node.group, |_| Some(value)),
-                })?;
-            }
-        }
+        let dot = if node.path.is_empty() { "" } else { "." };
+        let path = format!(in alloc; "{}{dot}{key}[{index}]", node.path)?;
+        let own = match item {
+            ListItem::Branch(_) => "where",
+            ListItem::Group(_) => "of",
+            _ => return put_misnamed(out, fault.rule(), path.as_str(), value, before),
+        };
+        node = Node {
+            path,
+            value,
+            own,
+            group: value.get("of").map_or(node.group, |_| Some(value)),
+        };
     }
-    Ok(())
+    put_told(out, &around, &node)
 }
 
 /// Puts what of a node breaks the rule.
 fn put_told(out: &mut String, around: &Around<'_>, node: &Node<'_>) -> Made<()> {
     let alloc = around.alloc;
-    match around.rule {
-        Rule::Name | Rule::Twice | Rule::KeyType | Rule::Field => put_misnamed(out, around, node)?,
-        Rule::ColumnTwice | Rule::ColumnLost => put_groups(out, around, node)?,
-        Rule::Gap(cell) | Rule::Overlap(cell) => put_branches(out, around, node, cell)?,
-        _ => put_conditions(out, around, node)?,
-    }
-    match around.rule {
-        _ if !out.is_empty() => Ok(()),
+    match around.fault.rule() {
+        Rule::Gap(cell) => put_branches(out, around, node, cell, false),
+        Rule::Overlap(cell) => put_branches(out, around, node, cell, true),
+        Rule::ColumnTwice => put_groups(out, around, node, true),
+        Rule::ColumnLost => put_groups(out, around, node, false),
         Rule::Field => put_wrong_key(out, around, node),
         Rule::NoSite => {
             let sites = texts_at(alloc, around.root, "sites")?;
             put_unknown(out, node, "site", sites.as_slice())
         }
-        Rule::ColumnAbsent => {
+        Rule::ColumnAbsent if node.own == "of" => {
             let columns = columns_around(around, None)?;
             put_unknown(out, node, "of", names_of(alloc, &columns, 1)?.as_slice())
         }
-        _ => Ok(()),
+        _ => put_conditions(out, around, node),
     }
 }
 
@@ -158,59 +145,51 @@ fn columns_around(around: &Around<'_>, group: Option<&Value>) -> Made<RelationSc
             }
         }
     }
-    let name = Text::copy_of(alloc, around.name).map_err(|_| AllocError)?;
+    let name = around.fault.relation().map_or("", |name| name.as_str());
+    let name = Text::copy_of(alloc, name).map_err(|_| AllocError)?;
     let columns = Seq::new(columns);
     Ok(RelationSchema { name, columns })
 }
 
-/// Whether a cell's row meets the conditions of a node, which has them if it is a branch.
-fn meets(around: &Around<'_>, node: &Value, cell: &Cell) -> Made<bool> {
+/// Whether a cell's row meets the conditions of a text.
+fn meets(around: &Around<'_>, text: &str, cell: &Cell) -> Made<bool> {
     let table = columns_around(around, None)?;
-    let text = where_of(node).unwrap_or("");
     let read = unless_memory(read_conds(around.alloc, text, table.columns.as_slice()))?;
-    Ok(where_of(node).is_none() || read.is_ok_and(|conds| conds.hold(&cell.row)))
+    Ok(read.is_ok_and(|conds| conds.hold(&cell.row)))
 }
 
-/// The first of the sites, or of a relation's columns, that has no name, one that stands before, or no form.
-fn put_misnamed(out: &mut String, around: &Around<'_>, node: &Node<'_>) -> Made<()> {
-    let (alloc, is_site) = (around.alloc, node.own == "sites");
-    let front = match node.own {
-        "sites" => format!(in alloc; "sites")?,
-        "columns" => format!(in alloc; "{}.columns", node.path)?,
-        _ => return Ok(()),
+/// A site or a column that has no name, one that stands before, or no form.
+fn put_misnamed(
+    out: &mut String,
+    rule: &Rule,
+    path: &str,
+    value: &Value,
+    before: &[Value],
+) -> Made<()> {
+    let Some(text) = value.as_str() else {
+        return write!(out, "{path} has no text\n");
     };
-    let mut names = Vec::new(alloc);
-    for (index, item) in items_at(node.value, node.own).iter().enumerate() {
-        let Some(text) = item.as_str() else {
-            return write!(out, "{front}[{index}] has no text\n");
-        };
-        let (word, kind) = name_and_kind(text);
-        let name = if is_site { text } else { word };
-        let before = names.iter().position(|other| *other == name);
-        let told = match (around.rule, before) {
-            (Rule::Name, _) if is_site && name == "desk" => {
-                format!(in alloc; ", the coordinator's name")?
-            }
-            (Rule::Name, _) if !is_name(name.as_bytes()) => String::new(alloc),
-            (Rule::KeyType, _) => format!(in alloc; "; expected `{name} int`")?,
-            (Rule::Twice, Some(at)) if is_site => format!(in alloc; ", as sites[{at}] has")?,
-            (Rule::Twice, Some(at)) => format!(in alloc; "; columns[{at}] has this name")?,
-            (Rule::Field, _) if !is_site && kind.is_none() => {
-                format!(in alloc; "; a column is a name, one blank, and int or text")?
-            }
-            _ => {
-                names.push(name)?;
-                continue;
-            }
-        };
-        return write!(out, "{front}[{index}] has `{text}`{told}\n");
+    write!(out, "{path} has `{text}`")?;
+    let (name, _) = name_and_kind(text);
+    let mut names = before.iter().filter_map(|other| other.as_str());
+    let first = names.position(|other| name_and_kind(other).0 == name);
+    match (rule, first) {
+        (Rule::Name, _) if text == "desk" => out.push_str(", the coordinator's name")?,
+        (Rule::KeyType, _) => write!(out, "; expected `{name} int`")?,
+        (Rule::Twice, Some(at)) if path.starts_with('s') => write!(out, ", as sites[{at}] has")?,
+        (Rule::Twice, Some(at)) => write!(out, "; columns[{at}] has this name")?,
+        (Rule::Field, _) => out.push_str("; a column is a name, one blank, and int or text")?,
+        _ => {}
     }
-    Ok(())
+    out.push('\n')
 }
 
 /// The first key of a node that is unknown, missing, or one too many, or else what is wrong with its conditions.
 fn put_wrong_key(out: &mut String, around: &Around<'_>, node: &Node<'_>) -> Made<()> {
-    let (path, own) = (&node.path, node.own);
+    let (path, own) = match node.path.as_str() {
+        "" => ("the document", node.own),
+        path => (path, node.own),
+    };
     let keys = match own {
         "sites" => vec![in around.alloc; own, "relations"]?,
         _ => vec![in around.alloc; own, "site", "rows", "cols"]?,
@@ -260,33 +239,23 @@ fn put_unknown(out: &mut String, node: &Node<'_>, key: &str, known: &[&str]) -> 
     Ok(())
 }
 
-/// The fault of a branch's conditions, where the rule stands for it.
+/// The fault of a branch's conditions, if they have one.
 fn put_conditions(out: &mut String, around: &Around<'_>, node: &Node<'_>) -> Made<()> {
     let tables = [columns_around(around, node.group)?];
-    let Some(text) = where_of(node.value) else {
-        return Ok(());
-    };
+    let text = where_of(node.value).unwrap_or("");
     let read = read_conds(around.alloc, text, tables[0].columns.as_slice());
-    let Err(fault) = unless_memory(read)? else {
-        return Ok(());
-    };
-    let stands = match fault.rule() {
-        fault::Rule::NoColumn => matches!(around.rule, Rule::ColumnAbsent),
-        fault::Rule::WrongType => matches!(around.rule, Rule::WrongType),
-        fault::Rule::Limit => matches!(around.rule, Rule::Limit),
-        _ => matches!(around.rule, Rule::Field),
-    };
-    if !stands {
-        return Ok(());
+    match unless_memory(read)? {
+        Err(fault) if where_of(node.value).is_some() => {
+            let told = explain_over(around.alloc, &tables, false, text, &fault)?;
+            write!(out, "{}.where\n{told}", node.path)
+        }
+        _ => Ok(()),
     }
-    let told = explain_over(around.alloc, &tables, false, text, &fault)?;
-    write!(out, "{}.where\n{told}", node.path)
 }
 
 /// The first column that stands twice in the groups of a split, or in none of them.
-fn put_groups(out: &mut String, around: &Around<'_>, node: &Node<'_>) -> Made<()> {
+fn put_groups(out: &mut String, around: &Around<'_>, node: &Node<'_>, is_twice: bool) -> Made<()> {
     let (alloc, path) = (around.alloc, &node.path);
-    let is_twice = matches!(around.rule, Rule::ColumnTwice);
     let mut grouped: Vec<(&str, usize)> = Vec::new(alloc);
     for (index, group) in items_at(node.value, "cols").iter().enumerate() {
         for text in texts_at(alloc, group, "of")?.as_slice() {
@@ -301,7 +270,7 @@ fn put_groups(out: &mut String, around: &Around<'_>, node: &Node<'_>) -> Made<()
     }
     let table = columns_around(around, node.group)?;
     for name in names_of(alloc, &table, 1)?.as_slice() {
-        if !is_twice && !grouped.is_empty() && !grouped.iter().any(|it| it.0 == *name) {
+        if !is_twice && !grouped.iter().any(|it| it.0 == *name) {
             write!(out, "{path}.cols: no group has `{name}`; ")?;
             return out.push_str("add it to the `of` of one of them\n");
         }
@@ -310,24 +279,20 @@ fn put_groups(out: &mut String, around: &Around<'_>, node: &Node<'_>) -> Made<()
 }
 
 /// The branches of a split, where the cell's row meets none of them or several, and what to do.
-fn put_branches(out: &mut String, around: &Around<'_>, node: &Node<'_>, cell: &Cell) -> Made<()> {
-    let mut lines = String::new(around.alloc);
-    let mut takers: usize = 0;
+fn put_branches(
+    out: &mut String,
+    around: &Around<'_>,
+    node: &Node<'_>,
+    cell: &Cell,
+    is_taken: bool,
+) -> Made<()> {
     for branch in items_at(node.value, "rows") {
-        let takes = meets(around, branch, cell)?;
+        let text = where_of(branch).unwrap_or("");
+        let takes = meets(around, text, cell)?;
         let told = if takes { "takes it" } else { "does not" };
-        takers = takers.saturating_add(usize::from(takes));
-        write!(
-            lines,
-            "  where = \"{}\" {told}\n",
-            where_of(branch).unwrap_or("")
-        )?;
+        write!(out, "  where = \"{text}\" {told}\n")?;
     }
-    if lines.is_empty() || takers == 1 {
-        return Ok(());
-    }
-    out.push_str(lines.as_str())?;
-    if let (Rule::Overlap(_), [first, ..]) = (around.rule, cell.shown.as_slice()) {
+    if let (true, [first, ..]) = (is_taken, cell.shown.as_slice()) {
         let (column, value) = (&first.column, PrintedConstant(&first.value));
         out.push_str("to leave it to one of them, add to the others: ")?;
         return write!(out, "AND {column} <> {value}\n");

@@ -1,11 +1,10 @@
 //! The part of a text that is shown around a place, with a caret below it.
 
-ghost use Rattle.std.specs.Prelude.{◌≡◌, ◌++◌, true, length, min, IfOk, OnOk, string_bytes};
+ghost use Rattle.std.specs.Prelude.{◌≡◌, ◌++◌, true, length, min, replicate, IfOk, OnOk, string_bytes};
 ghost use Rattle.std.specs.List.{list_all};
 ghost use Rattle.shell.specs.Lines.{is_plain, is_short, pointed};
 
 use crate::Made;
-use crate::columns::put_repeated;
 use std::alloc::Global;
 use unicode_width::{UnicodeWidthChar, UnicodeWidthStr};
 
@@ -21,8 +20,18 @@ pub(crate) fn put_line(out: &mut String, line: &str, column: usize) -> Made<()>
 {
     out.push_str(line)?;
     out.push('\n')?;
-    put_repeated(out, column, ' ')?;
+    put_spaces(out, column)?;
     out.push_str("^\n")
+}
+
+fn put_spaces(out: &mut String, count: usize) -> Made<()>
+    ensures { OnOk result (string_bytes out.new ≡ string_bytes out.old ++ replicate count 32) }
+{
+    for index in 0..count {
+        let _ = index;
+        out.push(' ')?;
+    }
+    Ok(())
 }
 
 /// A text, or what of it is near an offset, and the column of that place in it.

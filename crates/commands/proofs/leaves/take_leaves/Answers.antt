@@ -1,4 +1,4 @@
-use Rattle.shell.specs.declared.mode.Mode.TheVariants.{Tabs}
+use Rattle.forms.specs.declared.mode.Mode.TheVariants.{Tabs}
 use Rattle.commands.proofs.ScriptFileLemmas.{stretch_talks}
 use Rattle.commands.proofs.leaves.take_leaves.Goals as goal
 

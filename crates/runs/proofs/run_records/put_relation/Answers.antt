@@ -1,7 +1,7 @@
 use Rattle.std.proofs.Common.{◌++◌, ap, rules, string_bytes, ◌∙◌}
 use Rattle.catalog.specs.Relation.{catalogue_of}
-use Rattle.shell.specs.declared.mode.Mode.TheVariants.{Tabs}
-use Rattle.shell.specs.Mode.{line_in}
+use Rattle.forms.specs.declared.mode.Mode.TheVariants.{Tabs}
+use Rattle.forms.specs.Mode.{line_in}
 use Rattle.runs.proofs.RunRecordsLemmas.{prints_one}
 use Rattle.runs.proofs.run_records.put_relation.Goals as goal
 

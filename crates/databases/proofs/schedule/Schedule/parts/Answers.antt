@@ -4,7 +4,7 @@ use Rattle.std.proofs.lemmas.Result.{IfOk-weaker}
 use Rattle.catalog.specs.Catalogue.{Catalogue}
 use Rattle.catalog.specs.Relation.{catalogue_of}
 use Rattle.world.specs.Settled.{parts_kept}
-use Rattle.shell.specs.declared.mode.Mode.TheVariants.{Tabs}
+use Rattle.forms.specs.declared.mode.Mode.TheVariants.{Tabs}
 use Rattle.databases.specs.Schedule.{world_over}
 use Rattle.databases.specs.Shown.{IsShownParts, parts_text, sight_of}
 use Rattle.databases.proofs.ReachedLemmas.{looks_leave}

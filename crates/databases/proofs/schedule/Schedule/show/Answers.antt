@@ -3,7 +3,7 @@ use Rattle.std.proofs.Common.{◌≡◌, ℕ, List, IfOk, ap, inl, option_map, s
 use Rattle.std.proofs.lemmas.Result.{IfOk-weaker}
 use Rattle.catalog.specs.Catalogue.{Catalogue}
 use Rattle.catalog.specs.Relation.{catalogue_of}
-use Rattle.shell.specs.declared.mode.Mode.TheVariants.{Tabs}
+use Rattle.forms.specs.declared.mode.Mode.TheVariants.{Tabs}
 use Rattle.databases.specs.Schedule.{world_over}
 use Rattle.databases.specs.Shown.{IsShownRelation, failed_text, relation_text, sight_of}
 use Rattle.databases.proofs.ReachedLemmas.{looks_leave}

@@ -1,0 +1,7 @@
+use Rattle.std.proofs.Common.{◌≡◌, string_bytes}
+use Rattle.std.specs.List.{flat_map}
+use Rattle.forms.specs.Columns.{aligned}
+use Rattle.forms.proofs.columns.put_row.Given as goal
+
+abbrev pub invariant-loop-width : goal.invariant-loop-width
+invariant-loop-width l = string_bytes l.line ≡ flat_map (λ p. aligned p.0.now p.1.now) l.yielded

@@ -1,6 +1,0 @@
-use Rattle.std.proofs.Common.{◌≡◌, take}
-use Rattle.shell.specs.Columns.{widths_from}
-use Rattle.shell.proofs.columns.widths.Given as goal
-
-abbrev pub invariant-loop-place : goal.invariant-loop-place
-invariant-loop-place l = l.widths.items ≡ widths_from l.rows 0 (take l.place l.names)
