@@ -175,7 +175,7 @@ fn put_misnamed(
     let first = names.position(|other| name_and_kind(other).0 == name);
     match (rule, first) {
         (Rule::Name, _) if text == "desk" => out.push_str(", the coordinator's name")?,
-        (Rule::KeyType, _) => write!(out, "; expected `{name} int`")?,
+        (Rule::KeyType, _) => write!(out, "; expected `{} int`", name_and_kind(text).0)?,
         (Rule::Twice, Some(at)) if path.starts_with('s') => write!(out, ", as sites[{at}] has")?,
         (Rule::Twice, Some(at)) => write!(out, "; columns[{at}] has this name")?,
         (Rule::Field, _) => out.push_str("; a column is a name, one blank, and int or text")?,
