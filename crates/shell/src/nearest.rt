@@ -28,8 +28,20 @@ pub fn nearest<'a>(alloc: Global, word: &str, names: &[&'a str]) -> Made<Option<
 pub(crate) fn listed(alloc: Global, names: &[&str]) -> Made<String> {
     match names {
         [] => String::from_str(alloc, "none"),
-        _ => names.join(alloc, ", "),
+        _ => joined(alloc, names, ", "),
     }
+}
+
+/// Names with a text between each two.
+pub(crate) fn joined(alloc: Global, names: &[&str], between: &str) -> Made<String> {
+    let mut out = String::new(alloc);
+    for (index, name) in names.iter().enumerate() {
+        if index > 0 {
+            out.push_str(between)?;
+        }
+        out.push_str(name)?;
+    }
+    Ok(out)
 }
 
 /// Puts which of these names a word was likely meant to be, between marks, if it was one.

@@ -4,7 +4,7 @@ ghost use Rattle.std.specs.Prelude.{IfOk, string_bytes};
 ghost use Rattle.shell.specs.Lines.{PointsAt};
 
 use crate::Made;
-use crate::nearest::{listed, put_choices, put_meant};
+use crate::nearest::{joined, listed, put_choices, put_meant};
 use crate::window::{line_at, put_line, split_at};
 use meaning::schema::{RelationSchema, Schema};
 use reader::fault::{ReadFault, Rule};
@@ -211,7 +211,7 @@ fn put_wrong_type(out: &mut String, around: &Around<'_>, from: &[&str]) -> Made<
     let target = target(around.before.as_slice(), around.tables.as_slice());
     match (from, around.tables.as_slice()) {
         (["-", digits, ..], _) => write!(out, "expected a text for `{target}`, found -{digits}"),
-        ([found, ..], _) if !found.starts_with(|it: char| it.is_ascii_lowercase()) => {
+        ([found, ..], _) if !matches!(found.as_bytes(), [b'a'..=b'z', ..]) => {
             let is_text = found.starts_with('\'');
             let wanted = if is_text { "an integer" } else { "a text" };
             write!(out, "expected {wanted} for `{target}`, found {found}")
@@ -258,7 +258,7 @@ fn put_unexpected(out: &mut String, around: &Around<'_>) -> Made<()> {
     let (alloc, word) = (*out.allocator(), word_of(around.rest));
     let mut wanted = wanted_behind(alloc, around)?;
     if let Some((last, others)) = wanted.as_slice().split_last() {
-        let others = others.join(alloc, ", ")?;
+        let others = joined(alloc, others, ", ")?;
         let or = if others.is_empty() { "" } else { " or " };
         write!(out, "expected {others}{or}{last}, ")?;
     }
@@ -307,11 +307,12 @@ fn wanted_behind(alloc: Global, around: &Around<'_>) -> Made<Vec<&'static str>> 
 
 /// The digits that a text begins with, or else its letters, digits and underscores.
 fn word_of(text: &str) -> &str {
-    let is_number = text.starts_with(|first: char| first.is_ascii_digit());
-    let behind = text.trim_start_matches(|next: char| {
-        next.is_ascii_digit() || !is_number && (next.is_ascii_alphabetic() || next == '_')
+    let bytes = text.as_bytes();
+    let is_number = bytes.first().is_some_and(|first| first.is_ascii_digit());
+    let end = bytes.iter().position(|next| {
+        !next.is_ascii_digit() && (is_number || !next.is_ascii_alphabetic() && *next != b'_')
     });
-    text.strip_suffix(behind).unwrap_or(text)
+    split_at(text, end.unwrap_or(text.len())).0
 }
 
 /// The names of all relations but these, and which of them a word was likely meant to be.
@@ -348,10 +349,10 @@ fn put_ambiguous(out: &mut String, tables: &[&RelationSchema], name: &str) -> Ma
     let having: Vec<&str> = having.map(|it| it.name.as_str()).collect(alloc)?;
     match having.len() == tables.len() {
         true => out.push_str("each relation has")?,
-        false => write!(out, "{} have", having.join(alloc, " and ")?)?,
+        false => write!(out, "{} have", joined(alloc, having.as_slice(), " and ")?)?,
     }
     let between = format!(in alloc; ".{name} or ")?;
-    let columns = having.join(alloc, between.as_str())?;
+    let columns = joined(alloc, having.as_slice(), between.as_str())?;
     write!(out, " a column `{name}`; write {columns}.{name}")
 }
 
