@@ -13,11 +13,11 @@ ghost use Rattle.forms.specs.declared.mode.Mode.TheVariants.{Tabs};
 use crate::row_progress::RowProgress;
 use databases::database::Database;
 use exchange::insert::insert_text;
+use forms::mode::Mode;
 use lines::fault::ProgramFault;
 use lines::reply::Reply;
 use lines::script::Item;
 use meaning::schema::RelationSchema;
-use forms::mode::Mode;
 use std::alloc::Global;
 use terms::row::Row;
 

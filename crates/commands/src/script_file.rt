@@ -9,9 +9,9 @@ use crate::session_word::{Turn, tell};
 use crate::texts::OpensText;
 use databases::database::Database;
 use databases::solo::{read_script, run_items};
+use forms::mode::Mode;
 use lines::fault::ProgramFault;
 use lines::script::{ScriptFault, items};
-use forms::mode::Mode;
 use std::alloc::{AllocError, Global};
 use std::io::{Read, Write};
 

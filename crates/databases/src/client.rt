@@ -16,10 +16,10 @@ use crate::shown::{
 };
 use desk::refusal::Refusal;
 use desk::reply::{Notice, Reply as Heard};
+use forms::mode::{Mode, put_answer, put_line, show_line};
 use lines::fault::ProgramFault;
 use lines::reply::Reply;
 use lines::script::Item;
-use forms::mode::{Mode, put_answer, put_line, show_line};
 use site::fault::SiteFault;
 use std::alloc::Global;
 use store::desk_store::DeskStore;

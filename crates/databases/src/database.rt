@@ -9,10 +9,10 @@ ghost use Rattle.lines.specs.Script.{task_of};
 
 use crate::client::answer;
 use catalog::catalogue::Catalog;
+use forms::mode::Mode;
 use lines::fault::ProgramFault;
 use lines::reply::Reply;
 use lines::script::Item;
-use forms::mode::Mode;
 use std::alloc::Global;
 use store::desk_store::DeskStore;
 use store::site_store::SiteStore;
