@@ -5,17 +5,9 @@ use Rattle.std.specs.Io.KnownBytes.{Appends, Keeps}
 use Rattle.meaning.specs.Whole.{Relations}
 use Rattle.catalog.specs.Catalogue.{Catalogue}
 use Rattle.catalog.specs.FragmentLeaf.{schemas_of}
-use Rattle.catalog.specs.Relation.{catalogue_of}
 use Rattle.store.specs.declared.fault.StoreFault.{StoreFault}
-use Rattle.desk.specs.declared.desk.Desk.{Desk}
-use Rattle.desk.specs.CatalogueDatabase.{database}
-use Rattle.desk.specs.Database.{Database, language}
-use Rattle.protocol.specs.Desk.{Deed}
-use Rattle.world.specs.declared.event.Entry.{Entry}
+use Rattle.desk.specs.Database.{Database}
 use Rattle.world.specs.declared.world.World.{World}
-use Rattle.world.specs.Listed.{FitsList, StandsIn}
-use Rattle.world.specs.Machines.{AreFit, Machines}
-use Rattle.world.specs.Runs.{IsListRun, IsRun}
 use Rattle.lines.specs.declared.fault.ProgramFault.{ProgramFault}
 use Rattle.lines.specs.declared.fault.ProgramFault.TheVariants.{CannotRead, CannotWrite, Malformed, Memory, ScriptTooLong, Store}
 use Rattle.lines.specs.declared.play_items.Placed.{Placed}
@@ -31,7 +23,7 @@ use Rattle.commands.specs.Play.{EndsOrStops, EndsOrStopsOf, IsSound, Plays, Play
 use Rattle.lines.specs.PlayItems.{items_of}
 use Rattle.lines.specs.PlayLoad.{IsMalformedAt}
 use Rattle.lines.specs.Input.{IsOfOutput}
-use Rattle.databases.specs.Schedule.{HasRun, IsCounted, IsListReached, IsReached, LeavesWorld, SeenWorld, stage_of}
+use Rattle.databases.specs.Schedule.{HasRun, IsCounted, LeavesWorld, SeenWorld, stage_of}
 use Rattle.lines.specs.Script.{lines_of}
 use Rattle.databases.specs.Shown.{IsShownLeaf, IsShownRelation, ShowsOf}
 use Rattle.databases.specs.Solo.{longest}
@@ -110,48 +102,6 @@ module _ {D S : Type 0} (seen : SeenWorld (World D S)) where
   Plays-counted P db whole (item.Show name) before after told plays counted = subst IsCounted (sym plays.0) counted
   Plays-counted P db whole (item.Leaf name) before after told plays counted = subst IsCounted (sym plays.0) counted
   Plays-counted P db whole item.Committed before after told plays counted = subst (λ (schedule : Schedule D S). IsCounted (stage_of schedule)) (sym plays.0) counted
-
--- a catalogue alone has every number
-pub stands_alone : {D : Type 0} (catalogue : Catalogue) (desk : Desk D) → catalogue_of desk.catalog ≡ catalogue → desk.later.items ≡ [] → StandsIn (database catalogue) desk
-stands_alone catalogue desk is none = record { here = sym is; next = rw none tt }
-
--- a run of one catalogue is one of its list, where none comes later, and the other way round
-listed_fits : (db : Database) (machines : Machines) → AreFit db machines → FitsList db machines
-listed_fits db machines fit = record { names = fit.names; leaves = fit.leaves; desk = fit.desk; within = fit.within; sites = fit.sites; still = λ single. fit.still }
-
-fits_single : (db : Database) (machines : Machines) → machines.later ≡ [] → FitsList db machines → AreFit db machines
-fits_single db machines single fit = record { names = fit.names; leaves = fit.leaves; desk = fit.desk; within = fit.within; sites = fit.sites; single = single; still = fit.still single }
-
-pub run_listed : (db : Database) (whole : Relations) (machines : Machines) (entries : List Entry) (past : List (Deed (language db))) → IsRun db whole machines entries past → IsListRun db whole machines entries past
-run_listed db whole machines entries past run = record {
-  version = run.version;
-  opening = run.opening;
-  opens = run.opens;
-  events = run.events;
-  are = run.are;
-  is = run.is;
-  placed = run.placed;
-  explained = run.explained;
-  tells = run.tells;
-  fit = listed_fits db machines run.fit;
-}
-
-run_single : (db : Database) (whole : Relations) (machines : Machines) (entries : List Entry) (past : List (Deed (language db))) → machines.later ≡ [] → IsListRun db whole machines entries past → IsRun db whole machines entries past
-run_single db whole machines entries past single run = record {
-  version = run.version;
-  opening = run.opening;
-  opens = run.opens;
-  events = run.events;
-  are = run.are;
-  is = run.is;
-  placed = run.placed;
-  explained = run.explained;
-  tells = run.tells;
-  fit = fits_single db machines single run.fit;
-}
-
-pub reached_single : (catalogue : Catalogue) (whole : Relations) (machines : Machines) (entries : List Entry) → machines.later ≡ [] → IsListReached (database catalogue) whole machines entries → IsReached catalogue whole machines entries
-reached_single catalogue whole machines entries single reached = (reached.0, run_single (database catalogue) whole machines entries reached.0 single reached.1)
 
 Keeps-same : (known : Option (List ℕ)) → Keeps known known
 Keeps-same None = tt

@@ -25,7 +25,7 @@ use Rattle.lines.specs.Cast.{name_of}
 use Rattle.databases.specs.Delivering.{Delivers, DeliversAll}
 use Rattle.lines.specs.PlayItems.{items_of}
 use Rattle.lines.specs.PlayLoad.{IsLoaded, IsMalformedAt}
-use Rattle.databases.specs.Schedule.{Asks, HappensAt, HasRun, IsListReached, IsReached, RestartsDesk, SeenWorld, Stage, stage_of}
+use Rattle.databases.specs.Schedule.{Asks, HappensAt, HasRun, IsReached, RestartsDesk, SeenWorld, Stage, stage_of}
 use Rattle.lines.specs.Script.{lines_of}
 use Rattle.databases.specs.Shown.{IsShownLeaf, IsShownRelation, ShownUnlessRefused, names_text, sight_of}
 use Rattle.databases.specs.Solo.{longest}
@@ -117,7 +117,7 @@ module _ {D S : Type 0} (seen : SeenWorld (World D S)) where
     pub catalog : (stage_of opening).catalogue ≡ catalogue
     pub last : (stage_of opening).later ≡ []
     pub plays : PlaysAll (seen.is_clean ended.world) (database catalogue) whole items opening ended told
-    pub run : seen.is_clean ended.world → IsReached catalogue whole (seen.machines ended.world) (seen.entries ended.world)
+    pub run : seen.is_clean ended.world → IsReached (database catalogue) whole (seen.machines ended.world) (seen.entries ended.world)
     pub serial : seen.is_clean ended.world → IsSerialRun (database catalogue) whole (seen.machines ended.world) (seen.entries ended.world)
 
   -- Items were played to their end over a world of a chain of catalogues in which nothing had happened, and all that is told of them was written. Those from one of the catalogues on were in force and came
@@ -133,7 +133,7 @@ module _ {D S : Type 0} (seen : SeenWorld (World D S)) where
     pub told : List ℕ
     pub plays : PlaysAll (seen.is_clean ended.world) (databases first rest) whole items opening ended told
     pub stands : seen.is_clean ended.world → seen.stands (databases first rest) ended.world
-    pub run : seen.is_clean ended.world → IsListReached (databases first rest) whole (seen.machines ended.world) (seen.entries ended.world)
+    pub run : seen.is_clean ended.world → IsReached (databases first rest) whole (seen.machines ended.world) (seen.entries ended.world)
     pub serial : seen.is_clean ended.world → IsSerialRun (databases first rest) whole (seen.machines ended.world) (seen.entries ended.world)
     pub alone : rest ≡ [] → IsPlayedAlone first whole items opening ended told
     pub said : Appends old new told

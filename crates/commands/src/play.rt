@@ -28,9 +28,7 @@ use store::desk_store::DeskStore;
 use store::site_store::SiteStore;
 use terms::memory::Memory;
 use world::chain::first_of;
-use world::laws::{
-    chain_is_listed, database_is_of_catalogue, language_is_lawful, list_runs_are_serial,
-};
+use world::laws::{catalogue_is_listed, chain_is_listed, runs_are_serial};
 
 /// Plays the script that `input` gives, which `file` names in a fault, over the catalogue that `catalog` gives, which
 /// `catalog_file` names, and those that come next. The catalogues are read first.
@@ -149,10 +147,9 @@ fn play_over<'a, D: DeskStore + Drop, S: SiteStore + Drop, O: OpensWorld<D, S>, 
     ensures err { IfErr result (StopsItems O.fails_for (W.contents output.old) (W.contents output.new)) }
 {
     let first = first_of(chain);
-    database_is_of_catalogue(first);
-    language_is_lawful(first);
+    catalogue_is_listed(first);
     chain_is_listed(chain);
-    list_runs_are_serial();
+    runs_are_serial();
     let world = opener.open(alloc, chain, whole)?;
     let mut schedule = Schedule::new(alloc, world);
     let done = play_items(alloc, &mut schedule, items, output);

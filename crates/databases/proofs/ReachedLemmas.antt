@@ -8,15 +8,14 @@ use Rattle.world.specs.declared.event.Entry.{Entry}
 use Rattle.world.specs.declared.event.Event.{Event}
 use Rattle.world.specs.declared.fault.Fault.{Fault}
 use Rattle.world.specs.declared.world.World.{World}
-use Rattle.desk.specs.CatalogueDatabase.{database}
 use Rattle.desk.specs.Database.{Database}
 use Rattle.world.specs.Contents.{OfStores, counted, held}
 use Rattle.world.specs.Frame.{LeavesMachines, StaysAsItIs, StaysInForce}
 use Rattle.world.specs.Machines.{Machines}
 use Rattle.world.specs.Steps.{Steps}
-use Rattle.world.proofs.Leaves.{ends_alike, ends_map, ends_same, ends_then}
+use Rattle.world.proofs.Leaves.{ends_alike, ends_follow, ends_map, ends_same, ends_then}
 use Rattle.databases.specs.declared.schedule.Schedule.{Schedule}
-use Rattle.databases.specs.Schedule.{HasRun, IsListReached, LeavesWorld, SeenWorld, world_over}
+use Rattle.databases.specs.Schedule.{HasRun, IsReached, LeavesWorld, SeenWorld, world_over}
 
 -- the same schedule has the same world
 pub same_world : {D S : Type 0} (old new : Schedule D S) → new ≡ old → new.world ≡ old.world
@@ -51,22 +50,22 @@ module _ {D S : Type 0} (desk_is_clean : D → Type 0) (site_is_clean : S → Ty
     listed = has.listed;
     sound = sound;
     stands = stands_still db old new same has.stands;
-    reached = subst (λ (machines : Machines). IsListReached db whole machines (seen.entries new)) (sym machines)
-        (subst (λ (entries : List Entry). IsListReached db whole (seen.machines old) entries) (sym entries) has.reached);
+    reached = subst (λ (machines : Machines). IsReached db whole machines (seen.entries new)) (sym machines)
+        (subst (λ (entries : List Entry). IsReached db whole (seen.machines old) entries) (sym entries) has.reached);
   }
 
   -- an event of a world, by what is answered
   abbrev StepsTo : Event → Result Entry Fault → World D S → World D S → Type 0
-  StepsTo what answer old new = Steps (database (catalogue_of old.machines.desk.catalog)) (OfStores desk_is_clean site_is_clean) (OfStores desk_is_sound site_is_sound) (held of_desk of_site) (counted of_desk of_site desk_refused site_refused) what answer old new
+  StepsTo what answer old new = Steps (OfStores desk_is_clean site_is_clean) (OfStores desk_is_sound site_is_sound) (held of_desk of_site) (counted of_desk of_site desk_refused site_refused) what answer old new
 
   runs_on : (what : Event) (answer : Result Entry Fault) (old new : World D S) → StepsTo what answer old new → (db : Database) (whole : Relations) → seen.is_clean new → HasRun seen db whole old → HasRun seen db whole new
   runs_on what (Ok entry) old new stepped db whole clean has =
-      let on = stepped.lists db whole has.reached.0 has.listed has.stands clean has.sound has.reached.1 in
+      let on = stepped.goes_on db whole has.reached.0 has.listed has.stands clean has.sound has.reached.1 in
       record { listed = has.listed; sound = stepped.sound clean has.sound; stands = on.1; reached = (has.reached.0 ++ on.0.0.deeds, on.0.0.run_on) }
   runs_on what (Err told) old new stepped db whole clean has = stays db whole old new stepped.stays (stepped.sound clean has.sound) (stepped.err clean has.sound) stepped.same has
 
   pub steps_leave : (what : Event) (answer : Result Entry Fault) (old new : World D S) → StepsTo what answer old new → LeavesWorld seen old new
-  steps_leave what answer old new stepped = record { clean = stepped.clean; runs = runs_on what answer old new stepped; catalogs = ends_map catalogue_of stepped.catalogs }
+  steps_leave what answer old new stepped = record { clean = stepped.clean; runs = runs_on what answer old new stepped; catalogs = ends_map catalogue_of (ends_follow old.machines new.machines stepped.follows) }
 
   -- what is kept is looked at
   pub looks_leave : (old new : World D S) → LeavesMachines desk_is_clean site_is_clean desk_is_sound site_is_sound desk_refused site_refused old.machines new.machines →

@@ -23,7 +23,6 @@ use Rattle.world.specs.declared.event.Event.TheVariants as event
 use Rattle.world.specs.declared.fault.Fault.{Fault}
 use Rattle.world.specs.declared.fault.Fault.TheVariants as fault
 use Rattle.world.specs.declared.world.World.{World}
-use Rattle.desk.specs.CatalogueDatabase.{database}
 use Rattle.desk.specs.Database.{Database}
 use Rattle.world.specs.Contents.{OfStores, held}
 use Rattle.world.specs.Counted.{counts}
@@ -32,7 +31,7 @@ use Rattle.world.specs.Frame.{EndsIn}
 use Rattle.world.specs.Listed.{IsListed, StandsIn}
 use Rattle.world.specs.Machines.{Machines}
 use Rattle.world.specs.Posted.{letters_in}
-use Rattle.world.specs.Runs.{IsListRun, IsRun, entry_of}
+use Rattle.world.specs.Runs.{IsRun, entry_of}
 use Rattle.lines.specs.declared.cast.Cast.{Cast}
 use Rattle.lines.specs.declared.play_script.Ask.{Ask}
 use Rattle.lines.specs.declared.play_script.Ask.TheVariants as ask
@@ -59,13 +58,9 @@ stage_of schedule = record {
   later = map catalogue_of schedule.world.machines.desk.later.items;
 }
 
--- a run over whole relations has these entries, and leads to these machines
-abbrev pub IsReached : Catalogue → Relations → Machines → List Entry → Type 0
-IsReached catalogue whole machines entries = (past : _) × IsRun (database catalogue) whole machines entries past
-
--- so a run over a list of catalogues, whichever of them came into force
-abbrev pub IsListReached : Database → Relations → Machines → List Entry → Type 0
-IsListReached db whole machines entries = (past : _) × IsListRun db whole machines entries past
+-- a run over whole relations and a list of catalogues, whichever of them came into force, has these entries, and leads to these machines
+abbrev pub IsReached : Database → Relations → Machines → List Entry → Type 0
+IsReached db whole machines entries = (past : _) × IsRun db whole machines entries past
 
 -- how a world is seen: whether its stores gave back what was written, and keep it as stores leave it; its machines, and how often the medium of each store has refused; what has
 -- happened in it; its catalogue in force, and whether a database has that one, and those that come later, under their numbers
@@ -95,7 +90,7 @@ pub record HasRun {W : Type 0} (seen : SeenWorld W) (db : Database) (whole : Rel
   pub listed : IsListed db
   pub sound : seen.is_sound world
   pub stands : seen.stands db world
-  pub reached : IsListReached db whole (seen.machines world) (seen.entries world)
+  pub reached : IsReached db whole (seen.machines world) (seen.entries world)
 
 -- What a call leaves of a world, whatever it answers: stores that are clean now were clean, and where they are a run that had led to it goes on to it, under the catalogue of the number that it has
 -- come to; no catalogue is lost: the one in force and those that come after it are what is left of those before

@@ -26,7 +26,7 @@ use Rattle.forms.specs.declared.mode.Mode.TheVariants.{Tabs}
 use Rattle.forms.specs.Mode.{answer_in, line_in}
 use Rattle.lines.specs.Check.{columns_of, leaf_told, names_of_columns}
 use Rattle.databases.specs.PlayText.{Naming, leaf_columns}
-use Rattle.databases.specs.Schedule.{HasRun, IsListReached, SeenWorld, refusal_text}
+use Rattle.databases.specs.Schedule.{HasRun, IsReached, SeenWorld, refusal_text}
 
 -- rows under the names of their columns
 abbrev pub rows_text : Mode → List (List ℕ) → List (List Value) → List ℕ
@@ -103,7 +103,7 @@ IsShownRelation sight name text =
 -- the same of a leaf: the parts that are kept of it where the run leads to
 abbrev pub IsShownParts : Sight → List ℕ → Leaf → List ℕ → Type 0
 IsShownParts sight name leaf text =
-    IsListReached sight.db sight.whole sight.machines sight.entries × (text ≡ parts_text Tabs sight.catalogue name leaf (parts_kept sight.db sight.machines leaf))
+    IsReached sight.db sight.whole sight.machines sight.entries × (text ≡ parts_text Tabs sight.catalogue name leaf (parts_kept sight.db sight.machines leaf))
 
 abbrev pub IsShownAs : Sight → List ℕ → Option Leaf → List ℕ → Type 0
 IsShownAs sight name None text = text ≡ no_leaf_text Tabs name

@@ -4,14 +4,10 @@ pub mod SiteCells
 pub mod DeskMachine
 pub mod Following
 pub mod DeskCells
-pub mod OneOpened
-pub mod Unsplit
 pub mod Opens
 pub mod Events
-pub mod ListEvents
 pub mod Turns
 pub mod Law
-pub mod ListLaw
 pub mod RowPlaces
 pub mod Merging
 pub mod MapSteps
@@ -22,3 +18,4 @@ pub mod Heard
 pub mod Looking
 pub mod Taken
 pub mod Woven
+pub mod Standing

@@ -20,13 +20,12 @@ use Rattle.site.proofs.Lawful.{local_lawful}
 use Rattle.desk.specs.Database.{Database, IsPlace, statements}
 use Rattle.desk.specs.Place.{Place}
 use Rattle.world.specs.declared.fault.Fault.{Fault}
-use Rattle.world.specs.Machines.{Machines, world_of}
-use Rattle.world.specs.Placed.{Opens}
-use Rattle.world.specs.Runs.{IsListRun, IsRun}
+use Rattle.world.specs.Machines.{Machines}
+use Rattle.world.specs.Runs.{IsRun}
 use Rattle.world.specs.Sites.{states_of}
 use Rattle.world.specs.Start.{IsAtRest}
 use Rattle.world.proofs.ListIsBase.{list_run}
-use Rattle.world.proofs.Openings.{list_at_rest, opens_at_rest}
+use Rattle.world.proofs.Openings.{list_at_rest}
 use Rattle.world.proofs.Seating.{HasItsLeaves, name_is}
 use Rattle.history.specs.declared.entry.Entry.{Entry}
 use Rattle.history.specs.DeskHistory.{DeskState}
@@ -50,10 +49,6 @@ site_stays first (entry ∷ entries) last so =
 -- the machines of a coordinator and of sites, with the catalogues that come later
 abbrev pub machines_over : DeskState → List Seat → List (List (List ℕ) × List SplitRelation) → Machines
 machines_over desk seats later = record { desk = desk.content; table = desk.table; seats = seats; later = later; refused = [] }
-
--- so where none comes later
-abbrev pub machines_of : DeskState → List Seat → Machines
-machines_of desk seats = machines_over desk seats []
 
 -- each of these sites is recorded
 abbrev pub AllRecorded : List SitePast → Type 0
@@ -105,36 +100,9 @@ first_keeps db (past ∷ pasts) all place =
 
 -- ---- the machines as they were first
 module _ (db : Database) (whole : Relations) (opening : DeskKept) (entries : List Entry) (last : DeskState) (pasts : List SitePast) (recorded : AreRecorded db opening entries last pasts) (rebuilds : Rebuilds db opening.version whole pasts) where
-  abbrev pub first_machines : Machines
-  first_machines = machines_of recorded.desk.first (firsts pasts recorded.sites)
-
-  -- they are an opening
-  opens : Opens db whole first_machines
-  opens =
-      let desk = recorded.desk in
-      let version : opening.version ≡ desk.first.table.version = desk.lists.catalogue ∙ sym desk.rises.fits.version in
-      opens_at_rest db whole first_machines rebuilds.fits (first_names pasts recorded.sites ∙ recorded.names) (first_leaves db pasts recorded.sites recorded.leaves) (first_rests pasts recorded.sites recorded.prepared)
-      (λ place. first_keeps db pasts recorded.sites place ∙ rebuilds.content place ∙ ap (λ (n : ℕ). db.content n place whole) version)
-      desk.rises (λ txn. sym (desk.lists.rows txn) ∙ ap (λ rows. option_map by_site (voters_in txn rows)) recorded.decided) refl
-
-  -- nothing has happened to them yet
-  pub first_run : IsRun db whole first_machines [] []
-  first_run = record {
-    version = first_machines.table.version;
-    opening = world_of db first_machines [] [];
-    opens = opens.opening;
-    events = [];
-    are = tt;
-    is = refl;
-    placed = tt;
-    explained = tt;
-    tells = record { phased = refl; stated = tt; heard = refl };
-    fit = opens.fit;
-  }
-
-  -- and so where catalogues come later
-  pub first_list_run : (later : List (List (List ℕ) × List SplitRelation)) → IsListRun db whole (machines_over recorded.desk.first (firsts pasts recorded.sites) later) [] []
-  first_list_run later =
+  -- they are an opening, and nothing has happened to them yet
+  pub first_run : (later : List (List (List ℕ) × List SplitRelation)) → IsRun db whole (machines_over recorded.desk.first (firsts pasts recorded.sites) later) [] []
+  first_run later =
       let desk = recorded.desk in
       let machines = machines_over desk.first (firsts pasts recorded.sites) later in
       let version : opening.version ≡ desk.first.table.version = desk.lists.catalogue ∙ sym desk.rises.fits.version in

@@ -1,7 +1,6 @@
 -- What the weaving makes of its parts.
 use Rattle.std.proofs.Common.{◌≡◌, refl, sym, ap, ◌∙◌, subst, ℕ, List, [], ◌∷◌, map}
 use Rattle.std.specs.List.{AllByRecursion}
-use Rattle.meaning.specs.Whole.{FitsSchema, Relations}
 use Rattle.catalog.specs.declared.relation.SplitRelation.{SplitRelation}
 use Rattle.catalog.specs.Catalogue.{Catalogue}
 use Rattle.catalog.specs.Formed.{IsFormed}
@@ -12,7 +11,6 @@ use Rattle.store.specs.declared.prepared.SiteKept.{SiteKept}
 use Rattle.store.specs.DeskContent.{DeskContent}
 use Rattle.store.specs.SiteContent.{SiteContent}
 use Rattle.site.specs.Seat.{Seat, seat_from}
-use Rattle.desk.specs.CatalogueDatabase.{database}
 use Rattle.desk.specs.Database.{Database}
 use Rattle.world.specs.declared.event.Entry as world
 use Rattle.world.specs.declared.event.Event.{Event}
@@ -20,9 +18,7 @@ use Rattle.world.specs.declared.machines.Machines.{Machines}
 use Rattle.world.specs.Contents.{OfStores}
 use Rattle.world.specs.Leaves.{known_leaves}
 use Rattle.world.specs.Listed.{IsListed}
-use Rattle.world.specs.Placed.{IsPlaced}
-use Rattle.world.proofs.DatabaseIsOpened.{placed}
-use Rattle.world.proofs.Openings.{has_its, has_leaf}
+use Rattle.world.proofs.Openings.{has_leaf}
 use Rattle.history.specs.declared.brought.Unbrought as unbrought
 use Rattle.history.specs.declared.brought.Unbrought.TheVariants as brought
 use Rattle.history.specs.declared.entry.Entry.{Entry}
@@ -31,12 +27,12 @@ use Rattle.history.specs.declared.merge.Unmerged.TheVariants as merged
 use Rattle.history.specs.declared.records.Past.{Past}
 use Rattle.history.specs.declared.told.Told.{Told}
 use Rattle.history.specs.declared.weave.WeaveFault.TheVariants as fault
-use Rattle.history.specs.Catalogues.{HadOne, HasFrom, IsOfCatalogues}
+use Rattle.history.specs.Catalogues.{IsOfCatalogues}
 use Rattle.history.specs.DeskHistory.{DeskReplays, desk_from}
 use Rattle.history.specs.Records.{AreRecords, AreSitesOf, pasts_in}
 use Rattle.history.specs.Told.{AllStand}
-use Rattle.history.specs.Weaving.{AreRecorded, HasLeaves, ListsWovenAreRuns, ListsWovenAreSerial, SitePast, WovenAreRuns, WovenAreSerial}
-use Rattle.history.specs.Woven.{ArePutTogether, IsSettled, WeavesListRun, WeavesRun, not_brought, out_of_order}
+use Rattle.history.specs.Weaving.{AreRecorded, HasLeaves, SitePast, WovenAreRuns, WovenAreSerial}
+use Rattle.history.specs.Woven.{ArePutTogether, IsSettled, WeavesRun, not_brought, out_of_order}
 
 -- ---- faults
 pub ordered_is : (why : unmerged.Unmerged) (k : ℕ) → out_of_order why ≡ fault.NotARun k → why ≡ merged.OutOfOrder k
@@ -65,53 +61,7 @@ module _ (c : Catalogue) (formed : IsFormed c) where
   sites_named (name ∷ names) [] are = absurd are
   sites_named (name ∷ names) (seat ∷ seats) are = let later = sites_named names seats are.1 in λ i. are.0.0 i ∷ later i
 
-  -- and its leaves
-  sites_have : (n : ℕ) (whole : Relations) → IsPlaced (database c) n c whole → (names : List (List ℕ)) (seats : List Seat) → AreSitesOf c names seats → AllByRecursion (HasLeaves (database c)) seats
-  sites_have n whole places [] [] are = tt
-  sites_have n whole places [] (seat ∷ seats) are = absurd are
-  sites_have n whole places (name ∷ names) [] are = absurd are
-  sites_have n whole places (name ∷ names) (seat ∷ seats) are = (has_its (database c) n c whole seat formed places are.0.1, sites_have n whole places names seats are.1)
-
-module _ {D S : Type 0} (desk_is_clean desk_is_sound : D → Type 0) (desk_content : D → DeskContent) (site_is_clean site_is_sound : S → Type 0) (site_content : S → SiteContent)
-    (machines : Machines D S) (catalogs : List (List (List ℕ) × List SplitRelation)) (opening : DeskKept) (entries : List Entry) (pasts : List Past) (one : HadOne catalogs machines.desk.catalog)
-    (records : AreRecords desk_is_clean desk_is_sound desk_content site_is_clean site_is_sound site_content machines catalogs opening entries pasts)
-    (clean : OfStores desk_is_clean site_is_clean machines) (settled : IsSettled opening (map (λ (past : Past). past.opening) pasts)) where
-  -- records of clean stores, at whose opening nothing was decided or in doubt, are those of a run
-  recorded_in : (whole : Relations) → FitsSchema (schemas_of (catalogue_of machines.desk.catalog)) whole → AreRecorded (database (catalogue_of machines.desk.catalog)) opening entries (desk_from desk_content machines.desk) (pasts_in site_content machines.sites.items pasts)
-  recorded_in whole fits =
-      let c = catalogue_of machines.desk.catalog in
-      let formed : IsFormed c = records.base.of_catalogue.formed 0 in
-      let all = pasts_in site_content machines.sites.items pasts in
-      let are = records.sites clean.1 in
-      let last : SitePast → Seat = λ past. past.last in
-      let have = sites_have c formed opening.version whole (placed c opening.version whole formed fits) c.sites (map (seat_from site_content) machines.sites.items) are in
-      record {
-        desk = (records.desk.replays clean.0 (database c) (record { base = records.base; has = subst (HasFrom (database c) opening.version) (sym one) (refl, tt) })).recorded;
-        sites = records.recorded clean.1;
-        names = sym (map_of_map last (λ (seat : Seat). seat.name) all) ∙ ap (map (λ (seat : Seat). seat.name)) records.lasts ∙ sites_named c formed c.sites (map (seat_from site_content) machines.sites.items) are;
-        leaves = all_of_map last (HasLeaves (database c)) all (subst (AllByRecursion (HasLeaves (database c))) (sym records.lasts) have);
-        decided = settled.0;
-        prepared = all_of_map (λ (past : SitePast). past.opening) (λ (kept : SiteKept). kept.rows.prepared ≡ []) all (subst (AllByRecursion (λ (kept : SiteKept). kept.rows.prepared ≡ [])) (sym records.openings) settled.1);
-      }
-
-  -- so what was put together of them is a run
-  pub weaves_run : WovenAreRuns (database (catalogue_of machines.desk.catalog)) → WovenAreSerial (database (catalogue_of machines.desk.catalog)) → (lists : List (List Told)) (happened : List world.Entry) (events : List Event) →
-      ArePutTogether machines.desk.catalog.0 (entries ∷ map (λ (past : Past). past.entries.items) pasts) happened → events ≡ map (λ (entry : world.Entry). entry.event) happened → AllStand (schemas_of (catalogue_of machines.desk.catalog)) entries lists →
-      WeavesRun (database (catalogue_of machines.desk.catalog)) opening entries (desk_from desk_content machines.desk) (pasts_in site_content machines.sites.items pasts) lists events
-  weaves_run runs serial lists happened events put told stand =
-      let last = desk_from desk_content machines.desk in
-      let all = pasts_in site_content machines.sites.items pasts in
-      let own : ArePutTogether machines.desk.catalog.0 (entries ∷ map (λ (past : SitePast). past.entries) all) happened =
-      subst (λ others. ArePutTogether machines.desk.catalog.0 (entries ∷ others) happened) (sym records.histories) put in
-      record {
-        woven = record { happened = happened; put = own; told = told; stand = stand };
-        run = λ whole rebuilds.
-            let recorded = recorded_in whole rebuilds.fits in
-            let ran = runs whole opening entries last all own.acts happened recorded rebuilds own.merged own.have in
-            record { past = ran.0; run = ran.1; serial = serial whole opening entries last all own.acts happened recorded rebuilds own.merged own.have };
-      }
-
--- ---- so over a list of catalogues
+-- ---- records of clean stores, at whose opening nothing was decided or in doubt, are those of a run
 module _ {D S : Type 0} (desk_is_clean desk_is_sound : D → Type 0) (desk_content : D → DeskContent) (site_is_clean site_is_sound : S → Type 0) (site_content : S → SiteContent)
     (machines : Machines D S) (catalogs : List (List (List ℕ) × List SplitRelation)) (opening : DeskKept) (entries : List Entry) (pasts : List Past) (db : Database) (listed : IsListed db) (of : IsOfCatalogues db opening.version (map catalogue_of catalogs))
     (records : AreRecords desk_is_clean desk_is_sound desk_content site_is_clean site_is_sound site_content machines catalogs opening entries pasts)
@@ -155,10 +105,10 @@ module _ {D S : Type 0} (desk_is_clean desk_is_sound : D → Type 0) (desk_conte
         prepared = all_of_map (λ (past : SitePast). past.opening) (λ (kept : SiteKept). kept.rows.prepared ≡ []) all (subst (AllByRecursion (λ (kept : SiteKept). kept.rows.prepared ≡ [])) (sym records.openings) settled.1);
       }
 
-  pub weaves_list : ListsWovenAreRuns db → ListsWovenAreSerial db → (lists : List (List Told)) (happened : List world.Entry) (events : List Event) →
+  pub weaves_run : WovenAreRuns db → WovenAreSerial db → (lists : List (List Told)) (happened : List world.Entry) (events : List Event) →
       ArePutTogether machines.desk.catalog.0 (entries ∷ map (λ (past : Past). past.entries.items) pasts) happened → events ≡ map (λ (entry : world.Entry). entry.event) happened → AllStand (schemas_of here) entries lists →
-      WeavesListRun db opening entries (desk_from desk_content machines.desk) (pasts_in site_content machines.sites.items pasts) machines.desk.later.items lists events
-  weaves_list runs serial lists happened events put told stand =
+      WeavesRun db opening entries (desk_from desk_content machines.desk) (pasts_in site_content machines.sites.items pasts) machines.desk.later.items lists events
+  weaves_run runs serial lists happened events put told stand =
       let last = desk_from desk_content machines.desk in
       let all = pasts_in site_content machines.sites.items pasts in
       let later = machines.desk.later.items in

@@ -28,7 +28,3 @@ catalogues_of desk = catalogue_of desk.catalog ∷ map catalogue_of desk.later.i
 abbrev pub catalogs_after : {D : Type 0} → inputs.Input → Desk D → ℕ → (List (List ℕ) × List SplitRelation) × List (List (List ℕ) × List SplitRelation)
 catalogs_after (input.Take letter) desk now = if now == desk.volatile.version then (desk.catalog, desk.later.items) else follow desk.catalog desk.later.items
 catalogs_after other desk now = (desk.catalog, desk.later.items)
-
--- there was one catalogue as the cell was made: this one, which is in force still
-abbrev pub HadOne : List (List (List ℕ) × List SplitRelation) → List (List ℕ) × List SplitRelation → Type 0
-HadOne catalogs catalog = map catalogue_of catalogs ≡ catalogue_of catalog ∷ []

@@ -18,7 +18,7 @@ use Rattle.desk.specs.Place.{Place}
 use Rattle.desk.specs.State.{desk_of}
 use Rattle.world.specs.declared.event.Entry as world
 use Rattle.world.specs.Machines.{Machines}
-use Rattle.world.specs.Runs.{IsListRun, IsRun, IsSerialRun}
+use Rattle.world.specs.Runs.{IsRun, IsSerialRun}
 use Rattle.history.specs.declared.entry.Entry.{Entry}
 use Rattle.history.specs.Brought.{HaveHappened}
 use Rattle.history.specs.DeskHistory.{DeskRecorded, DeskState}
@@ -44,10 +44,6 @@ fragment_at (past ∷ pasts) place = if is_called place.0 past.last then made_by
 abbrev pub machines_with : DeskState → List SitePast → List (List (List ℕ) × List SplitRelation) → Machines
 machines_with desk pasts later = record { desk = desk.content; table = desk.table; seats = map (λ past. past.last) pasts; later = later; refused = [] }
 
--- so where none comes later
-abbrev pub machines_in : DeskState → List SitePast → Machines
-machines_in desk pasts = machines_with desk pasts []
-
 -- the histories of a database's coordinator and of its sites, in the catalogue's order: each replays, and at the opening nothing was decided or in doubt
 pub record AreRecorded (db : Database) (opening : DeskKept) (entries : List Entry) (last : DeskState) (pasts : List SitePast) : Type 0 where
   pub desk : DeskRecorded db opening entries last
@@ -62,30 +58,18 @@ pub record Rebuilds (db : Database) (n : ℕ) (whole : Relations) (pasts : List 
   pub fits : FitsSchema db.schemas whole
   pub content : (place : Place) → fragment_at pasts place ≡ db.content n place whole
 
--- the law: such histories are a run of the machines, from their opening to what they are now
-abbrev pub WovenAreRuns : Database → Type 0
-WovenAreRuns db = (whole : Relations) (opening : DeskKept) (entries : List Entry) (last : DeskState) (pasts : List SitePast) (acts : List (Act Entry)) (happened : List world.Entry) →
-    AreRecorded db opening entries last pasts → Rebuilds db opening.version whole pasts → IsMerged (λ (entry : Entry). entry.number) (entries ∷ map (λ past. past.entries) pasts) acts → HaveHappened db.sites [] acts happened →
-    (past : List (Deed (language db))) × IsRun db whole (machines_in last pasts) happened past
-
--- so they are serial
-abbrev pub WovenAreSerial : Database → Type 0
-WovenAreSerial db = (whole : Relations) (opening : DeskKept) (entries : List Entry) (last : DeskState) (pasts : List SitePast) (acts : List (Act Entry)) (happened : List world.Entry) →
-    AreRecorded db opening entries last pasts → Rebuilds db opening.version whole pasts → IsMerged (λ (entry : Entry). entry.number) (entries ∷ map (λ past. past.entries) pasts) acts → HaveHappened db.sites [] acts happened →
-    IsSerialRun db whole (machines_in last pasts) happened
-
 -- where no catalogue comes later, nobody gives a relation another split
 abbrev pub IsStill : Database → DeskState → List (List (List ℕ) × List SplitRelation) → Type 0
 IsStill db last later = later ≡ [] → (t : Name) → is_moving ((desk_of db last.table).txn t) ≡ false
 
--- the law of every list of catalogues: such histories are a run of the machines, whichever catalogue came into force
-abbrev pub ListsWovenAreRuns : Database → Type 0
-ListsWovenAreRuns db = (whole : Relations) (opening : DeskKept) (entries : List Entry) (last : DeskState) (pasts : List SitePast) (later : List (List (List ℕ) × List SplitRelation)) (acts : List (Act Entry)) (happened : List world.Entry) →
+-- the law of every list of catalogues: such histories are a run of the machines, from their opening to what they are now, whichever catalogue came into force
+abbrev pub WovenAreRuns : Database → Type 0
+WovenAreRuns db = (whole : Relations) (opening : DeskKept) (entries : List Entry) (last : DeskState) (pasts : List SitePast) (later : List (List (List ℕ) × List SplitRelation)) (acts : List (Act Entry)) (happened : List world.Entry) →
     AreRecorded db opening entries last pasts → IsStill db last later → Rebuilds db opening.version whole pasts → IsMerged (λ (entry : Entry). entry.number) (entries ∷ map (λ past. past.entries) pasts) acts → HaveHappened db.sites [] acts happened →
-    (past : List (Deed (language db))) × IsListRun db whole (machines_with last pasts later) happened past
+    (past : List (Deed (language db))) × IsRun db whole (machines_with last pasts later) happened past
 
 -- so they are serial
-abbrev pub ListsWovenAreSerial : Database → Type 0
-ListsWovenAreSerial db = (whole : Relations) (opening : DeskKept) (entries : List Entry) (last : DeskState) (pasts : List SitePast) (later : List (List (List ℕ) × List SplitRelation)) (acts : List (Act Entry)) (happened : List world.Entry) →
+abbrev pub WovenAreSerial : Database → Type 0
+WovenAreSerial db = (whole : Relations) (opening : DeskKept) (entries : List Entry) (last : DeskState) (pasts : List SitePast) (later : List (List (List ℕ) × List SplitRelation)) (acts : List (Act Entry)) (happened : List world.Entry) →
     AreRecorded db opening entries last pasts → IsStill db last later → Rebuilds db opening.version whole pasts → IsMerged (λ (entry : Entry). entry.number) (entries ∷ map (λ past. past.entries) pasts) acts → HaveHappened db.sites [] acts happened →
     IsSerialRun db whole (machines_with last pasts later) happened

@@ -9,7 +9,7 @@ use Rattle.protocol.specs.Desk.{Deed}
 use Rattle.desk.specs.Database.{Database, language}
 use Rattle.world.specs.declared.event.Entry as world
 use Rattle.world.specs.declared.event.Event.{Event}
-use Rattle.world.specs.Runs.{IsListRun, IsRun, IsSerialRun}
+use Rattle.world.specs.Runs.{IsRun, IsSerialRun}
 use Rattle.history.specs.declared.brought.Unbrought as unbrought
 use Rattle.history.specs.declared.brought.Unbrought.TheVariants as brought
 use Rattle.history.specs.declared.entry.Entry.{Entry}
@@ -24,7 +24,7 @@ use Rattle.history.specs.Brought.{HaveHappened, IsNotBrought}
 use Rattle.history.specs.DeskHistory.{DeskState}
 use Rattle.history.specs.Merge.{Act, Breaks, IsMerged}
 use Rattle.history.specs.Told.{AllStand}
-use Rattle.history.specs.Weaving.{Rebuilds, SitePast, machines_in, machines_with}
+use Rattle.history.specs.Weaving.{Rebuilds, SitePast, machines_with}
 
 -- Histories are put together by their numbers: each is there whole and in its order, and each letter that a machine took had been put out by an
 -- entry with a smaller number and was addressed to it; these things have so happened.
@@ -40,26 +40,16 @@ pub record IsWoven (db : Database) (entries : List Entry) (others : List (List E
   pub told : events ≡ map (λ (entry : world.Entry). entry.event) happened
   pub stand : AllStand db.schemas entries lists
 
--- what so happened is a run of the machines that ends in what they are now, and it is serial
-pub record IsRunOf (db : Database) (whole : Relations) (last : DeskState) (pasts : List SitePast) (happened : List world.Entry) : Type 0 where
+-- what so happened is a run of the machines that ends in what they are now, whichever catalogue came into force, and it is serial; later: the catalogues that come later still
+pub record IsRunOf (db : Database) (whole : Relations) (last : DeskState) (pasts : List SitePast) (later : List (List (List ℕ) × List SplitRelation)) (happened : List world.Entry) : Type 0 where
   pub past : List (Deed (language db))
-  pub run : IsRun db whole (machines_in last pasts) happened past
-  pub serial : IsSerialRun db whole (machines_in last pasts) happened
-
--- so for the whole relations that the fragments rebuilt at the opening
-pub record WeavesRun (db : Database) (opening : DeskKept) (entries : List Entry) (last : DeskState) (pasts : List SitePast) (lists : List (List Told)) (events : List Event) : Type 0 where
-  pub woven : IsWoven db entries (map (λ past. past.entries) pasts) lists events
-  pub run : (whole : Relations) → Rebuilds db opening.version whole pasts → IsRunOf db whole last pasts woven.happened
-
--- so over a list of catalogues, whichever of them came into force; later: those that come later still
-pub record IsListRunOf (db : Database) (whole : Relations) (last : DeskState) (pasts : List SitePast) (later : List (List (List ℕ) × List SplitRelation)) (happened : List world.Entry) : Type 0 where
-  pub past : List (Deed (language db))
-  pub run : IsListRun db whole (machines_with last pasts later) happened past
+  pub run : IsRun db whole (machines_with last pasts later) happened past
   pub serial : IsSerialRun db whole (machines_with last pasts later) happened
 
-pub record WeavesListRun (db : Database) (opening : DeskKept) (entries : List Entry) (last : DeskState) (pasts : List SitePast) (later : List (List (List ℕ) × List SplitRelation)) (lists : List (List Told)) (events : List Event) : Type 0 where
+-- so for the whole relations that the fragments rebuilt at the opening
+pub record WeavesRun (db : Database) (opening : DeskKept) (entries : List Entry) (last : DeskState) (pasts : List SitePast) (later : List (List (List ℕ) × List SplitRelation)) (lists : List (List Told)) (events : List Event) : Type 0 where
   pub woven : IsWoven db entries (map (λ past. past.entries) pasts) lists events
-  pub run : (whole : Relations) → Rebuilds db opening.version whole pasts → IsListRunOf db whole last pasts later woven.happened
+  pub run : (whole : Relations) → Rebuilds db opening.version whole pasts → IsRunOf db whole last pasts later woven.happened
 
 -- at the opening nothing was decided or in doubt
 abbrev pub IsSettled : DeskKept → List SiteKept → Type 0

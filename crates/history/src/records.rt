@@ -1,6 +1,6 @@
 //! The records of a database that has come to rest: its machines as they are now, and what each has done.
 
-ghost use Rattle.std.specs.Prelude.{◌≡◌, ◌+◌, ◌<◌, ◌^◌, Err, IfOk, List, length, map};
+ghost use Rattle.std.specs.Prelude.{◌≡◌, ◌+◌, ◌<◌, Err, IfOk, List, map};
 ghost use Rattle.std.specs.Bool.{Decides};
 ghost use Rattle.std.specs.List.{AllByRecursion};
 ghost use Rattle.std.specs.Option.{option_map as mapped};
@@ -8,14 +8,13 @@ ghost use Rattle.meaning.specs.Whole.{Relations};
 ghost use Rattle.catalog.specs.Relation.{catalogue_of};
 ghost use Rattle.protocol.specs.Desk.{Deed};
 ghost use Rattle.site.specs.Seat.{seat_from};
-ghost use Rattle.desk.specs.CatalogueDatabase.{database};
-ghost use Rattle.desk.specs.Database.{language};
+ghost use Rattle.desk.specs.Database.{Database, language};
 ghost use Rattle.world.specs.declared.event.Entry.{Entry as EntryNow};
 ghost use Rattle.world.specs.Contents.{OfStores, held};
 ghost use Rattle.world.specs.Frame.{LeavesMachines, StaysAsItIs};
+ghost use Rattle.world.specs.Listed.{IsListed, StandsIn};
 ghost use Rattle.world.specs.Runs.{IsRun};
 ghost use Rattle.world.specs.Settled.{ShowsSerial};
-ghost use Rattle.history.specs.Catalogues.{HadOne};
 ghost use Rattle.history.specs.Records.{AreRecords, AreSitesOf, AreTaken};
 
 use crate::desk_cell::{DeskCell, DeskParts};
@@ -33,7 +32,7 @@ use terms::row::Row;
 use terms::same::{Same, same_all};
 use terms::text::Text;
 use world::fault::Fault;
-use world::laws::{database_is_of_catalogue, language_is_lawful, runs_are_serial};
+use world::laws::{database_is_of_catalogue, runs_are_serial};
 use world::machines::Machines;
 use world::rebuild::rebuilt;
 use world::site_leaves::known_leaves;
@@ -180,13 +179,6 @@ impl<D: DeskStore + Drop, S: SiteStore + Drop> Records<D, S> {
         self.catalogs.as_slice()
     }
 
-    /// Whether the opening had one catalogue, which is in force still.
-    pub fn had_one(&self) -> bool
-        ensures { AreRecords D.is_clean D.is_sound D.kept S.is_clean S.is_sound S.kept self.now.machines self.now.catalogs.items self.now.opening self.now.entries.items self.now.pasts.items → Decides result (HadOne self.now.catalogs.items self.now.machines.desk.catalog) }
-    {
-        self.catalogs.len() == 1
-    }
-
     /// What the coordinator's store kept at the opening.
     pub fn opening(&self) -> &DeskKept
         ensures { result.now ≡ self.now.opening }
@@ -213,13 +205,11 @@ impl<D: DeskStore + Drop, S: SiteStore + Drop> Records<D, S> {
     pub fn rebuilt(&mut self, relation: &Text) -> Result<Option<Vec<Row>>, Fault>
         ensures leaves { LeavesMachines D.is_clean S.is_clean D.is_sound S.is_sound D.refused S.refused self.old.machines self.new.machines }
         ensures same { StaysAsItIs (OfStores D.is_clean S.is_clean) (OfStores D.is_sound S.is_sound) (held D.kept S.kept) self.old.machines self.new.machines }
-        ensures serial { (whole : Relations) (happened : List EntryNow) (past : List (Deed (language (database (catalogue_of self.old.machines.desk.catalog)))))
-            → OfStores D.is_clean S.is_clean self.new.machines → OfStores D.is_sound S.is_sound self.old.machines
-            → IsRun (database (catalogue_of self.old.machines.desk.catalog)) whole (held D.kept S.kept self.old.machines) happened past
-            → IfOk result (λ shown. ShowsSerial (database (catalogue_of self.old.machines.desk.catalog)) whole happened relation.now (mapped (λ rows. rows.items) shown)) }
+        ensures serial { (db : Database) (whole : Relations) (happened : List EntryNow) (past : List (Deed (language db))) → IsListed db → StandsIn db self.old.machines.desk → OfStores D.is_clean S.is_clean self.new.machines → OfStores D.is_sound S.is_sound self.old.machines
+            → IsRun db whole (held D.kept S.kept self.old.machines) happened past
+            → IfOk result (λ shown. ShowsSerial db whole happened relation.now (mapped (λ rows. rows.items) shown)) }
     {
-        runs_are_serial(self.machines.desk.catalog());
-        language_is_lawful(self.machines.desk.catalog());
+        runs_are_serial();
         database_is_of_catalogue(self.machines.desk.catalog());
         rebuilt(&mut self.machines, relation)
     }

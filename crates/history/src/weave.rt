@@ -9,16 +9,16 @@ ghost use Rattle.desk.specs.CatalogueDatabase.{database};
 ghost use Rattle.desk.specs.Database.{Database};
 ghost use Rattle.world.specs.Contents.{OfStores};
 ghost use Rattle.world.specs.Listed.{IsListed};
-ghost use Rattle.history.specs.Catalogues.{HadOne, IsOfCatalogues};
+ghost use Rattle.history.specs.Catalogues.{IsOfCatalogues};
 ghost use Rattle.history.specs.DeskHistory.{desk_from};
 ghost use Rattle.history.specs.Picks.{rows_of};
 ghost use Rattle.history.specs.Records.{AreRecords, pasts_in};
 ghost use Rattle.history.specs.Told.{IsNotTold};
-ghost use Rattle.history.specs.Woven.{ArePutTogether, IsNotARun, IsOfOrder, IsSettled, IsWoven, WeavesListRun, WeavesRun, weave_number};
+ghost use Rattle.history.specs.Woven.{ArePutTogether, IsNotARun, IsOfOrder, IsSettled, IsWoven, WeavesRun, weave_number};
 
 use crate::brought::{Unbrought, happened};
 use crate::entry::Entry;
-use crate::laws::{lists_woven_are_runs, lists_woven_are_serial, woven_are_runs, woven_are_serial};
+use crate::laws::{woven_are_runs, woven_are_serial};
 use crate::merge::{Unmerged, merge};
 use crate::records::{Past, Records};
 use crate::told::{NotStanding, Told, stand};
@@ -187,18 +187,16 @@ fn put_together(
 }
 
 /// Weaves the histories of records into the events of one run, if they are one, and what sessions were told stands in the
-/// coordinator's: the calls of all machines that were accepted, by their numbers. They are a run of the protocol: over the one
-/// catalogue that there was at the opening, and in each database of a list that has the catalogues of the opening.
+/// coordinator's: the calls of all machines that were accepted, by their numbers. They are a run of the protocol, in each
+/// database of a list that has the catalogues of the opening.
 pub fn weave<D: DeskStore + Drop, S: SiteStore + Drop>(
     alloc: Global,
     records: &Records<D, S>,
     told: &[&[Told]],
 ) -> Result<Vec<Event>, WeaveFault>
     ensures woven { IfOk result (λ events. IsWoven (database (catalogue_of records.now.machines.desk.catalog)) records.now.entries.items (map (λ past. past.entries.items) records.now.pasts.items) (rows_of told.now) events.items) }
-    ensures run { HadOne records.now.catalogs.items records.now.machines.desk.catalog → OfStores D.is_clean S.is_clean records.now.machines → AreRecords D.is_clean D.is_sound D.kept S.is_clean S.is_sound S.kept records.now.machines records.now.catalogs.items records.now.opening records.now.entries.items records.now.pasts.items
-        → IfOk result (λ events. WeavesRun (database (catalogue_of records.now.machines.desk.catalog)) records.now.opening records.now.entries.items (desk_from D.kept records.now.machines.desk) (pasts_in S.kept records.now.machines.sites.items records.now.pasts.items) (rows_of told.now) events.items) }
-    ensures lists { (db : Database) → IsListed db → IsOfCatalogues db records.now.opening.version (map catalogue_of records.now.catalogs.items) → OfStores D.is_clean S.is_clean records.now.machines → AreRecords D.is_clean D.is_sound D.kept S.is_clean S.is_sound S.kept records.now.machines records.now.catalogs.items records.now.opening records.now.entries.items records.now.pasts.items
-        → IfOk result (λ events. WeavesListRun db records.now.opening records.now.entries.items (desk_from D.kept records.now.machines.desk) (pasts_in S.kept records.now.machines.sites.items records.now.pasts.items) records.now.machines.desk.later.items (rows_of told.now) events.items) }
+    ensures run { (db : Database) → IsListed db → IsOfCatalogues db records.now.opening.version (map catalogue_of records.now.catalogs.items) → OfStores D.is_clean S.is_clean records.now.machines → AreRecords D.is_clean D.is_sound D.kept S.is_clean S.is_sound S.kept records.now.machines records.now.catalogs.items records.now.opening records.now.entries.items records.now.pasts.items
+        → IfOk result (λ events. WeavesRun db records.now.opening records.now.entries.items (desk_from D.kept records.now.machines.desk) (pasts_in S.kept records.now.machines.sites.items records.now.pasts.items) records.now.machines.desk.later.items (rows_of told.now) events.items) }
     ensures not_a_run { (k : ℕ) → result ≡ Err (WeaveFault.NotARun k) → IsNotARun records.now.machines.desk.catalog.0 (records.now.entries.items ∷ map (λ past. past.entries.items) records.now.pasts.items) k }
     ensures not_settled { result ≡ Err WeaveFault.NotSettled → IsSettled records.now.opening (map (λ past. past.opening) records.now.pasts.items) → ⊥ }
     ensures not_told { (k : ℕ) → result ≡ Err (WeaveFault.NotTold k) → IsNotTold (schemas_of (catalogue_of records.now.machines.desk.catalog)) records.now.entries.items (rows_of told.now) k }
@@ -211,9 +209,7 @@ pub fn weave<D: DeskStore + Drop, S: SiteStore + Drop>(
     let rows = histories(alloc, entries, pasts)?;
     let happened = put_together(alloc, catalog.sites(), rows.as_slice())?;
     stand(alloc, catalog.schema(), entries, told)?;
-    woven_are_runs(catalog);
-    woven_are_serial(catalog);
-    lists_woven_are_runs();
-    lists_woven_are_serial();
+    woven_are_runs();
+    woven_are_serial();
     Ok(events_of(alloc, happened)?)
 }

@@ -23,7 +23,7 @@ use Rattle.history.specs.declared.weave.WeaveFault as faults
 use Rattle.history.specs.Catalogues.{HasFrom, IsOfCatalogues}
 use Rattle.history.specs.DeskHistory.{desk_from}
 use Rattle.history.specs.Records.{pasts_in}
-use Rattle.history.specs.Woven.{WeavesListRun}
+use Rattle.history.specs.Woven.{WeavesRun}
 use Rattle.runs.specs.declared.conversation.Conversation.{Conversation}
 use Rattle.runs.specs.Conversations.{AreHeld, AreOfParts}
 use Rattle.runs.specs.Run.{IsVerdict}
@@ -95,7 +95,7 @@ module _ {D S : Type 0} (desk_is_clean desk_is_sound : D → Type 0) (desk_conte
   -- histories without a fault are one run over the list of a chain's catalogues
   pub woven_over : (machines : code.Machines D S) (catalogs : List (List (List ℕ) × List SplitRelation)) (opening : DeskKept) (entries : List Entry) (pasts : List Past) (lists : List (List Told)) (verdict : Option faults.WeaveFault) (catalogues : List Catalogue) (first : Catalogue) (rest : List Catalogue)
       → IsListed (databases first rest) → map catalogue_of catalogs ≡ from_number opening.version catalogues → catalogues ≡ first ∷ rest → IsVerdict desk_is_clean desk_is_sound desk_content site_is_clean site_is_sound site_content machines catalogs opening entries pasts lists verdict → verdict ≡ None → OfStores desk_is_clean site_is_clean machines
-      → (events : List Event) × WeavesListRun (databases first rest) opening entries (desk_from desk_content machines.desk) (pasts_in site_content machines.sites.items pasts) machines.desk.later.items lists events
+      → (events : List Event) × WeavesRun (databases first rest) opening entries (desk_from desk_content machines.desk) (pasts_in site_content machines.sites.items pasts) machines.desk.later.items lists events
   woven_over machines catalogs opening entries pasts lists verdict catalogues first rest listed given is judged none clean =
       let woven = subst (IsVerdict desk_is_clean desk_is_sound desk_content site_is_clean site_is_sound site_content machines catalogs opening entries pasts lists) none judged in
-      (woven.events, woven.run_over (databases first rest) listed (of_catalogues first rest opening.version catalogues (map catalogue_of catalogs) listed given is) clean)
+      (woven.events, woven.run (databases first rest) listed (of_catalogues first rest opening.version catalogues (map catalogue_of catalogs) listed given is) clean)

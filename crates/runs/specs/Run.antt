@@ -1,5 +1,5 @@
 -- What sessions at once come to: what each hears, whether it was one run of the protocol, and what the relations are then. Of several catalogues another one may come into force.
-use Rattle.std.specs.Prelude.{◌≡◌, ⊤, ◌≤◌, ◌<◌, ◌⊎◌, ℕ, Bool, true, false, List, [], ◌∷◌, ◌++◌, Option, Some, None, Result, Ok, Err, flat_map, is_none, length, map, string_bytes}
+use Rattle.std.specs.Prelude.{◌≡◌, ⊤, ◌≤◌, ◌<◌, ◌⊎◌, ℕ, Bool, true, false, List, ◌∷◌, ◌++◌, Option, Some, None, Result, Ok, Err, flat_map, is_none, length, map, string_bytes}
 use Rattle.std.specs.Borrow.{Bor}
 use Rattle.std.specs.Io.KnownBytes.{Appends, Keeps}
 use Rattle.std.specs.List.{AllByRecursion}
@@ -23,7 +23,7 @@ use Rattle.world.specs.declared.event.Event.{Event}
 use Rattle.world.specs.declared.machines.Machines as code
 use Rattle.world.specs.Contents.{OfStores, held}
 use Rattle.world.specs.Frame.{StaysAsItIs}
-use Rattle.world.specs.Listed.{IsListed}
+use Rattle.world.specs.Listed.{IsListed, StandsIn}
 use Rattle.world.specs.Runs.{IsRun}
 use Rattle.world.specs.Settled.{ShowsSerial}
 use Rattle.history.specs.declared.entry.Entry.{Entry}
@@ -31,12 +31,12 @@ use Rattle.history.specs.declared.records.Past.{Past}
 use Rattle.history.specs.declared.told.Told.{Told}
 use Rattle.history.specs.declared.weave.WeaveFault as faults
 use Rattle.history.specs.declared.weave.WeaveFault.TheVariants as why
-use Rattle.history.specs.Catalogues.{HadOne, IsOfCatalogues}
+use Rattle.history.specs.Catalogues.{IsOfCatalogues}
 use Rattle.history.specs.DeskHistory.{desk_from}
 use Rattle.history.specs.Records.{AreRecords, pasts_in}
 use Rattle.history.specs.Told.{IsNotTold}
 use Rattle.history.specs.Weaving.{Rebuilds}
-use Rattle.history.specs.Woven.{IsNotARun, IsSettled, IsWoven, WeavesListRun, WeavesRun}
+use Rattle.history.specs.Woven.{IsNotARun, IsSettled, IsWoven, WeavesRun}
 use Rattle.wire.specs.declared.fault.CallFault.{CallFault}
 use Rattle.wire.specs.declared.fault.CallFault.TheVariants as call
 use Rattle.forms.specs.declared.mode.Mode.TheVariants.{Tabs}
@@ -87,8 +87,9 @@ module _ {D S : Type 0} (desk_is_clean desk_is_sound : D → Type 0) (desk_conte
     pub sound : OfStores desk_is_clean site_is_clean new → OfStores desk_is_sound site_is_sound old → OfStores desk_is_sound site_is_sound new
     pub same : StaysAsItIs (OfStores desk_is_clean site_is_clean) (OfStores desk_is_sound site_is_sound) (held desk_content site_content) old new
     pub catalog : new.desk.catalog ≡ old.desk.catalog
-    pub serial : (whole : Relations) (happened : List world.Entry) (past : List (Deed (language (database (catalogue_of old.desk.catalog))))) → OfStores desk_is_clean site_is_clean new → OfStores desk_is_sound site_is_sound old
-        → IsRun (database (catalogue_of old.desk.catalog)) whole (held desk_content site_content old) happened past → ShowSerial (database (catalogue_of old.desk.catalog)) whole happened shown
+    pub later : new.desk.later.items ≡ old.desk.later.items
+    pub serial : (db : Database) (whole : Relations) (happened : List world.Entry) (past : List (Deed (language db))) → IsListed db → StandsIn db old.desk → OfStores desk_is_clean site_is_clean new → OfStores desk_is_sound site_is_sound old
+        → IsRun db whole (held desk_content site_content old) happened past → ShowSerial db whole happened shown
 
   -- what is printed of them
   pub record Prints (catalogue : Catalogue) (names : List (List ℕ)) (old new : code.Machines D S) (before after : List ℕ) : Type 0 where
@@ -96,13 +97,12 @@ module _ {D S : Type 0} (desk_is_clean desk_is_sound : D → Type 0) (desk_conte
     pub found : ShowsFound names old new shown
     pub printed : after ≡ before ++ flat_map (relation_lines catalogue) shown
 
-  -- The histories are one run of the protocol, in which stands all that the sessions were told. Over whatever whole relations the fragments rebuilt at the opening, the committed transactions, one
-  -- after another, give the answers that were heard, and the rows that are shown.
-  pub record IsOneRun (machines : code.Machines D S) (opening : DeskKept) (entries : List Entry) (pasts : List Past) (lists : List (List Told)) (shown : List Found) : Type 0 where
+  -- The histories are one run of the protocol over a list of catalogues, in which stands all that the sessions were told. Over whatever whole relations the fragments rebuilt at the opening, the committed
+  -- transactions, one after another, give the answers that were heard, and the rows that are shown.
+  pub record IsOneRun (db : Database) (machines : code.Machines D S) (opening : DeskKept) (entries : List Entry) (pasts : List Past) (lists : List (List Told)) (shown : List Found) : Type 0 where
     pub events : List Event
-    pub weaves : WeavesRun (database (catalogue_of machines.desk.catalog)) opening entries (desk_from desk_content machines.desk) (pasts_in site_content machines.sites.items pasts) lists events
-    pub shows : (whole : Relations) → Rebuilds (database (catalogue_of machines.desk.catalog)) opening.version whole (pasts_in site_content machines.sites.items pasts)
-        → ShowSerial (database (catalogue_of machines.desk.catalog)) whole weaves.woven.happened shown
+    pub weaves : WeavesRun db opening entries (desk_from desk_content machines.desk) (pasts_in site_content machines.sites.items pasts) machines.desk.later.items lists events
+    pub shows : (whole : Relations) → Rebuilds db opening.version whole (pasts_in site_content machines.sites.items pasts) → ShowSerial db whole weaves.woven.happened shown
 
   -- why histories aren't woven
   abbrev pub IsUnwoven : code.Machines D S → DeskKept → List Entry → List Past → List (List Told) → faults.WeaveFault → Type 0
@@ -111,15 +111,13 @@ module _ {D S : Type 0} (desk_is_clean desk_is_sound : D → Type 0) (desk_conte
   IsUnwoven machines opening entries pasts lists why.Memory = ⊥
   IsUnwoven machines opening entries pasts lists (why.NotTold k) = IsNotTold (schemas_of (catalogue_of machines.desk.catalog)) entries lists k
 
-  -- Histories without a fault were woven by their numbers, and in them stands all that the sessions were told. Where the stores are clean they are one run of the protocol: over the one catalogue of the
-  -- opening, and over each lawful list that has its catalogues from its number on.
+  -- Histories without a fault were woven by their numbers, and in them stands all that the sessions were told. Where the stores are clean they are one run of the protocol, over each
+  -- lawful list that has the catalogues of the opening from its number on.
   pub record AreWoven (machines : code.Machines D S) (catalogs : List (List (List ℕ) × List SplitRelation)) (opening : DeskKept) (entries : List Entry) (pasts : List Past) (lists : List (List Told)) : Type 0 where
     pub events : List Event
     pub woven : IsWoven (database (catalogue_of machines.desk.catalog)) entries (map (λ (past : Past). past.entries.items) pasts) lists events
-    pub run : HadOne catalogs machines.desk.catalog → OfStores desk_is_clean site_is_clean machines
-        → WeavesRun (database (catalogue_of machines.desk.catalog)) opening entries (desk_from desk_content machines.desk) (pasts_in site_content machines.sites.items pasts) lists events
-    pub run_over : (db : Database) → IsListed db → IsOfCatalogues db opening.version (map catalogue_of catalogs) → OfStores desk_is_clean site_is_clean machines
-        → WeavesListRun db opening entries (desk_from desk_content machines.desk) (pasts_in site_content machines.sites.items pasts) machines.desk.later.items lists events
+    pub run : (db : Database) → IsListed db → IsOfCatalogues db opening.version (map catalogue_of catalogs) → OfStores desk_is_clean site_is_clean machines
+        → WeavesRun db opening entries (desk_from desk_content machines.desk) (pasts_in site_content machines.sites.items pasts) machines.desk.later.items lists events
 
   -- a verdict on records that replay: histories without a fault are woven, and a fault has its reason
   abbrev pub IsVerdict : code.Machines D S → List (List (List ℕ) × List SplitRelation) → DeskKept → List Entry → List Past → List (List Told) → Option faults.WeaveFault → Type 0
@@ -128,7 +126,7 @@ module _ {D S : Type 0} (desk_is_clean desk_is_sound : D → Type 0) (desk_conte
 
   -- Sessions at once have come to their ends over these catalogues, one of which is in force at the end: each held its conversation, and the machines' histories, which replay, were judged by what all
   -- sessions were told. All conversations are printed, the verdict, and each relation with its rows. A verdict without a fault says that it was one run of the protocol over the list of catalogues, where
-  -- the stores are clean; what is shown of relations is known where the opening had one catalogue.
+  -- the stores are clean, and the relations that are shown are what its committed transactions make, where they are clean after that too.
   pub record HasRun (catalogues : List Catalogue) (parts : List SessionPart) (printed : List ℕ) (is_woven : Bool) : Type 0 where
     pub conversations : List Conversation
     pub of_parts : AreOfParts parts conversations
@@ -140,17 +138,16 @@ module _ {D S : Type 0} (desk_is_clean desk_is_sound : D → Type 0) (desk_conte
     pub records : AreRecords desk_is_clean desk_is_sound desk_content site_is_clean site_is_sound site_content machines catalogs opening entries pasts
     pub catalog : In (catalogue_of machines.desk.catalog) catalogues
     pub given : map catalogue_of catalogs ≡ from_number opening.version catalogues
-    pub alone : (catalogue : Catalogue) → catalogues ≡ catalogue ∷ [] → HadOne catalogs machines.desk.catalog
     pub verdict : Option faults.WeaveFault
     pub judged : IsVerdict machines catalogs opening entries pasts (lists_told conversations) verdict
     pub told : is_woven ≡ is_none verdict
     pub one_run : (first : Catalogue) (rest : List Catalogue) → catalogues ≡ first ∷ rest → verdict ≡ None → OfStores desk_is_clean site_is_clean machines
-        → (events : List Event) × WeavesListRun (databases first rest) opening entries (desk_from desk_content machines.desk) (pasts_in site_content machines.sites.items pasts) machines.desk.later.items (lists_told conversations) events
+        → (events : List Event) × WeavesRun (databases first rest) opening entries (desk_from desk_content machines.desk) (pasts_in site_content machines.sites.items pasts) machines.desk.later.items (lists_told conversations) events
     pub ended : code.Machines D S
     pub shown : List Found
     pub found : ShowsFound (map (λ (relation : RelationSchema). relation.name) (schemas_of (catalogue_of machines.desk.catalog))) machines ended shown
-    pub serial : HadOne catalogs machines.desk.catalog → OfStores desk_is_clean site_is_clean ended → verdict ≡ None
-        → IsOneRun machines opening entries pasts (lists_told conversations) shown
+    pub serial : (first : Catalogue) (rest : List Catalogue) → catalogues ≡ first ∷ rest → verdict ≡ None → OfStores desk_is_clean site_is_clean ended
+        → IsOneRun (databases first rest) machines opening entries pasts (lists_told conversations) shown
     pub printed_is : printed ≡ flat_map (λ (one : Conversation). string_bytes one.printed) conversations ++ verdict_text verdict ++ flat_map (relation_lines (catalogue_of machines.desk.catalog)) shown
 
 -- a script that is short enough, each line of which can be read

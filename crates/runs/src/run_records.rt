@@ -1,10 +1,8 @@
 //! What sessions at once come to: what each heard, whether it was one run of the protocol, and what the relations are then.
 
 ghost use Rattle.std.specs.Prelude.{◌≡◌, ◌↔◌, ◌++◌, ◌∷◌, [], List, true, IfErr, IfNone, IfOk, IsTrue, IfSome, OnOk, flat_map, map, string_bytes};
-ghost use Rattle.catalog.specs.Catalogue.{Catalogue};
 ghost use Rattle.catalog.specs.Relation.{catalogue_of};
 ghost use Rattle.desk.specs.OfCatalogue.{from_number};
-ghost use Rattle.history.specs.Catalogues.{HadOne};
 ghost use Rattle.history.specs.Picks.{rows_of};
 ghost use Rattle.history.specs.Records.{AreRecords};
 ghost use Rattle.databases.specs.Client.{IsOfClient};
@@ -87,15 +85,13 @@ fn are_from(chain: &[Catalog], number: u64, catalogs: &[Catalog]) -> bool
 
 /// Whether records are of the catalogues that a chain has from the number of the opening on.
 fn are_of<D: DeskStore + Drop, S: SiteStore + Drop>(chain: &Chain, records: &Records<D, S>) -> bool
-    requires { AreRecords D.is_clean D.is_sound D.kept S.is_clean S.is_sound S.kept records.now.machines records.now.catalogs.items records.now.opening records.now.entries.items records.now.pasts.items }
-    ensures from { result ≡ true → map catalogue_of records.now.catalogs.items ≡ from_number records.now.opening.version (map catalogue_of chain.now) }
-    ensures one { (catalogue : Catalogue) → map catalogue_of chain.now ≡ catalogue ∷ [] → result ≡ true → HadOne records.now.catalogs.items records.now.machines.desk.catalog }
+    ensures { result ≡ true → map catalogue_of records.now.catalogs.items ≡ from_number records.now.opening.version (map catalogue_of chain.now) }
 {
-    let number = records.opening().version;
-    if chain.len() == 1 && !records.had_one() {
-        return false;
-    }
-    are_from(chain.as_slice(), number, records.catalogs())
+    are_from(
+        chain.as_slice(),
+        records.opening().version,
+        records.catalogs(),
+    )
 }
 
 /// Judges the records of sessions that were at work at once, and shows the relations under the catalogue in force at the end.

@@ -7,7 +7,8 @@ use Rattle.catalog.specs.FragmentLeaf.{schemas_of}
 use Rattle.desk.specs.CatalogueDatabase.{database}
 use Rattle.world.specs.Machines.{Machines, world_of}
 use Rattle.world.specs.Placed.{IsPlaced, Opens}
-use Rattle.world.specs.Runs.{IsRun, ListRunsAreSerial, RunsAreSerial}
+use Rattle.world.specs.Runs.{IsRun, RunsAreSerial}
+use Rattle.world.proofs.Machinery.{fits_list}
 use Rattle.protocol.specs.Client.{IsQuiet}
 use Rattle.protocol.proofs.StatementCourse.{opening_quiet}
 use Rattle.protocol.specs.Catalogues.{IsSerialList, ListLaw}
@@ -26,19 +27,17 @@ placed c n whole formed fits = record {
   nowhere = λ place none. content_none c place.0 place.1 whole none;
 }
 
+pub opens_so : (c : Catalogue) (whole : Relations) (machines : Machines) → IsFormed c → FitsSchema (schemas_of c) whole → (IsPlaced (database c) machines.table.version c whole → Opens (database c) whole machines) → Opens (database c) whole machines
+opens_so c whole machines formed fits starts = starts (placed c machines.table.version whole formed fits)
+
 pub opens_run : (c : Catalogue) (whole : Relations) (machines : Machines) → IsFormed c → FitsSchema (schemas_of c) whole → (IsPlaced (database c) machines.table.version c whole → Opens (database c) whole machines) → IsRun (database c) whole machines [] []
 opens_run c whole machines formed fits starts =
-    let opens = starts (placed c machines.table.version whole formed fits) in
-    record { version = machines.table.version; opening = world_of (database c) machines [] []; opens = opens.opening; events = []; are = tt; is = refl; placed = tt; explained = tt; tells = record { phased = refl; stated = tt; heard = refl }; fit = opens.fit }
+    let opens = opens_so c whole machines formed fits starts in
+    record { version = machines.table.version; opening = world_of (database c) machines [] []; opens = opens.opening; events = []; are = tt; is = refl; placed = tt; explained = tt; tells = record { phased = refl; stated = tt; heard = refl }; fit = fits_list (database c) machines opens.fit }
 
 pub opens_quiet : (c : Catalogue) (whole : Relations) (machines : Machines) → IsFormed c → FitsSchema (schemas_of c) whole → (IsPlaced (database c) machines.table.version c whole → Opens (database c) whole machines) → IsQuiet (world_of (database c) machines [] [])
 opens_quiet c whole machines formed fits starts = opening_quiet (machines.table.version, whole) (world_of (database c) machines [] []) (starts (placed c machines.table.version whole formed fits)).opening
 
 pub runs_serial : (db : Database) → ListLaw local (statements db) → RunsAreSerial db
 runs_serial db law whole machines entries past run =
-    serial_run db whole machines entries past run.tells (subst (IsSerialList local (statements db) whole) run.is (law run.version whole run.opening run.events run.opens (subst (λ v. AllExplained v.past) (sym run.is) run.explained)))
-
--- so of each list
-pub list_runs_serial : (db : Database) → ListLaw local (statements db) → ListRunsAreSerial db
-list_runs_serial db law whole machines entries past run =
     serial_run db whole machines entries past run.tells (subst (IsSerialList local (statements db) whole) run.is (law run.version whole run.opening run.events run.opens (subst (λ v. AllExplained v.past) (sym run.is) run.explained)))

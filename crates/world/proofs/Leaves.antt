@@ -48,6 +48,10 @@ ends_by_letter catalog now later after true stands = ends_same (ap (λ (pair : C
 ends_by_letter catalog now [] after false stands = ends_same (ap (λ (pair : Catalogs). pair.0 ∷ pair.1) stands)
 ends_by_letter catalog now (next ∷ rest) after false stands = record { passed = catalog ∷ []; is = ap (λ (pair : Catalogs). catalog ∷ pair.0 ∷ pair.1) stands }
 
+pub ends_follow : {D S : Type 0} (old new : code.Machines D S) → StaysOrFollows old new → EndsIn (old.desk.catalog ∷ old.desk.later.items) (new.desk.catalog ∷ new.desk.later.items)
+ends_follow old new (inl same) = ends_alike same.0 same.1
+ends_follow old new (inr passed) = ends_by_letter old.desk.catalog new.desk.catalog old.desk.later.items new.desk.later.items false passed.1
+
 -- so by one event, and not but with another number
 pub follows_by_letter : {D S : Type 0} (old : code.Machines D S) (new : desks.Desk D) → ◌≡◌ {A = Catalogs} (new.catalog, new.later.items) (if new.volatile.version == old.desk.volatile.version then (old.desk.catalog, old.desk.later.items) else follow old.desk.catalog old.desk.later.items) →
     StaysOrFollows old (record { alloc = old.alloc; desk = new; sites = old.sites; traffic = old.traffic })

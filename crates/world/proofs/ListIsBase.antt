@@ -25,7 +25,7 @@ use Rattle.world.specs.declared.event.Entry.{Entry}
 use Rattle.world.specs.Listed.{IsListed, StandsIn}
 use Rattle.world.specs.Machines.{Machines, world_of}
 use Rattle.world.specs.Posted.{letters_in}
-use Rattle.world.specs.Runs.{IsListRun}
+use Rattle.world.specs.Runs.{IsRun}
 use Rattle.catalog.specs.FragmentLeaf.{schemas_of}
 use Rattle.store.specs.declared.name.Txn as txns
 use Rattle.desk.specs.declared.desk.Desk.{Desk}
@@ -87,7 +87,7 @@ listed_chain base catalogs formed valid chain lawful first rest same =
     }
 
 -- the invariant holds of each run
-pub list_holds : (db : Database) → IsListed db → (whole : Relations) (machines : Machines) (entries : List Entry) (past : List (Deed (language db))) → (run : IsListRun db whole machines entries past) → Holds (run.version, whole) (world_of db machines (map (sent db) (letters_in entries)) past)
+pub list_holds : (db : Database) → IsListed db → (whole : Relations) (machines : Machines) (entries : List Entry) (past : List (Deed (language db))) → (run : IsRun db whole machines entries past) → Holds (run.version, whole) (world_of db machines (map (sent db) (letters_in entries)) past)
 list_holds db listed whole machines entries past run =
     let lawful = list_lawful local (statements db) listed.lawful in
     subst (λ (w : World (language db)). Holds (run.version, whole) w) run.is (record {
@@ -180,5 +180,5 @@ list_started first rest follow formed whole machines desk one also same fits sta
     )
 
 -- nothing has happened yet
-pub list_run : (db : Database) (whole : Relations) (machines : Machines) → ListOpens db whole machines → IsListRun db whole machines [] []
+pub list_run : (db : Database) (whole : Relations) (machines : Machines) → ListOpens db whole machines → IsRun db whole machines [] []
 list_run db whole machines opens = record { version = machines.table.version; opening = world_of db machines [] []; opens = opens.opening; events = []; are = tt; is = refl; placed = tt; explained = tt; tells = record { phased = refl; stated = tt; heard = refl }; fit = opens.fit }

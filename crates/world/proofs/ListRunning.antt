@@ -36,7 +36,7 @@ use Rattle.world.specs.Listed.{ListAsked, ListBegun, ListCame, ListLeads, ListMo
 use Rattle.world.specs.Machines.{Machines, happens_at, world_of}
 use Rattle.world.specs.Posted.{letters_in}
 use Rattle.world.specs.Replies.{AreStated, Shows, phased_by, text_by}
-use Rattle.world.specs.Runs.{IsListRun, ListStepsOn, entry_of}
+use Rattle.world.specs.Runs.{IsRun, StepsOn, entry_of}
 use Rattle.world.specs.Seated.{place_of}
 use Rattle.world.proofs.Shown.{IsSilent, commit_shows, give_up_silent, rollback_silent, state_shows}
 use Rattle.world.proofs.Reasoned.{same_passes}
@@ -50,26 +50,26 @@ silent_list db before after out notices what step leads no_phase no_text silent 
 
 -- ---- events
 pub list_runs_on : (db : Database) (whole : Relations) (before after : Machines) (entries : List Entry) (past : List (Deed (language db))) (what : events.Event) (out : Out) (step : World (language db) → World (language db)) (e : world.Event (language db)) →
-    IsListRun db whole before entries past → (leads : ListLeads db step before after out.letters out.replies) → happens (world_of db before (map (sent db) (letters_in entries)) past) e ≡ step (world_of db before (map (sent db) (letters_in entries)) past) →
-    IsEvent db before.table.version what out.kept e → IsAccepted (world_of db before (map (sent db) (letters_in entries)) past) e → Shows db what out.replies leads.deeds → ListStepsOn db whole before after entries (entries ++ entry_of what out ∷ []) past
+    IsRun db whole before entries past → (leads : ListLeads db step before after out.letters out.replies) → happens (world_of db before (map (sent db) (letters_in entries)) past) e ≡ step (world_of db before (map (sent db) (letters_in entries)) past) →
+    IsEvent db before.table.version what out.kept e → IsAccepted (world_of db before (map (sent db) (letters_in entries)) past) e → Shows db what out.replies leads.deeds → StepsOn db whole before after entries (entries ++ entry_of what out ∷ []) past
 list_runs_on db whole before after entries past what out step e so leads event is_event accepted shows =
     goes_by db whole before after entries past what out step e so leads.deeds leads.fit leads.is leads.placed leads.explained leads.replies event is_event accepted shows
 
 pub list_restarts_on : (db : Database) (whole : Relations) (before after : Machines) (entries : List Entry) (past : List (Deed (language db))) (what : events.Event) (out : Out) (step : World (language db) → World (language db)) (e : world.Event (language db)) →
-    IsListRun db whole before entries past → (leads : ListLeads db step before after out.letters out.replies) → happens (world_of db before (map (sent db) (letters_in entries)) past) e ≡ step (world_of db before (map (sent db) (letters_in entries)) past) →
-    IsEvent db before.table.version what out.kept e → IsAccepted (world_of db before (map (sent db) (letters_in entries)) past) e → phased_by what ≡ [] → text_by what out.replies ≡ [] → IsSilent (step (world_of db before [] [])).past → ListStepsOn db whole before after entries (entries ++ entry_of what out ∷ []) past
+    IsRun db whole before entries past → (leads : ListLeads db step before after out.letters out.replies) → happens (world_of db before (map (sent db) (letters_in entries)) past) e ≡ step (world_of db before (map (sent db) (letters_in entries)) past) →
+    IsEvent db before.table.version what out.kept e → IsAccepted (world_of db before (map (sent db) (letters_in entries)) past) e → phased_by what ≡ [] → text_by what out.replies ≡ [] → IsSilent (step (world_of db before [] [])).past → StepsOn db whole before after entries (entries ++ entry_of what out ∷ []) past
 list_restarts_on db whole before after entries past what out step e so leads event is_event accepted no_phase no_text silent =
     list_runs_on db whole before after entries past what out step e so leads event is_event accepted (silent_list db before after out.letters out.replies what step leads no_phase no_text silent)
 
-pub list_begins_on : (db : Database) (whole : Relations) (before after : Machines) (entries : List Entry) (past : List (Deed (language db))) (out : Out) → IsListRun db whole before entries past → ListBegun db before after out.letters out.replies →
-    ListStepsOn db whole before after entries (entries ++ entry_of (event.Call call.Begin) out ∷ []) past
+pub list_begins_on : (db : Database) (whole : Relations) (before after : Machines) (entries : List Entry) (past : List (Deed (language db))) (out : Out) → IsRun db whole before entries past → ListBegun db before after out.letters out.replies →
+    StepsOn db whole before after entries (entries ++ entry_of (event.Call call.Begin) out ∷ []) past
 list_begins_on db whole before after entries past out so begun =
     let w = world_of db before (map (sent db) (letters_in entries)) past in
     list_runs_on db whole before after entries past (event.Call call.Begin) out begins world.Begin so begun.leads (if_true (may_begin w) (begins w) w begun.may) refl (begun.may, begun.within)
     (silent_list db before after out.letters out.replies (event.Call call.Begin) begins begun.leads refl refl (begins_silent (world_of db before [] []) refl))
 
 list_called_on : (db : Database) (whole : Relations) (before after : Machines) (entries : List Entry) (past : List (Deed (language db))) (what : events.Event) (out : Out) (txn : names.Txn) (choice : Choice (language db)) (request : Request (language db)) →
-    IsListRun db whole before entries past → (asked : ListAsked db txn choice request before after out.letters out.replies) → IsEvent db before.table.version what out.kept (world.Call (txn_name txn) request choice) → Shows db what out.replies asked.leads.deeds → ListStepsOn db whole before after entries (entries ++ entry_of what out ∷ []) past
+    IsRun db whole before entries past → (asked : ListAsked db txn choice request before after out.letters out.replies) → IsEvent db before.table.version what out.kept (world.Call (txn_name txn) request choice) → Shows db what out.replies asked.leads.deeds → StepsOn db whole before after entries (entries ++ entry_of what out ∷ []) past
 list_called_on db whole before after entries past what out txn choice request so asked is shows =
     let w = world_of db before (map (sent db) (letters_in entries)) past in
     let may = same_may request asked.may in
@@ -83,8 +83,8 @@ list_called_on db whole before after entries past what out txn choice request so
     same_may Rollback may = may
     same_may Give_up may = may
 
-pub list_commits_on : (db : Database) (whole : Relations) (before after : Machines) (entries : List Entry) (past : List (Deed (language db))) (out : Out) (txn : names.Txn) (choice : Choice (language db)) → IsListRun db whole before entries past → ListAsked db txn choice Commit_call before after out.letters out.replies →
-    ListStepsOn db whole before after entries (entries ++ entry_of (event.Call (call.Commit txn)) out ∷ []) past
+pub list_commits_on : (db : Database) (whole : Relations) (before after : Machines) (entries : List Entry) (past : List (Deed (language db))) (out : Out) (txn : names.Txn) (choice : Choice (language db)) → IsRun db whole before entries past → ListAsked db txn choice Commit_call before after out.letters out.replies →
+    StepsOn db whole before after entries (entries ++ entry_of (event.Call (call.Commit txn)) out ∷ []) past
 list_commits_on db whole before after entries past out txn choice so asked =
     let shown = commit_shows (txn_name txn) choice (txn_in db before.table txn) asked.accepted in
     list_called_on db whole before after entries past (event.Call (call.Commit txn)) out txn choice Commit_call so asked (choice, refl) (record {
@@ -92,20 +92,20 @@ list_commits_on db whole before after entries past out txn choice so asked =
       stated = subst (AreStated db []) (sym (ap stated_of asked.all ∙ shown.1)) tt;
     })
 
-pub list_rolls_on : (db : Database) (whole : Relations) (before after : Machines) (entries : List Entry) (past : List (Deed (language db))) (out : Out) (txn : names.Txn) (choice : Choice (language db)) → IsListRun db whole before entries past → ListAsked db txn choice Rollback before after out.letters out.replies →
-    ListStepsOn db whole before after entries (entries ++ entry_of (event.Call (call.Rollback txn)) out ∷ []) past
+pub list_rolls_on : (db : Database) (whole : Relations) (before after : Machines) (entries : List Entry) (past : List (Deed (language db))) (out : Out) (txn : names.Txn) (choice : Choice (language db)) → IsRun db whole before entries past → ListAsked db txn choice Rollback before after out.letters out.replies →
+    StepsOn db whole before after entries (entries ++ entry_of (event.Call (call.Rollback txn)) out ∷ []) past
 list_rolls_on db whole before after entries past out txn choice so asked =
     list_called_on db whole before after entries past (event.Call (call.Rollback txn)) out txn choice Rollback so asked (choice, refl)
     (quiet_step db (event.Call (call.Rollback txn)) out.replies asked.leads.deeds refl refl (subst IsSilent (sym asked.all) (rollback_silent (txn_name txn) choice (txn_in db before.table txn))))
 
-pub list_gives_on : (db : Database) (whole : Relations) (before after : Machines) (entries : List Entry) (past : List (Deed (language db))) (out : Out) (txn : names.Txn) (choice : Choice (language db)) → IsListRun db whole before entries past → ListAsked db txn choice Give_up before after out.letters out.replies →
-    ListStepsOn db whole before after entries (entries ++ entry_of (event.Call (call.GiveUp txn)) out ∷ []) past
+pub list_gives_on : (db : Database) (whole : Relations) (before after : Machines) (entries : List Entry) (past : List (Deed (language db))) (out : Out) (txn : names.Txn) (choice : Choice (language db)) → IsRun db whole before entries past → ListAsked db txn choice Give_up before after out.letters out.replies →
+    StepsOn db whole before after entries (entries ++ entry_of (event.Call (call.GiveUp txn)) out ∷ []) past
 list_gives_on db whole before after entries past out txn choice so asked =
     list_called_on db whole before after entries past (event.Call (call.GiveUp txn)) out txn choice Give_up so asked (choice, refl)
     (quiet_step db (event.Call (call.GiveUp txn)) out.replies asked.leads.deeds refl refl (subst IsSilent (sym asked.all) (give_up_silent (txn_name txn) choice (txn_in db before.table txn))))
 
-pub list_states_on : (db : Database) (whole : Relations) (before after : Machines) (entries : List Entry) (past : List (Deed (language db))) (out : Out) (txn : names.Txn) (text : List ℕ) → IsListRun db whole before entries past → ListStated db txn text before after out.letters out.replies →
-    ListStepsOn db whole before after entries (entries ++ entry_of (event.Call (call.State txn text)) out ∷ []) past
+pub list_states_on : (db : Database) (whole : Relations) (before after : Machines) (entries : List Entry) (past : List (Deed (language db))) (out : Out) (txn : names.Txn) (text : List ℕ) → IsRun db whole before entries past → ListStated db txn text before after out.letters out.replies →
+    StepsOn db whole before after entries (entries ++ entry_of (event.Call (call.State txn text)) out ∷ []) past
 list_states_on db whole before after entries past out txn text so stated =
     let asked = stated.asked in
     let shown = state_shows (txn_name txn) (before.table.version, stated.statement) stated.choice (txn_in db before.table txn) asked.accepted in
@@ -116,7 +116,7 @@ list_states_on db whole before after entries past out txn text so stated =
 
 -- ---- letters
 pub list_comes_on : (db : Database) (whole : Relations) (before after : Machines) (entries : List Entry) (past : List (Deed (language db))) (out : Out) (n : ℕ) (letter : letters.Letter) (kept : Bool) →
-    IsListRun db whole before entries past → slice_get (letters_in entries) n ≡ Some letter → ListCame db letter out.kept before after out.letters out.replies → ListStepsOn db whole before after entries (entries ++ entry_of (event.Deliver n kept) out ∷ []) past
+    IsRun db whole before entries past → slice_get (letters_in entries) n ≡ Some letter → ListCame db letter out.kept before after out.letters out.replies → StepsOn db whole before after entries (entries ++ entry_of (event.Deliver n kept) out ∷ []) past
 list_comes_on db whole before after entries past out n letter kept so there came =
     let step : World (language db) → World (language db) = λ w. comes w out.kept came.choice (sent db letter) in
     list_runs_on db whole before after entries past (event.Deliver n kept) out step (world.Deliver n out.kept came.choice) so came.leads
@@ -126,20 +126,20 @@ list_comes_on db whole before after entries past out n letter kept so there came
 
 -- ---- what happens at a site
 pub list_done_on : (db : Database) (whole : Relations) (before after : Machines) (entries : List Entry) (past : List (Deed (language db))) (what : doing.SiteAction) (at : events.Event) (kept : Bool) (out : Out) (choice : Choice (language db)) →
-    IsAtSite what kept at → ((site : List ℕ) → what ≡ Restart site → kept ≡ true) → list_any (λ site. pointwise nat_eq site (place_of what)) db.sites ≡ true → IsListRun db whole before entries past → ListLeads db (happens_at db what out.kept choice) before after out.letters out.replies →
-    ListStepsOn db whole before after entries (entries ++ entry_of at out ∷ []) past
+    IsAtSite what kept at → ((site : List ℕ) → what ≡ Restart site → kept ≡ true) → list_any (λ site. pointwise nat_eq site (place_of what)) db.sites ≡ true → IsRun db whole before entries past → ListLeads db (happens_at db what out.kept choice) before after out.letters out.replies →
+    StepsOn db whole before after entries (entries ++ entry_of at out ∷ []) past
 list_done_on db whole before after entries past (Take letter) at kept out choice is called there so leads = absurd is
 list_done_on db whole before after entries past (GiveUp site ticket) at kept out choice is called there so leads =
     let w = world_of db before (map (sent db) (letters_in entries)) past in
     let bare = world_of db before [] [] in
     let step : World (language db) → World (language db) = λ w. gives_up w site (name_of ticket) in
-    subst (λ e. ListStepsOn db whole before after entries (entries ++ entry_of e out ∷ []) past) (sym is)
+    subst (λ e. StepsOn db whole before after entries (entries ++ entry_of e out ∷ []) past) (sym is)
     (list_runs_on db whole before after entries past (event.SiteGivesUp site ticket) out step (world.Site_gives_up site (name_of ticket)) so leads (if_true (list_any (λ b. pointwise nat_eq b site) db.sites) (step w) w there) refl there
     (silent_list db before after out.letters out.replies (event.SiteGivesUp site ticket) step leads refl refl (at_site_silent bare site (site_after (bare.sites site) (on_give_up (name_of ticket) ((bare.sites site).status (name_of ticket)))) [] refl)))
 list_done_on db whole before after entries past (Inquire site) at kept out choice is called there so leads =
     let w = world_of db before (map (sent db) (letters_in entries)) past in
     let step : World (language db) → World (language db) = λ w. inquires w site in
-    subst (λ e. ListStepsOn db whole before after entries (entries ++ entry_of e out ∷ []) past) (sym is)
+    subst (λ e. StepsOn db whole before after entries (entries ++ entry_of e out ∷ []) past) (sym is)
     (list_runs_on db whole before after entries past (event.SiteInquires site) out step (world.Site_inquires site) so leads (if_true (list_any (λ b. pointwise nat_eq b site) db.sites) (step w) w there) refl there
     (silent_list db before after out.letters out.replies (event.SiteInquires site) step leads refl refl (refl, refl)))
 list_done_on db whole before after entries past (Restart site) at kept out choice is called there so leads =
@@ -147,7 +147,7 @@ list_done_on db whole before after entries past (Restart site) at kept out choic
     let bare = world_of db before [] [] in
     let step : World (language db) → World (language db) = λ w. restarts w site in
     let restarted : at ≡ event.SiteRestarts site true = is ∙ ap (event.SiteRestarts site) (called site refl) in
-    subst (λ e. ListStepsOn db whole before after entries (entries ++ entry_of e out ∷ []) past) (sym restarted)
+    subst (λ e. StepsOn db whole before after entries (entries ++ entry_of e out ∷ []) past) (sym restarted)
     (list_runs_on db whole before after entries past (event.SiteRestarts site true) out step (world.Site_restarts site true) so leads (if_true (list_any (λ b. pointwise nat_eq b site) db.sites) (step w) w there) refl (there, refl)
     (silent_list db before after out.letters out.replies (event.SiteRestarts site true) step leads refl refl (at_site_silent bare site (site_restarted (bare.sites site)) [] refl)))
 
@@ -156,8 +156,8 @@ list_done_on db whole before after entries past (Restart site) at kept out choic
 moved_shows : (db : Database) (t : Name) (s : (language db).Statement) (choice : Choice (language db)) → (phases_of (on_state {L = language db} t (fresh_as true) s choice Idle).deeds ≡ []) × (stated_of (on_state {L = language db} t (fresh_as true) s choice Idle).deeds ≡ (t, s) ∷ [])
 moved_shows db t s choice = state_shows {L = language db} t s choice (Known (fresh_as true)) refl
 
-pub list_moves_on : (db : Database) (whole : Relations) (before after : Machines) (entries : List Entry) (past : List (Deed (language db))) (out : Out) (text : List ℕ) → IsListRun db whole before entries past → ListMoved db text before after out.letters out.replies →
-    ListStepsOn db whole before after entries (entries ++ entry_of (event.Call (call.Refragment text)) out ∷ []) past
+pub list_moves_on : (db : Database) (whole : Relations) (before after : Machines) (entries : List Entry) (past : List (Deed (language db))) (out : Out) (text : List ℕ) → IsRun db whole before entries past → ListMoved db text before after out.letters out.replies →
+    StepsOn db whole before after entries (entries ++ entry_of (event.Call (call.Refragment text)) out ∷ []) past
 list_moves_on db whole before after entries past out text so moved =
     let w = world_of db before (map (sent db) (letters_in entries)) past in
     let s : (language db).Statement = (before.table.version, kinds.Refragment moved.refragment) in

@@ -1,5 +1,5 @@
 -- Why the coordinator refuses a statement doesn't hang on the statement.
-use Rattle.std.proofs.Common.{◌≡◌, ◌≢◌, refl, sym, ap, ◌∙◌, subst, ℕ, true, false, List, [], None, Result, Ok, Err, IfErr, IfOk, OnOk, ◌⊎◌, inl, inr, ⊎_elim}
+use Rattle.std.proofs.Common.{◌≡◌, ◌≢◌, refl, sym, ap, ◌∙◌, subst, ℕ, true, false, List, [], None, Result, Ok, Err, IfErr, ◌⊎◌, inl, inr, ⊎_elim}
 use Rattle.std.specs.Option.{option_map}
 use Rattle.meaning.specs.declared.statement.Statement.{Statement}
 use Rattle.meaning.specs.declared.statement.Statement.TheVariants as statements
@@ -62,11 +62,6 @@ statement_refused {T} db later table txn text catalog is (Err told) all past = g
           (λ unread. inl (subst (λ (schemas : List RelationSchema). IsNoStatement schemas text told) (sym is) unread))
           (λ full. inr (full, past (ap Err full))) late.1,
     )))
-
--- what doesn't hold is said of no result
-pub unless_ok : {T E : Type 0} (P : T → Type 0) {Q : Type 0} (result : Result T E) → (Q → ⊥) → OnOk result Q → IfOk result P
-unless_ok P (Ok x) never q = absurd (never q)
-unless_ok P (Err e) never q = tt
 
 -- why a REFRAGMENT is refused, as the coordinator's contract says it
 pub refragment_refused : {T : Type 0} (db : Database) (later : List (List (List ℕ) × List SplitRelation)) (table : VolatileState) (catalog : List (List ℕ) × List SplitRelation) → InForce db table.version catalog → db.schemas ≡ schemas_of (db.catalogue table.version) → (text : List ℕ) (result : Result T Refusal) →

@@ -5,31 +5,28 @@ use Rattle.std.proofs.lemmas.List.Elements.{filter_map-append}
 use Rattle.std.proofs.lemmas.Grind.{flat_map-append}
 use Rattle.meaning.specs.declared.statement.Statement.{Statement}
 use Rattle.reader.specs.declared.command.Command.TheVariants as command
-use Rattle.reader.specs.Command.{IsTextOf}
 use Rattle.store.specs.declared.letter.Letter as letters
 use Rattle.store.specs.declared.name.Txn as names
 use Rattle.protocol.specs.Accepted.{stated_by, stated_of}
-use Rattle.protocol.specs.Desk.{Choice, Commit_call, Deed, Give_up, Rollback, State, Transition, desk_after, desk_began, desk_restarted, is_desk_within, next_txn, on_desk_letter, Began}
+use Rattle.protocol.specs.Desk.{Choice, Deed, Transition, desk_after, desk_began, desk_restarted, is_desk_within, next_txn, on_desk_letter, Began}
 use Rattle.protocol.specs.Language.{Lang, Name}
 use Rattle.protocol.specs.Letter.{Letter, is_for_desk}
 use Rattle.protocol.specs.Letters.{txn_name}
 use Rattle.protocol.specs.Serial.{phased_of, phases_of}
 use Rattle.protocol.specs.Site.{SiteState, is_within, on_letter, said, site_after}
 use Rattle.protocol.specs.World as world
-use Rattle.protocol.specs.World.{World, addressed, begins, begun, called, comes, comes_to, desk_lives, desk_restarts, gives_up, inquires, restarts, site_steps, turned, turns, with_site}
+use Rattle.protocol.specs.World.{World, addressed, begins, begun, comes, comes_to, desk_lives, desk_restarts, site_steps, turned, turns, with_site}
 use Rattle.protocol.proofs.Basics.{either}
 use Rattle.desk.specs.declared.reply.Notice.{Notice}
-use Rattle.desk.specs.Request.{txn_in}
 use Rattle.desk.specs.Database.{Database, language}
 use Rattle.desk.specs.State.{notice_of}
 use Rattle.desk.specs.Transition.{told}
 use Rattle.world.specs.declared.event.Entry.{Entry}
 use Rattle.world.specs.declared.event.Event as events
 use Rattle.world.specs.Events.{IsEvent}
-use Rattle.world.specs.Machines.{Asked, Leads, Machines, world_of}
 use Rattle.world.specs.Runs.{AreEvents}
 use Rattle.world.specs.Replies.{AreStated, Shows, Tells, notices_in, phased_by, phased_in, text_by, texts_in}
-use Rattle.world.proofs.Shown.{IsSilent, came_silent, commit_shows, give_up_silent, restarted_silent, rollback_silent, state_shows}
+use Rattle.world.proofs.Shown.{IsSilent, came_silent, restarted_silent}
 
 -- ---- an entry more
 pub one_more : {X A : Type 0} (f : X → List A) (xs : List X) (x : X) → flat_map f (xs ++ x ∷ []) ≡ flat_map f xs ++ f x
@@ -92,42 +89,8 @@ module _ {L : Lang} where
   at_site_silent w a s out none = site_silent w a s out none
 
 -- ---- what each event shows
--- the deeds of a step are those of the step where nothing has happened before
-deeds_of : (db : Database) (before after : Machines) (out : List letters.Letter) (notices : List Notice) (step : World (language db) → World (language db)) (leads : Leads db step before after out notices) → (step (world_of db before [] [])).past ≡ leads.deeds
-deeds_of db before after out notices step leads = ap (λ (w : World (language db)). w.past) (leads.is [] [])
-
 pub quiet_step : (db : Database) (what : events.Event) (heard : List Notice) (deeds : List (Deed (language db))) → phased_by what ≡ [] → text_by what heard ≡ [] → IsSilent deeds → Shows db what heard deeds
 quiet_step db what heard deeds no_phase no_text silent = record {
   phased = ap (map txn_name) no_phase ∙ sym silent.0;
   stated = subst (λ texts. AreStated db texts (stated_of deeds)) (sym no_text) (subst (AreStated db []) (sym silent.1) tt);
 }
-
-pub silent_step : (db : Database) (before after : Machines) (out : List letters.Letter) (notices : List Notice) (what : events.Event) (step : World (language db) → World (language db)) (leads : Leads db step before after out notices) →
-    phased_by what ≡ [] → text_by what notices ≡ [] → IsSilent (step (world_of db before [] [])).past → Shows db what notices leads.deeds
-silent_step db before after out notices what step leads no_phase no_text silent = quiet_step db what notices leads.deeds no_phase no_text (subst IsSilent (deeds_of db before after out notices step leads) silent)
-
-pub rollback_step : (db : Database) (before after : Machines) (out : List letters.Letter) (notices : List Notice) (txn : names.Txn) (choice : Choice (language db)) (what : events.Event) (asked : Asked db txn choice Rollback before after out notices) →
-    phased_by what ≡ [] → text_by what notices ≡ [] → Shows db what notices asked.leads.deeds
-rollback_step db before after out notices txn choice what asked no_phase no_text = quiet_step db what notices asked.leads.deeds no_phase no_text (subst IsSilent (sym asked.all) (rollback_silent (txn_name txn) choice (txn_in db before.table txn)))
-
-pub give_up_step : (db : Database) (before after : Machines) (out : List letters.Letter) (notices : List Notice) (txn : names.Txn) (choice : Choice (language db)) (what : events.Event) (asked : Asked db txn choice Give_up before after out notices) →
-    phased_by what ≡ [] → text_by what notices ≡ [] → Shows db what notices asked.leads.deeds
-give_up_step db before after out notices txn choice what asked no_phase no_text = quiet_step db what notices asked.leads.deeds no_phase no_text (subst IsSilent (sym asked.all) (give_up_silent (txn_name txn) choice (txn_in db before.table txn)))
-
-pub commit_step : (db : Database) (before after : Machines) (out : List letters.Letter) (notices : List Notice) (txn : names.Txn) (choice : Choice (language db)) (what : events.Event) (asked : Asked db txn choice Commit_call before after out notices) →
-    phased_by what ≡ txn ∷ [] → text_by what notices ≡ [] → Shows db what notices asked.leads.deeds
-commit_step db before after out notices txn choice what asked phase no_text =
-    let shown = commit_shows (txn_name txn) choice (txn_in db before.table txn) asked.accepted in
-    record {
-      phased = ap (map txn_name) phase ∙ sym shown.0 ∙ ap phases_of (sym asked.all);
-      stated = subst (λ texts. AreStated db texts (stated_of asked.leads.deeds)) (sym no_text) (subst (AreStated db []) (sym (ap stated_of asked.all ∙ shown.1)) tt);
-    }
-
-pub state_step : (db : Database) (before after : Machines) (out : List letters.Letter) (notices : List Notice) (txn : names.Txn) (text : List ℕ) (statement : Statement) (choice : Choice (language db)) (what : events.Event) (asked : Asked db txn choice (State (before.table.version, statement)) before after out notices) →
-    IsTextOf db.schemas text (command.Run statement) → phased_by what ≡ [] → text_by what notices ≡ (txn, text) ∷ [] → Shows db what notices asked.leads.deeds
-state_step db before after out notices txn text statement choice what asked spelled no_phase is =
-    let shown = state_shows (txn_name txn) (before.table.version, statement) choice (txn_in db before.table txn) asked.accepted in
-    record {
-      phased = ap (map txn_name) no_phase ∙ sym shown.0 ∙ ap phases_of (sym asked.all);
-      stated = subst (λ texts. AreStated db texts (stated_of asked.leads.deeds)) (sym is) (subst (AreStated db ((txn, text) ∷ [])) (sym (ap stated_of asked.all ∙ shown.1)) ((refl, spelled), tt));
-    }

@@ -22,7 +22,7 @@ use Rattle.world.specs.declared.event.Event as events
 use Rattle.world.specs.declared.event.Event.TheVariants as event
 use Rattle.world.specs.Events.{IsEvent}
 use Rattle.world.specs.Listed.{FitsList}
-use Rattle.world.specs.Machines.{AreFit, AreOfPlaces, Machines, world_of}
+use Rattle.world.specs.Machines.{AreOfPlaces, Machines, world_of}
 use Rattle.world.specs.Posted.{letters_in}
 use Rattle.world.specs.Replies.{Tells, answers_to, committed_in, texts_of}
 
@@ -33,8 +33,9 @@ AreEvents db w [] (e ∷ events) = ⊥
 AreEvents db w (entry ∷ entries) [] = ⊥
 AreEvents db w (entry ∷ entries) (e ∷ events) = IsEvent db w.version entry.event entry.out.kept e × AreEvents db (happens w e) entries events
 
--- from an opening over whole relations, under the catalogue of this version, the events of the entries lead to the world of these machines, of the letters that the entries put out, and of deeds that they tell; each operation that was ever sent is of a leaf at its site
-pub record IsRunBy (db : Database) (Fit : Machines → Type 0) (whole : Relations) (machines : Machines) (entries : List Entry) (past : List (Deed (language db))) : Type 0 where
+-- From an opening over whole relations, under the catalogue of this version, the events of the entries lead to the world of these machines, of the letters that the entries put out, and of deeds that they tell, whichever catalogues came into
+-- force; each operation that was ever sent is of a leaf at its site.
+pub record IsRun (db : Database) (whole : Relations) (machines : Machines) (entries : List Entry) (past : List (Deed (language db))) : Type 0 where
   pub version : ℕ
   pub opening : World (language db)
   pub opens : IsOpening (version, whole) opening
@@ -44,29 +45,15 @@ pub record IsRunBy (db : Database) (Fit : Machines → Type 0) (whole : Relation
   pub placed : AreOfPlaces db (letters_in entries)
   pub explained : AllExplained past
   pub tells : Tells db entries past
-  pub fit : Fit machines
-
--- so where no catalogue comes after the one in force
-abbrev pub IsRun : (db : Database) → Relations → Machines → List Entry → List (Deed (language db)) → Type 0
-IsRun db whole machines entries past = IsRunBy db (AreFit db) whole machines entries past
-
--- so whichever come after it
-abbrev pub IsListRun : (db : Database) → Relations → Machines → List Entry → List (Deed (language db)) → Type 0
-IsListRun db whole machines entries past = IsRunBy db (FitsList db) whole machines entries past
+  pub fit : FitsList db machines
 
 -- the run goes on to these entries, by further deeds
-pub record RunsOnBy (db : Database) (Fit : Machines → Type 0) (whole : Relations) (machines : Machines) (entries : List Entry) (past : List (Deed (language db))) : Type 0 where
+pub record RunsOn (db : Database) (whole : Relations) (machines : Machines) (entries : List Entry) (past : List (Deed (language db))) : Type 0 where
   pub deeds : List (Deed (language db))
-  pub run_on : IsRunBy db Fit whole machines entries (past ++ deeds)
-
-abbrev pub RunsOn : (db : Database) → Relations → Machines → List Entry → List (Deed (language db)) → Type 0
-RunsOn db whole machines entries past = RunsOnBy db (AreFit db) whole machines entries past
-
-abbrev pub ListRunsOn : (db : Database) → Relations → Machines → List Entry → List (Deed (language db)) → Type 0
-ListRunsOn db whole machines entries past = RunsOnBy db (FitsList db) whole machines entries past
+  pub run_on : IsRun db whole machines entries (past ++ deeds)
 
 -- one event more: it is accepted in the old world, its step leads from there to the new one, and the run goes on by just this event
-pub record StepsOnBy (db : Database) (Fit : Machines → Type 0) (whole : Relations) (before after : Machines) (entries more : List Entry) (past : List (Deed (language db))) : Type 0 where
+pub record StepsOn (db : Database) (whole : Relations) (before after : Machines) (entries more : List Entry) (past : List (Deed (language db))) : Type 0 where
   pub entry : Entry
   pub added : more ≡ entries ++ entry ∷ []
   pub step : Event (language db)
@@ -74,13 +61,7 @@ pub record StepsOnBy (db : Database) (Fit : Machines → Type 0) (whole : Relati
   pub accepted : IsAccepted (world_of db before (map (sent db) (letters_in entries)) past) step
   pub deeds : List (Deed (language db))
   pub is : happens (world_of db before (map (sent db) (letters_in entries)) past) step ≡ world_of db after (map (sent db) (letters_in more)) (past ++ deeds)
-  pub run_on : IsRunBy db Fit whole after more (past ++ deeds)
-
-abbrev pub StepsOn : (db : Database) → Relations → Machines → Machines → List Entry → List Entry → List (Deed (language db)) → Type 0
-StepsOn db whole before after entries more past = StepsOnBy db (AreFit db) whole before after entries more past
-
-abbrev pub ListStepsOn : (db : Database) → Relations → Machines → Machines → List Entry → List Entry → List (Deed (language db)) → Type 0
-ListStepsOn db whole before after entries more past = StepsOnBy db (FitsList db) whole before after entries more past
+  pub run_on : IsRun db whole after more (past ++ deeds)
 
 -- the caller's flag of a delivery is honoured: its step is that of a store call that is kept, unless the flag said that it isn't, or the medium of a store has refused meanwhile
 pub record IsSpared (Refused : Type 0) (db : Database) (before after : Machines) (entries more : List Entry) (past : List (Deed (language db))) (number : ℕ) (whether : Bool) : Type 0 where
@@ -95,9 +76,9 @@ abbrev pub Spares : Type 0 → (db : Database) → Machines → Machines → Lis
 Spares Refused db before after entries more past (event.Deliver number whether) = IsSpared Refused db before after entries more past number whether
 Spares Refused db before after entries more past other = ⊤
 
--- so a run over a list of catalogues goes on by one event more, and the invariant holds in the world that it leads to
-abbrev pub ListGoesOn : (db : Database) → Relations → Machines → Machines → List Entry → List Entry → List (Deed (language db)) → Type 0
-ListGoesOn db whole before after entries more past = (on : ListStepsOn db whole before after entries more past) × Holds (on.run_on.version, whole) (world_of db after (map (sent db) (letters_in more)) (past ++ on.deeds))
+-- the run goes on by one event more, and the invariant holds in the world that it leads to
+abbrev pub GoesOn : (db : Database) → Relations → Machines → Machines → List Entry → List Entry → List (Deed (language db)) → Type 0
+GoesOn db whole before after entries more past = (on : StepsOn db whole before after entries more past) × Holds (on.run_on.version, whole) (world_of db after (map (sent db) (letters_in more)) (past ++ on.deeds))
 
 -- the law of it, of the machines at hand
 abbrev pub RunsHold : Database → Type 0
@@ -124,10 +105,6 @@ pub record IsSerialRun (db : Database) (whole : Relations) (machines : Machines)
   pub spelled : (txn : Txn) → AllZip (λ (text : List ℕ) (statement : Statement). IsTextOf db.schemas text (command.Run statement)) (texts_of entries txn) (statements txn)
   pub answers : map (answers_to entries) (committed_in entries) ≡ answers_after db (map statements (committed_in entries)) whole
   pub rebuilt : (place : Place) → settled (world_of db machines [] []) place ≡ db.content machines.table.version place (relations_after db (map statements (committed_in entries)) whole)
-
--- the serial law of a list of catalogues, of the machines at hand: each run of them is serial
-abbrev pub ListRunsAreSerial : Database → Type 0
-ListRunsAreSerial db = (whole : Relations) (machines : Machines) (entries : List Entry) (past : List (Deed (language db))) → IsListRun db whole machines entries past → IsSerialRun db whole machines entries
 
 -- the serial law of the machines at hand: each run of them is serial
 abbrev pub RunsAreSerial : Database → Type 0

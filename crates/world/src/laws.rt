@@ -26,7 +26,7 @@ ghost use Rattle.world.specs.Executed.{ObeysUnlessRefused};
 ghost use Rattle.world.specs.Recovery.{BeginsAnewLaw, ComingUpLaw, ListBeginsAnewLaw, ListComingUpLaw};
 ghost use Rattle.world.specs.Listed.{IsListed};
 ghost use Rattle.world.specs.ListServed.{ListHeardIsSerial, ListServedIsSerial};
-ghost use Rattle.world.specs.Runs.{ListRunsAreSerial, RunsAreSerial, RunsHold};
+ghost use Rattle.world.specs.Runs.{RunsAreSerial, RunsHold};
 ghost use Rattle.world.specs.Client.{ServedIsSerial};
 ghost use Rattle.world.specs.Settling.{GrowsQuiet};
 ghost use Rattle.world.specs.Start.{ListNewStoresLaw, NewStoresLaw};
@@ -99,9 +99,23 @@ pub fn chain_is_listed(chain: &Chain)
     moves_lead();
 }
 
-/// The serial law of each lawful list of catalogues, of the machines at hand: after each run of them, whichever catalogue comes into force.
-pub fn list_runs_are_serial()
-    ensures { (db : Database) → IsListed db → ListRunsAreSerial db }
+/// A catalogue alone is such a list, in which it has every number.
+pub fn catalogue_is_listed(catalog: &Catalog)
+    ensures { IsListed (database (catalogue_of catalog.now)) }
+{
+    database_is_of_catalogue(catalog);
+    language_is_lawful(catalog);
+}
+
+/// The serial law of each lawful list of catalogues, of the machines at hand: after each run of them, with the letters that they put out,
+/// whichever catalogue comes into force.
+pub fn runs_are_serial()
+    ensures { (db : Database) → IsListed db → RunsAreSerial db }
+{}
+
+/// The invariant holds of the machines at hand: after each run of them.
+pub fn runs_hold()
+    ensures { (db : Database) → IsListed db → RunsHold db }
 {}
 
 /// So of a client's database over such a list, and by what its client asked for and heard.
@@ -128,13 +142,6 @@ pub fn serial_law(catalog: &Catalog)
     language_is_lawful(catalog);
 }
 
-/// The serial law of the machines at hand: after each run of them, with the letters that they put out.
-pub fn runs_are_serial(catalog: &Catalog)
-    ensures { RunsAreSerial (database (catalogue_of catalog.now)) }
-{
-    serial_law(catalog);
-}
-
 /// A committed transaction is applied whole and once, after every list of events.
 pub fn applied_whole_and_once(catalog: &Catalog)
     ensures { AppliedWholeAndOnce (language (database (catalogue_of catalog.now))) }
@@ -156,15 +163,6 @@ pub fn part_three(catalog: &Catalog)
     ensures { PartThree (language (database (catalogue_of catalog.now))) }
 {
     language_is_lawful(catalog);
-}
-
-/// The invariant holds of the machines at hand: after each run of them.
-pub fn runs_hold(catalog: &Catalog)
-    ensures { RunsHold (database (catalogue_of catalog.now)) }
-{
-    parts_one_and_two(catalog);
-    part_three(catalog);
-    applied_whole_and_once(catalog);
 }
 
 /// One client alone, whose delivered letters are forgotten, goes from a world of a run to a world of a run.

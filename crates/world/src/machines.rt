@@ -25,7 +25,7 @@ ghost use Rattle.world.specs.declared.fault.Fault.TheVariants as faults;
 ghost use Rattle.world.specs.Events.{is_nowhere, is_unsent};
 ghost use Rattle.world.specs.EventApplied.{IsAtSite, may_call, may_call_at, told_by_desk};
 ghost use Rattle.world.specs.Refused.{IsRefused, IsRefusedFor};
-ghost use Rattle.world.specs.Runs.{IsListRun, IsRun, IsSpared, ListStepsOn, Spares, StepsOn, entry_of};
+ghost use Rattle.world.specs.Runs.{IsRun, IsSpared, StepsOn, Spares, entry_of};
 ghost use Rattle.world.specs.Seated.{place_of};
 
 use crate::event::{Call, Entry, Event};
@@ -360,13 +360,9 @@ fn deliver<D: DeskStore, S: SiteStore>(
     kept: bool,
 ) -> Result<Out, Fault>
     ensures leaves { LeavesDatabase D.is_clean S.is_clean D.is_sound S.is_sound D.refused S.refused machines.old machines.new }
-    ensures ok { (db : Database) (whole : Relations) (past : List (Deed (language db))) → IsOfCatalogue db → InForce db machines.old.desk.volatile.version machines.old.desk.catalog → OfStores D.is_clean S.is_clean machines.new → OfStores D.is_sound S.is_sound machines.old
-        → IsRun db whole (held D.kept S.kept machines.old) log.now.items past → IfOk result (λ out. StepsOn db whole (held D.kept S.kept machines.old) (held D.kept S.kept machines.new) log.now.items (log.now.items ++ entry_of (events.Deliver number kept) out ∷ []) past) }
-    ensures spared { (db : Database) (whole : Relations) (past : List (Deed (language db))) → IsOfCatalogue db → InForce db machines.old.desk.volatile.version machines.old.desk.catalog → OfStores D.is_clean S.is_clean machines.new → OfStores D.is_sound S.is_sound machines.old
-        → IsRun db whole (held D.kept S.kept machines.old) log.now.items past → IfOk result (λ out. IsSpared (HaveRefused (counts D.refused S.refused machines.old) (counts D.refused S.refused machines.new)) db (held D.kept S.kept machines.old) (held D.kept S.kept machines.new) log.now.items (log.now.items ++ entry_of (events.Deliver number kept) out ∷ []) past number kept) }
-    ensures lists { (db : Database) (whole : Relations) (past : List (Deed (language db))) → IsOfCatalogue db → StandsIn db machines.old.desk → OfStores D.is_clean S.is_clean machines.new → OfStores D.is_sound S.is_sound machines.old
-        → IsListRun db whole (held D.kept S.kept machines.old) log.now.items past → IfOk result (λ out. ListStepsOn db whole (held D.kept S.kept machines.old) (held D.kept S.kept machines.new) log.now.items (log.now.items ++ entry_of (events.Deliver number kept) out ∷ []) past × StandsIn db machines.new.desk) }
-    ensures spared_lists { (db : Database) (past : List (Deed (language db))) → IsOfCatalogue db → StandsIn db machines.old.desk → OfStores D.is_clean S.is_clean machines.new → OfStores D.is_sound S.is_sound machines.old
+    ensures ok { (db : Database) (whole : Relations) (past : List (Deed (language db))) → IsOfCatalogue db → StandsIn db machines.old.desk → OfStores D.is_clean S.is_clean machines.new → OfStores D.is_sound S.is_sound machines.old
+        → IsRun db whole (held D.kept S.kept machines.old) log.now.items past → IfOk result (λ out. StepsOn db whole (held D.kept S.kept machines.old) (held D.kept S.kept machines.new) log.now.items (log.now.items ++ entry_of (events.Deliver number kept) out ∷ []) past × StandsIn db machines.new.desk) }
+    ensures spared { (db : Database) (past : List (Deed (language db))) → IsOfCatalogue db → StandsIn db machines.old.desk → OfStores D.is_clean S.is_clean machines.new → OfStores D.is_sound S.is_sound machines.old
         → FitsList db (held D.kept S.kept machines.old) → IfOk result (λ out. IsSpared (HaveRefused (counts D.refused S.refused machines.old) (counts D.refused S.refused machines.new)) db (held D.kept S.kept machines.old) (held D.kept S.kept machines.new) log.now.items (log.now.items ++ entry_of (events.Deliver number kept) out ∷ []) past number kept) }
     ensures follows { StaysOrFollows machines.old machines.new }
     ensures stays { OnErr result (StaysInForce machines.old machines.new) }
@@ -393,10 +389,8 @@ fn call<D: DeskStore, S: SiteStore>(
     call: &Call,
 ) -> Result<Out, Refusal>
     ensures leaves { LeavesMachines D.is_clean S.is_clean D.is_sound S.is_sound D.refused S.refused machines.old machines.new }
-    ensures ok { (db : Database) (whole : Relations) (entries : List EntryNow) (past : List (Deed (language db))) → IsOfCatalogue db → InForce db machines.old.desk.volatile.version machines.old.desk.catalog
-        → IsRun db whole (held D.kept S.kept machines.old) entries past → IfOk result (λ out. StepsOn db whole (held D.kept S.kept machines.old) (held D.kept S.kept machines.new) entries (entries ++ entry_of (events.Call call.now) out ∷ []) past) }
-    ensures lists { (db : Database) (whole : Relations) (entries : List EntryNow) (past : List (Deed (language db))) → IsOfCatalogue db → StandsIn db machines.old.desk
-        → IsListRun db whole (held D.kept S.kept machines.old) entries past → IfOk result (λ out. ListStepsOn db whole (held D.kept S.kept machines.old) (held D.kept S.kept machines.new) entries (entries ++ entry_of (events.Call call.now) out ∷ []) past × StandsIn db machines.new.desk) }
+    ensures ok { (db : Database) (whole : Relations) (entries : List EntryNow) (past : List (Deed (language db))) → IsOfCatalogue db → StandsIn db machines.old.desk
+        → IsRun db whole (held D.kept S.kept machines.old) entries past → IfOk result (λ out. StepsOn db whole (held D.kept S.kept machines.old) (held D.kept S.kept machines.new) entries (entries ++ entry_of (events.Call call.now) out ∷ []) past × StandsIn db machines.new.desk) }
     ensures stays { OnErr result (StaysInForce machines.old machines.new) }
     ensures refused { (db : Database) → IsOfCatalogue db → InForce db machines.old.desk.volatile.version machines.old.desk.catalog → Fits db (D.kept machines.old.desk.store) (volatile_of machines.old.desk.volatile)
         → IfErr result (λ told. (told ≡ refusals.Memory) ⊎ IsRefused db machines.old.desk.later.items (volatile_of machines.old.desk.volatile) call.now told) }
@@ -421,10 +415,8 @@ fn apply_event_at<D: DeskStore, S: SiteStore>(
 ) -> Result<Out, Fault>
     requires { is_letter what ≡ false }
     ensures leaves { LeavesMachines D.is_clean S.is_clean D.is_sound S.is_sound D.refused S.refused machines.old machines.new }
-    ensures ok { (db : Database) (whole : Relations) (entries : List EntryNow) (at : EventNow) (past : List (Deed (language db))) → IsOfCatalogue db → InForce db machines.old.desk.volatile.version machines.old.desk.catalog → OfStores D.is_clean S.is_clean machines.new → OfStores D.is_sound S.is_sound machines.old
-        → IsAtSite what kept at → IsRun db whole (held D.kept S.kept machines.old) entries past → IfOk result (λ out. StepsOn db whole (held D.kept S.kept machines.old) (held D.kept S.kept machines.new) entries (entries ++ entry_of at out ∷ []) past) }
-    ensures lists { (db : Database) (whole : Relations) (entries : List EntryNow) (at : EventNow) (past : List (Deed (language db))) → IsOfCatalogue db → StandsIn db machines.old.desk → OfStores D.is_clean S.is_clean machines.new → OfStores D.is_sound S.is_sound machines.old
-        → IsAtSite what kept at → IsListRun db whole (held D.kept S.kept machines.old) entries past → IfOk result (λ out. ListStepsOn db whole (held D.kept S.kept machines.old) (held D.kept S.kept machines.new) entries (entries ++ entry_of at out ∷ []) past × StandsIn db machines.new.desk) }
+    ensures ok { (db : Database) (whole : Relations) (entries : List EntryNow) (at : EventNow) (past : List (Deed (language db))) → IsOfCatalogue db → StandsIn db machines.old.desk → OfStores D.is_clean S.is_clean machines.new → OfStores D.is_sound S.is_sound machines.old
+        → IsAtSite what kept at → IsRun db whole (held D.kept S.kept machines.old) entries past → IfOk result (λ out. StepsOn db whole (held D.kept S.kept machines.old) (held D.kept S.kept machines.new) entries (entries ++ entry_of at out ∷ []) past × StandsIn db machines.new.desk) }
     ensures desk { machines.new.desk ≡ machines.old.desk }
     ensures unsent { result ≡ Err faults.Unsent → is_nowhere machines.old.desk.catalog.0 (place_of what) ≡ true }
     ensures nowhere { is_nowhere machines.old.desk.catalog.0 (place_of what) ≡ true → result ≡ Err faults.Unsent }
@@ -449,15 +441,11 @@ pub(crate) fn apply_event<D: DeskStore, S: SiteStore>(
     event: &Event,
 ) -> Result<Out, Fault>
     ensures leaves { LeavesDatabase D.is_clean S.is_clean D.is_sound S.is_sound D.refused S.refused machines.old machines.new }
-    ensures ok { (db : Database) (whole : Relations) (past : List (Deed (language db))) → IsOfCatalogue db → InForce db machines.old.desk.volatile.version machines.old.desk.catalog → OfStores D.is_clean S.is_clean machines.new → OfStores D.is_sound S.is_sound machines.old
-        → IsRun db whole (held D.kept S.kept machines.old) log.now.items past → IfOk result (λ out. StepsOn db whole (held D.kept S.kept machines.old) (held D.kept S.kept machines.new) log.now.items (log.now.items ++ entry_of event.now out ∷ []) past) }
-    ensures lists { (db : Database) (whole : Relations) (past : List (Deed (language db))) → IsOfCatalogue db → StandsIn db machines.old.desk → OfStores D.is_clean S.is_clean machines.new → OfStores D.is_sound S.is_sound machines.old
-        → IsListRun db whole (held D.kept S.kept machines.old) log.now.items past → IfOk result (λ out. ListStepsOn db whole (held D.kept S.kept machines.old) (held D.kept S.kept machines.new) log.now.items (log.now.items ++ entry_of event.now out ∷ []) past × StandsIn db machines.new.desk) }
+    ensures ok { (db : Database) (whole : Relations) (past : List (Deed (language db))) → IsOfCatalogue db → StandsIn db machines.old.desk → OfStores D.is_clean S.is_clean machines.new → OfStores D.is_sound S.is_sound machines.old
+        → IsRun db whole (held D.kept S.kept machines.old) log.now.items past → IfOk result (λ out. StepsOn db whole (held D.kept S.kept machines.old) (held D.kept S.kept machines.new) log.now.items (log.now.items ++ entry_of event.now out ∷ []) past × StandsIn db machines.new.desk) }
     ensures follows { StaysOrFollows machines.old machines.new }
     ensures stays { OnErr result (StaysInForce machines.old machines.new) }
-    ensures spared { (db : Database) (whole : Relations) (past : List (Deed (language db))) → IsOfCatalogue db → InForce db machines.old.desk.volatile.version machines.old.desk.catalog → OfStores D.is_clean S.is_clean machines.new → OfStores D.is_sound S.is_sound machines.old
-        → IsRun db whole (held D.kept S.kept machines.old) log.now.items past → IfOk result (λ out. Spares (HaveRefused (counts D.refused S.refused machines.old) (counts D.refused S.refused machines.new)) db (held D.kept S.kept machines.old) (held D.kept S.kept machines.new) log.now.items (log.now.items ++ entry_of event.now out ∷ []) past event.now) }
-    ensures spared_lists { (db : Database) (past : List (Deed (language db))) → IsOfCatalogue db → StandsIn db machines.old.desk → OfStores D.is_clean S.is_clean machines.new → OfStores D.is_sound S.is_sound machines.old
+    ensures spared { (db : Database) (past : List (Deed (language db))) → IsOfCatalogue db → StandsIn db machines.old.desk → OfStores D.is_clean S.is_clean machines.new → OfStores D.is_sound S.is_sound machines.old
         → FitsList db (held D.kept S.kept machines.old) → IfOk result (λ out. Spares (HaveRefused (counts D.refused S.refused machines.old) (counts D.refused S.refused machines.new)) db (held D.kept S.kept machines.old) (held D.kept S.kept machines.new) log.now.items (log.now.items ++ entry_of event.now out ∷ []) past event.now) }
     ensures unsent { result ≡ Err faults.Unsent → is_unsent machines.old.desk.catalog.0 log.now.items event.now ≡ true }
     ensures nowhere { is_unsent machines.old.desk.catalog.0 log.now.items event.now ≡ true → (result ≡ Err faults.Unsent) ⊎ (result ≡ Err (faults.Desk refusals.Memory)) }

@@ -8,7 +8,6 @@ ghost use Rattle.meaning.specs.Whole.{FitsSchema, Relations};
 ghost use Rattle.catalog.specs.Catalogue.{Catalogue};
 ghost use Rattle.catalog.specs.FragmentLeaf.{schemas_of};
 ghost use Rattle.catalog.specs.Relation.{catalogue_of};
-ghost use Rattle.protocol.specs.Accepted.{Holds};
 ghost use Rattle.protocol.specs.Desk.{Deed};
 ghost use Rattle.protocol.specs.Letters.{txn_name};
 ghost use Rattle.protocol.specs.Serial.{committed};
@@ -30,10 +29,9 @@ ghost use Rattle.world.specs.Listed.{FitsList, IsListed, StandsIn};
 ghost use Rattle.world.specs.Chain.{IsLast, StandsAt, sites_of};
 ghost use Rattle.world.specs.Contents.{OfGiven, OfStores, counted, held};
 ghost use Rattle.world.specs.Committed.{AnswerInTurn, committed_of};
-ghost use Rattle.world.specs.Machines.{AreFit, world_of};
 ghost use Rattle.world.specs.Posted.{letters_in};
 ghost use Rattle.world.specs.Refused.{IsRefusedFor};
-ghost use Rattle.world.specs.Runs.{IsListRun, IsRun, IsSerialRun, IsSpared, ListGoesOn, ListRunsOn, RunsOn, StepsOn};
+ghost use Rattle.world.specs.Runs.{IsRun, IsSerialRun, IsSpared, GoesOn, RunsOn};
 ghost use Rattle.world.specs.Steps.{Steps, answer_of};
 ghost use Rattle.world.specs.contracts.world.World.{the_row};
 ghost use Rattle.world.specs.Settled.{AreThoseOf, ShowsSerial, parts_kept, rows_shown};
@@ -44,9 +42,7 @@ ghost use Rattle.world.specs.Start.{AreNew};
 use crate::committed::{Committed, committed_in};
 use crate::event::{Entry, Event};
 use crate::fault::Fault;
-use crate::laws::{
-    database_is_of_catalogue, language_is_lawful, list_runs_are_serial, runs_are_serial, runs_hold,
-};
+use crate::laws::{database_is_of_catalogue, runs_are_serial};
 use crate::log::Log;
 use crate::machines::{Machines, apply_event};
 use crate::rebuild::{kept_parts, rebuilt};
@@ -78,17 +74,17 @@ pub struct World<D: DeskStore, S: SiteStore> {
 }
 
 /// A world over lists is opened, under the first catalogue of a chain: the fragments rebuild these whole relations, and nothing
-/// has happened. Only want of memory is a fault. Here and below the clauses `lists`, and those that end so, speak of every chain, and the
-/// others of runs in which no catalogue comes later.
+/// has happened. Only want of memory is a fault. Where none comes later, the list may be the one in force alone, under every number
+/// (`alone`).
 pub fn open(
     alloc: Global,
     chain: &Chain,
     whole: &Whole,
 ) -> Result<World<PlainDesk, PlainSite>, Fault>
-    ensures ok { (catalogue : Catalogue) → FitsSchema (schemas_of catalogue) whole.now
-        → IfOk result (λ world. IsLast catalogue world.machines.desk → IsRun (database catalogue) whole.now (held desk_kept kept_of world.machines) [] []) }
-    ensures lists { (first : Catalogue) (rest : List Catalogue) → map catalogue_of chain.now ≡ first ∷ rest → FitsSchema (schemas_of first) whole.now
-        → IfOk result (λ world. IsListRun (databases first rest) whole.now (held desk_kept kept_of world.machines) [] [] × StandsIn (databases first rest) world.machines.desk) }
+    ensures alone { (catalogue : Catalogue) → FitsSchema (schemas_of catalogue) whole.now
+        → IfOk result (λ world. IsLast catalogue world.machines.desk → IsRun (database catalogue) whole.now (held desk_kept kept_of world.machines) [] [] × StandsIn (database catalogue) world.machines.desk) }
+    ensures ok { (first : Catalogue) (rest : List Catalogue) → map catalogue_of chain.now ≡ first ∷ rest → FitsSchema (schemas_of first) whole.now
+        → IfOk result (λ world. IsRun (databases first rest) whole.now (held desk_kept kept_of world.machines) [] [] × StandsIn (databases first rest) world.machines.desk) }
     ensures none { IfOk result (λ world. world.entries.items ≡ []) }
     ensures catalogs { IfOk result (λ world. StandsAt 1 (map catalogue_of chain.now) world.machines.desk) }
     ensures single { (catalogue : Catalogue) → map catalogue_of chain.now ≡ catalogue ∷ [] → IfOk result (λ world. IsLast catalogue world.machines.desk) }
@@ -115,10 +111,10 @@ pub fn open_on<D: DeskStore + Drop, S: SiteStore + Drop>(
     desk: D,
 ) -> Result<World<D, S>, Fault>
     requires { length sites.items ≡ length (sites_of chain.now) }
-    ensures ok { (catalogue : Catalogue) → IfOk result (λ world. IsLast catalogue world.machines.desk → OfStores D.is_clean S.is_clean world.machines → AreNew D.is_sound D.kept S.is_sound S.kept catalogue desk sites.items → FitsSchema (schemas_of catalogue) whole.now
-        → IsRun (database catalogue) whole.now (held D.kept S.kept world.machines) [] []) }
-    ensures lists { (first : Catalogue) (rest : List Catalogue) → map catalogue_of chain.now ≡ first ∷ rest → FitsSchema (schemas_of first) whole.now → (D.kept desk).version ≡ 1
-        → IfOk result (λ world. OfStores D.is_clean S.is_clean world.machines → AreNew D.is_sound D.kept S.is_sound S.kept first desk sites.items → IsListRun (databases first rest) whole.now (held D.kept S.kept world.machines) [] [] × StandsIn (databases first rest) world.machines.desk) }
+    ensures alone { (catalogue : Catalogue) → IfOk result (λ world. IsLast catalogue world.machines.desk → OfStores D.is_clean S.is_clean world.machines → AreNew D.is_sound D.kept S.is_sound S.kept catalogue desk sites.items → FitsSchema (schemas_of catalogue) whole.now
+        → IsRun (database catalogue) whole.now (held D.kept S.kept world.machines) [] [] × StandsIn (database catalogue) world.machines.desk) }
+    ensures ok { (first : Catalogue) (rest : List Catalogue) → map catalogue_of chain.now ≡ first ∷ rest → FitsSchema (schemas_of first) whole.now → (D.kept desk).version ≡ 1
+        → IfOk result (λ world. OfStores D.is_clean S.is_clean world.machines → AreNew D.is_sound D.kept S.is_sound S.kept first desk sites.items → IsRun (databases first rest) whole.now (held D.kept S.kept world.machines) [] [] × StandsIn (databases first rest) world.machines.desk) }
     ensures none { IfOk result (λ world. world.entries.items ≡ []) }
     ensures clean { IfOk result (λ world. OfStores D.is_clean S.is_clean world.machines → OfGiven D.is_clean S.is_clean desk sites.items) }
     ensures sound { IfOk result (λ world. OfStores D.is_clean S.is_clean world.machines → OfStores D.is_sound S.is_sound world.machines) }
@@ -142,7 +138,7 @@ impl<D: DeskStore, S: SiteStore> World<D, S> {
     /// memory.
     pub fn step(&mut self, event: Event) -> Result<&Entry, &Fault>
         ensures* steps { sem 𝓛 (follows_so (the_row D.row S.row) (the_row D.row S.row) self.entry.ghost_name none (λ _ _. ⊤)
-            (λ new. Steps (database (catalogue_of self.old.machines.desk.catalog)) (OfStores D.is_clean S.is_clean) (OfStores D.is_sound S.is_sound) (held D.kept S.kept) (counted D.kept S.kept D.refused S.refused) event (answer_of result) self.old new)) }
+            (λ new. Steps (OfStores D.is_clean S.is_clean) (OfStores D.is_sound S.is_sound) (held D.kept S.kept) (counted D.kept S.kept D.refused S.refused) event (answer_of result) self.old new)) }
         ensures event { IfOk result (λ entry. entry.now.event ≡ event) }
     {
         match self.happens(event) {
@@ -157,39 +153,21 @@ impl<D: DeskStore, S: SiteStore> World<D, S> {
     /// An event happens, and has an entry, the last one from now on.
     fn happens(&mut self, event: Event) -> Result<(), Fault>
         ensures leaves { LeavesDatabase D.is_clean S.is_clean D.is_sound S.is_sound D.refused S.refused self.old.machines self.new.machines }
-        ensures ok { (whole : Relations) (past : List (Deed (language (database (catalogue_of self.old.machines.desk.catalog)))))
-            → OfStores D.is_clean S.is_clean self.new.machines → OfStores D.is_sound S.is_sound self.old.machines
-            → IsRun (database (catalogue_of self.old.machines.desk.catalog)) whole (held D.kept S.kept self.old.machines) self.old.entries.items past
-            → OnOk result (RunsOn (database (catalogue_of self.old.machines.desk.catalog)) whole (held D.kept S.kept self.new.machines) self.new.entries.items past) }
-        ensures goes_on { (whole : Relations) (past : List (Deed (language (database (catalogue_of self.old.machines.desk.catalog)))))
-            → OfStores D.is_clean S.is_clean self.new.machines → OfStores D.is_sound S.is_sound self.old.machines
-            → IsRun (database (catalogue_of self.old.machines.desk.catalog)) whole (held D.kept S.kept self.old.machines) self.old.entries.items past
-            → OnOk result ((on : StepsOn (database (catalogue_of self.old.machines.desk.catalog)) whole (held D.kept S.kept self.old.machines) (held D.kept S.kept self.new.machines) self.old.entries.items self.new.entries.items past)
-            × Holds (on.run_on.version, whole) (world_of (database (catalogue_of self.old.machines.desk.catalog)) (held D.kept S.kept self.new.machines) (map (sent (database (catalogue_of self.old.machines.desk.catalog))) (letters_in self.new.entries.items)) (past ++ on.deeds))) }
-        ensures lists { (db : Database) (whole : Relations) (past : List (Deed (language db))) → IsListed db → StandsIn db self.old.machines.desk → OfStores D.is_clean S.is_clean self.new.machines → OfStores D.is_sound S.is_sound self.old.machines
-            → IsListRun db whole (held D.kept S.kept self.old.machines) self.old.entries.items past → OnOk result (ListGoesOn db whole (held D.kept S.kept self.old.machines) (held D.kept S.kept self.new.machines) self.old.entries.items self.new.entries.items past × StandsIn db self.new.machines.desk) }
+        ensures goes_on { (db : Database) (whole : Relations) (past : List (Deed (language db))) → IsListed db → StandsIn db self.old.machines.desk → OfStores D.is_clean S.is_clean self.new.machines → OfStores D.is_sound S.is_sound self.old.machines
+            → IsRun db whole (held D.kept S.kept self.old.machines) self.old.entries.items past → OnOk result (GoesOn db whole (held D.kept S.kept self.old.machines) (held D.kept S.kept self.new.machines) self.old.entries.items self.new.entries.items past × StandsIn db self.new.machines.desk) }
         ensures follows { StaysOrFollows self.old.machines self.new.machines }
         ensures stays { OnErr result (StaysInForce self.old.machines self.new.machines) }
-        ensures spared { (whole : Relations) (past : List (Deed (language (database (catalogue_of self.old.machines.desk.catalog)))))
-            → OfStores D.is_clean S.is_clean self.new.machines → OfStores D.is_sound S.is_sound self.old.machines
-            → IsRun (database (catalogue_of self.old.machines.desk.catalog)) whole (held D.kept S.kept self.old.machines) self.old.entries.items past
-            → OnOk result ((number : ℕ) (whether : Bool) → event ≡ events.Deliver number whether → IsSpared (HaveRefused (counts D.refused S.refused self.old.machines) (counts D.refused S.refused self.new.machines)) (database (catalogue_of self.old.machines.desk.catalog)) (held D.kept S.kept self.old.machines) (held D.kept S.kept self.new.machines) self.old.entries.items self.new.entries.items past number whether) }
-        ensures spared_lists { (db : Database) (past : List (Deed (language db))) → IsListed db → StandsIn db self.old.machines.desk → OfStores D.is_clean S.is_clean self.new.machines → OfStores D.is_sound S.is_sound self.old.machines
+        ensures spared { (db : Database) (past : List (Deed (language db))) → IsListed db → StandsIn db self.old.machines.desk → OfStores D.is_clean S.is_clean self.new.machines → OfStores D.is_sound S.is_sound self.old.machines
             → FitsList db (held D.kept S.kept self.old.machines) → OnOk result ((number : ℕ) (whether : Bool) → event ≡ events.Deliver number whether → IsSpared (HaveRefused (counts D.refused S.refused self.old.machines) (counts D.refused S.refused self.new.machines)) db (held D.kept S.kept self.old.machines) (held D.kept S.kept self.new.machines) self.old.entries.items self.new.entries.items past number whether) }
         ensures entry { OnOk result ((entry : EntryNow) × ((entry.event ≡ event) × (self.new.entries.items ≡ self.old.entries.items ++ entry ∷ []))) }
         ensures uncalled { may_call event ≡ false → CallsNoStore self.old.machines self.new.machines }
         ensures unsent { result ≡ Err faults.Unsent → is_unsent self.old.machines.desk.catalog.0 self.old.entries.items event ≡ true }
         ensures nowhere { is_unsent self.old.machines.desk.catalog.0 self.old.entries.items event ≡ true → (result ≡ Err faults.Unsent) ⊎ (result ≡ Err (faults.Desk refusals.Memory)) }
-        ensures refused { (whole : Relations) (past : List (Deed (language (database (catalogue_of self.old.machines.desk.catalog)))))
-            → IsRun (database (catalogue_of self.old.machines.desk.catalog)) whole (held D.kept S.kept self.old.machines) self.old.entries.items past
-            → IfErr result (IsRefusedFor (OfStores D.is_clean S.is_clean self.new.machines × OfStores D.is_sound S.is_sound self.old.machines) (database (catalogue_of self.old.machines.desk.catalog)) (counted D.kept S.kept D.refused S.refused self.old.machines) (counted D.kept S.kept D.refused S.refused self.new.machines) self.old.entries.items event) }
-        ensures refused_lists { (db : Database) → IsListed db → StandsIn db self.old.machines.desk → FitsList db (held D.kept S.kept self.old.machines)
+        ensures refused { (db : Database) → IsListed db → StandsIn db self.old.machines.desk → FitsList db (held D.kept S.kept self.old.machines)
             → IfErr result (IsRefusedFor (OfStores D.is_clean S.is_clean self.new.machines × OfStores D.is_sound S.is_sound self.old.machines) db (counted D.kept S.kept D.refused S.refused self.old.machines) (counted D.kept S.kept D.refused S.refused self.new.machines) self.old.entries.items event) }
         ensures err { StaysOnErr (OfStores D.is_clean S.is_clean) (OfStores D.is_sound S.is_sound) (held D.kept S.kept) self.old.machines self.new.machines result }
         ensures same { OnErr result (self.new.entries.items ≡ self.old.entries.items) }
     {
-        database_is_of_catalogue(self.machines.desk.catalog());
-        runs_hold(self.machines.desk.catalog());
         self.entries.make_room()?;
         match apply_event(&mut self.machines, &self.entries, &event) {
             Ok(out) => {
@@ -204,24 +182,12 @@ impl<D: DeskStore, S: SiteStore> World<D, S> {
     /// then how many events came before.
     pub fn run(&mut self, events: &[Event]) -> Result<(), usize>
         ensures leaves { LeavesDatabase D.is_clean S.is_clean D.is_sound S.is_sound D.refused S.refused self.old.machines self.new.machines }
-        ensures runs { (whole : Relations) (past : List (Deed (language (database (catalogue_of self.old.machines.desk.catalog)))))
-            → OfStores D.is_clean S.is_clean self.new.machines → OfStores D.is_sound S.is_sound self.old.machines
-            → IsRun (database (catalogue_of self.old.machines.desk.catalog)) whole (held D.kept S.kept self.old.machines) self.old.entries.items past
-            → RunsOn (database (catalogue_of self.old.machines.desk.catalog)) whole (held D.kept S.kept self.new.machines) self.new.entries.items past }
-        ensures lists { (db : Database) (whole : Relations) (past : List (Deed (language db))) → IsListed db → StandsIn db self.old.machines.desk → OfStores D.is_clean S.is_clean self.new.machines → OfStores D.is_sound S.is_sound self.old.machines
-            → IsListRun db whole (held D.kept S.kept self.old.machines) self.old.entries.items past → ListRunsOn db whole (held D.kept S.kept self.new.machines) self.new.entries.items past × StandsIn db self.new.machines.desk }
-        ensures all { (whole : Relations) (past : List (Deed (language (database (catalogue_of self.old.machines.desk.catalog)))))
-            → OfStores D.is_clean S.is_clean self.new.machines → OfStores D.is_sound S.is_sound self.old.machines
-            → IsRun (database (catalogue_of self.old.machines.desk.catalog)) whole (held D.kept S.kept self.old.machines) self.old.entries.items past
-            → OnOk result (Follows (database (catalogue_of self.old.machines.desk.catalog)) events.now (counted D.kept S.kept D.refused S.refused self.old.machines) self.old.entries.items (counted D.kept S.kept D.refused S.refused self.new.machines) self.new.entries.items) }
-        ensures some { (whole : Relations) (past : List (Deed (language (database (catalogue_of self.old.machines.desk.catalog)))))
-            → OfStores D.is_clean S.is_clean self.new.machines → OfStores D.is_sound S.is_sound self.old.machines
-            → IsRun (database (catalogue_of self.old.machines.desk.catalog)) whole (held D.kept S.kept self.old.machines) self.old.entries.items past
-            → IfErr result (λ done. FollowsAtLeast (database (catalogue_of self.old.machines.desk.catalog)) (take done events.now) (counted D.kept S.kept D.refused S.refused self.old.machines) self.old.entries.items (counted D.kept S.kept D.refused S.refused self.new.machines) self.new.entries.items) }
-        ensures all_lists { (db : Database) (whole : Relations) (past : List (Deed (language db))) → IsListed db → StandsIn db self.old.machines.desk → OfStores D.is_clean S.is_clean self.new.machines → OfStores D.is_sound S.is_sound self.old.machines
-            → IsListRun db whole (held D.kept S.kept self.old.machines) self.old.entries.items past → OnOk result (Follows db events.now (counted D.kept S.kept D.refused S.refused self.old.machines) self.old.entries.items (counted D.kept S.kept D.refused S.refused self.new.machines) self.new.entries.items) }
-        ensures some_lists { (db : Database) (whole : Relations) (past : List (Deed (language db))) → IsListed db → StandsIn db self.old.machines.desk → OfStores D.is_clean S.is_clean self.new.machines → OfStores D.is_sound S.is_sound self.old.machines
-            → IsListRun db whole (held D.kept S.kept self.old.machines) self.old.entries.items past → IfErr result (λ done. FollowsAtLeast db (take done events.now) (counted D.kept S.kept D.refused S.refused self.old.machines) self.old.entries.items (counted D.kept S.kept D.refused S.refused self.new.machines) self.new.entries.items) }
+        ensures runs { (db : Database) (whole : Relations) (past : List (Deed (language db))) → IsListed db → StandsIn db self.old.machines.desk → OfStores D.is_clean S.is_clean self.new.machines → OfStores D.is_sound S.is_sound self.old.machines
+            → IsRun db whole (held D.kept S.kept self.old.machines) self.old.entries.items past → RunsOn db whole (held D.kept S.kept self.new.machines) self.new.entries.items past × StandsIn db self.new.machines.desk }
+        ensures all { (db : Database) (whole : Relations) (past : List (Deed (language db))) → IsListed db → StandsIn db self.old.machines.desk → OfStores D.is_clean S.is_clean self.new.machines → OfStores D.is_sound S.is_sound self.old.machines
+            → IsRun db whole (held D.kept S.kept self.old.machines) self.old.entries.items past → OnOk result (Follows db events.now (counted D.kept S.kept D.refused S.refused self.old.machines) self.old.entries.items (counted D.kept S.kept D.refused S.refused self.new.machines) self.new.entries.items) }
+        ensures some { (db : Database) (whole : Relations) (past : List (Deed (language db))) → IsListed db → StandsIn db self.old.machines.desk → OfStores D.is_clean S.is_clean self.new.machines → OfStores D.is_sound S.is_sound self.old.machines
+            → IsRun db whole (held D.kept S.kept self.old.machines) self.old.entries.items past → IfErr result (λ done. FollowsAtLeast db (take done events.now) (counted D.kept S.kept D.refused S.refused self.old.machines) self.old.entries.items (counted D.kept S.kept D.refused S.refused self.new.machines) self.new.entries.items) }
         ensures few { IfErr result (λ done. done < length events.now) }
     {
         let mut done = 0;
@@ -237,18 +203,10 @@ impl<D: DeskStore, S: SiteStore> World<D, S> {
     /// An event happens, or is refused. Without memory nothing has changed.
     fn pass(&mut self, event: &Event) -> Result<(), Memory>
         ensures leaves { LeavesDatabase D.is_clean S.is_clean D.is_sound S.is_sound D.refused S.refused self.old.machines self.new.machines }
-        ensures runs { (whole : Relations) (past : List (Deed (language (database (catalogue_of self.old.machines.desk.catalog)))))
-            → OfStores D.is_clean S.is_clean self.new.machines → OfStores D.is_sound S.is_sound self.old.machines
-            → IsRun (database (catalogue_of self.old.machines.desk.catalog)) whole (held D.kept S.kept self.old.machines) self.old.entries.items past
-            → OnOk result (RunsOn (database (catalogue_of self.old.machines.desk.catalog)) whole (held D.kept S.kept self.new.machines) self.new.entries.items past) }
-        ensures lists { (db : Database) (whole : Relations) (past : List (Deed (language db))) → IsListed db → StandsIn db self.old.machines.desk → OfStores D.is_clean S.is_clean self.new.machines → OfStores D.is_sound S.is_sound self.old.machines
-            → IsListRun db whole (held D.kept S.kept self.old.machines) self.old.entries.items past → OnOk result (ListRunsOn db whole (held D.kept S.kept self.new.machines) self.new.entries.items past × StandsIn db self.new.machines.desk) }
+        ensures runs { (db : Database) (whole : Relations) (past : List (Deed (language db))) → IsListed db → StandsIn db self.old.machines.desk → OfStores D.is_clean S.is_clean self.new.machines → OfStores D.is_sound S.is_sound self.old.machines
+            → IsRun db whole (held D.kept S.kept self.old.machines) self.old.entries.items past → OnOk result (RunsOn db whole (held D.kept S.kept self.new.machines) self.new.entries.items past × StandsIn db self.new.machines.desk) }
         ensures stays { OnErr result (StaysInForce self.old.machines self.new.machines) }
-        ensures happens { (whole : Relations) (past : List (Deed (language (database (catalogue_of self.old.machines.desk.catalog)))))
-            → OfStores D.is_clean S.is_clean self.new.machines → OfStores D.is_sound S.is_sound self.old.machines
-            → IsRun (database (catalogue_of self.old.machines.desk.catalog)) whole (held D.kept S.kept self.old.machines) self.old.entries.items past
-            → OnOk result (Happens (database (catalogue_of self.old.machines.desk.catalog)) event.now (counted D.kept S.kept D.refused S.refused self.old.machines) self.old.entries.items (counted D.kept S.kept D.refused S.refused self.new.machines) self.new.entries.items) }
-        ensures happens_lists { (db : Database) → IsListed db → StandsIn db self.old.machines.desk → OfStores D.is_clean S.is_clean self.new.machines → OfStores D.is_sound S.is_sound self.old.machines → FitsList db (held D.kept S.kept self.old.machines)
+        ensures happens { (db : Database) → IsListed db → StandsIn db self.old.machines.desk → OfStores D.is_clean S.is_clean self.new.machines → OfStores D.is_sound S.is_sound self.old.machines → FitsList db (held D.kept S.kept self.old.machines)
             → OnOk result (Happens db event.now (counted D.kept S.kept D.refused S.refused self.old.machines) self.old.entries.items (counted D.kept S.kept D.refused S.refused self.new.machines) self.new.entries.items) }
         ensures err { StaysOnErr (OfStores D.is_clean S.is_clean) (OfStores D.is_sound S.is_sound) (held D.kept S.kept) self.old.machines self.new.machines result }
         ensures same { OnErr result (self.new.entries.items ≡ self.old.entries.items) }
@@ -269,16 +227,11 @@ impl<D: DeskStore, S: SiteStore> World<D, S> {
     /// statements and what they answered. They are those that the coordinator decided to commit.
     pub fn committed(&self) -> Result<Vec<Committed>, Memory>
         ensures all { IfOk result (λ all. all.items ≡ map (committed_of self.now.entries.items) (committed_in self.now.entries.items)) }
-        ensures decided { (whole : Relations) (past : List (Deed (language (database (catalogue_of self.now.machines.desk.catalog)))))
-            → IsRun (database (catalogue_of self.now.machines.desk.catalog)) whole (held D.kept S.kept self.now.machines) self.now.entries.items past
-            → IfOk result (λ all. map (λ one. txn_name one.txn) all.items ≡ committed past) }
-        ensures serial { (whole : Relations) (past : List (Deed (language (database (catalogue_of self.now.machines.desk.catalog)))))
-            → IsRun (database (catalogue_of self.now.machines.desk.catalog)) whole (held D.kept S.kept self.now.machines) self.now.entries.items past
-            → IfOk result (λ all. AnswerInTurn (database (catalogue_of self.now.machines.desk.catalog)) whole all.items) }
-        ensures lists { (db : Database) (whole : Relations) (past : List (Deed (language db))) → IsListed db
-            → IsListRun db whole (held D.kept S.kept self.now.machines) self.now.entries.items past → IfOk result (λ all. AnswerInTurn db whole all.items × IsSerialRun db whole (held D.kept S.kept self.now.machines) self.now.entries.items) }
+        ensures decided { (db : Database) (whole : Relations) (past : List (Deed (language db)))
+            → IsRun db whole (held D.kept S.kept self.now.machines) self.now.entries.items past → IfOk result (λ all. map (λ one. txn_name one.txn) all.items ≡ committed past) }
+        ensures serial { (db : Database) (whole : Relations) (past : List (Deed (language db))) → IsListed db
+            → IsRun db whole (held D.kept S.kept self.now.machines) self.now.entries.items past → IfOk result (λ all. AnswerInTurn db whole all.items × IsSerialRun db whole (held D.kept S.kept self.now.machines) self.now.entries.items) }
     {
-        runs_are_serial(self.machines.desk.catalog());
         committed_in(self.machines.alloc, self.entries.entries())
     }
 
@@ -294,15 +247,11 @@ impl<D: DeskStore, S: SiteStore> World<D, S> {
     pub fn parts(&mut self, leaf: &Leaf) -> Result<Option<Vec<Part>>, Fault>
         ensures sent { result ≢ Err faults.Unsent }
         ensures leaves { LeavesMachines D.is_clean S.is_clean D.is_sound S.is_sound D.refused S.refused self.old.machines self.new.machines }
-        ensures parts { OfStores D.is_clean S.is_clean self.new.machines → OfStores D.is_sound S.is_sound self.old.machines → AreFit (database (catalogue_of self.old.machines.desk.catalog)) (held D.kept S.kept self.old.machines)
-            → IfOk result (λ shown. option_map (λ parts. parts.items) shown ≡ parts_kept (database (catalogue_of self.old.machines.desk.catalog)) (held D.kept S.kept self.old.machines) leaf.now) }
-        ensures lists { (db : Database) → IsListed db → StandsIn db self.old.machines.desk → OfStores D.is_clean S.is_clean self.new.machines → OfStores D.is_sound S.is_sound self.old.machines → FitsList db (held D.kept S.kept self.old.machines)
+        ensures parts { (db : Database) → IsListed db → StandsIn db self.old.machines.desk → OfStores D.is_clean S.is_clean self.new.machines → OfStores D.is_sound S.is_sound self.old.machines → FitsList db (held D.kept S.kept self.old.machines)
             → IfOk result (λ shown. option_map (λ parts. parts.items) shown ≡ parts_kept db (held D.kept S.kept self.old.machines) leaf.now) }
         ensures same { StaysAsItIs (OfStores D.is_clean S.is_clean) (OfStores D.is_sound S.is_sound) (held D.kept S.kept) self.old.machines self.new.machines }
         ensures entries { self.new.entries.items ≡ self.old.entries.items }
-        ensures fails { OfStores D.is_clean S.is_clean self.new.machines → OfStores D.is_sound S.is_sound self.old.machines → AreFit (database (catalogue_of self.old.machines.desk.catalog)) (held D.kept S.kept self.old.machines)
-            → IfErr result (FailsFor (counts D.refused S.refused self.old.machines) (counts D.refused S.refused self.new.machines)) }
-        ensures fails_lists { (db : Database) → IsListed db → StandsIn db self.old.machines.desk → OfStores D.is_clean S.is_clean self.new.machines → OfStores D.is_sound S.is_sound self.old.machines → FitsList db (held D.kept S.kept self.old.machines)
+        ensures fails { (db : Database) → IsListed db → StandsIn db self.old.machines.desk → OfStores D.is_clean S.is_clean self.new.machines → OfStores D.is_sound S.is_sound self.old.machines → FitsList db (held D.kept S.kept self.old.machines)
             → IfErr result (FailsFor (counts D.refused S.refused self.old.machines) (counts D.refused S.refused self.new.machines)) }
     {
         kept_parts(&mut self.machines, leaf)
@@ -315,33 +264,23 @@ impl<D: DeskStore, S: SiteStore> World<D, S> {
     pub fn rebuilt(&mut self, relation: &Text) -> Result<Option<Vec<Row>>, Fault>
         ensures sent { result ≢ Err faults.Unsent }
         ensures leaves { LeavesMachines D.is_clean S.is_clean D.is_sound S.is_sound D.refused S.refused self.old.machines self.new.machines }
-        ensures rows { (whole : Relations) → OfStores D.is_clean S.is_clean self.new.machines → OfStores D.is_sound S.is_sound self.old.machines → AreFit (database (catalogue_of self.old.machines.desk.catalog)) (held D.kept S.kept self.old.machines)
-            → AreThoseOf (database (catalogue_of self.old.machines.desk.catalog)) (held D.kept S.kept self.old.machines) whole → FitsSchema (schemas_of (catalogue_of self.old.machines.desk.catalog)) whole
-            → IfOk result (λ shown. option_map (λ rows. rows.items) shown ≡ rows_shown (database (catalogue_of self.old.machines.desk.catalog)) whole relation.now) }
-        ensures serial { (whole : Relations) (past : List (Deed (language (database (catalogue_of self.old.machines.desk.catalog)))))
-            → OfStores D.is_clean S.is_clean self.new.machines → OfStores D.is_sound S.is_sound self.old.machines
-            → IsRun (database (catalogue_of self.old.machines.desk.catalog)) whole (held D.kept S.kept self.old.machines) self.old.entries.items past
-            → IfOk result (λ shown. ShowsSerial (database (catalogue_of self.old.machines.desk.catalog)) whole self.old.entries.items relation.now (option_map (λ rows. rows.items) shown)) }
-        ensures lists { (db : Database) (whole : Relations) (past : List (Deed (language db))) → IsListed db → StandsIn db self.old.machines.desk → OfStores D.is_clean S.is_clean self.new.machines → OfStores D.is_sound S.is_sound self.old.machines
-            → IsListRun db whole (held D.kept S.kept self.old.machines) self.old.entries.items past
+        ensures rows { (db : Database) (whole : Relations) → IsListed db → StandsIn db self.old.machines.desk → OfStores D.is_clean S.is_clean self.new.machines → OfStores D.is_sound S.is_sound self.old.machines → FitsList db (held D.kept S.kept self.old.machines)
+            → AreThoseOf db (held D.kept S.kept self.old.machines) whole → FitsSchema db.schemas whole
+            → IfOk result (λ shown. option_map (λ rows. rows.items) shown ≡ rows_shown db whole relation.now) }
+        ensures serial { (db : Database) (whole : Relations) (past : List (Deed (language db))) → IsListed db → StandsIn db self.old.machines.desk → OfStores D.is_clean S.is_clean self.new.machines → OfStores D.is_sound S.is_sound self.old.machines
+            → IsRun db whole (held D.kept S.kept self.old.machines) self.old.entries.items past
             → IfOk result (λ shown. ShowsSerial db whole self.old.entries.items relation.now (option_map (λ rows. rows.items) shown)) }
         ensures same { StaysAsItIs (OfStores D.is_clean S.is_clean) (OfStores D.is_sound S.is_sound) (held D.kept S.kept) self.old.machines self.new.machines }
         ensures entries { self.new.entries.items ≡ self.old.entries.items }
-        ensures fails_after { (whole : Relations) (past : List (Deed (language (database (catalogue_of self.old.machines.desk.catalog)))))
-            → OfStores D.is_clean S.is_clean self.new.machines → OfStores D.is_sound S.is_sound self.old.machines
-            → IsRun (database (catalogue_of self.old.machines.desk.catalog)) whole (held D.kept S.kept self.old.machines) self.old.entries.items past
+        ensures fails { (db : Database) (whole : Relations) → IsListed db → StandsIn db self.old.machines.desk → OfStores D.is_clean S.is_clean self.new.machines → OfStores D.is_sound S.is_sound self.old.machines → FitsList db (held D.kept S.kept self.old.machines)
+            → AreThoseOf db (held D.kept S.kept self.old.machines) whole → FitsSchema db.schemas whole
             → IfErr result (FailsFor (counts D.refused S.refused self.old.machines) (counts D.refused S.refused self.new.machines)) }
-        ensures fails { (whole : Relations) → OfStores D.is_clean S.is_clean self.new.machines → OfStores D.is_sound S.is_sound self.old.machines → AreFit (database (catalogue_of self.old.machines.desk.catalog)) (held D.kept S.kept self.old.machines)
-            → AreThoseOf (database (catalogue_of self.old.machines.desk.catalog)) (held D.kept S.kept self.old.machines) whole → FitsSchema (schemas_of (catalogue_of self.old.machines.desk.catalog)) whole
-            → IfErr result (FailsFor (counts D.refused S.refused self.old.machines) (counts D.refused S.refused self.new.machines)) }
-        ensures fails_lists { (db : Database) (whole : Relations) (past : List (Deed (language db))) → IsListed db → StandsIn db self.old.machines.desk → OfStores D.is_clean S.is_clean self.new.machines → OfStores D.is_sound S.is_sound self.old.machines
-            → IsListRun db whole (held D.kept S.kept self.old.machines) self.old.entries.items past
+        ensures fails_after { (db : Database) (whole : Relations) (past : List (Deed (language db))) → IsListed db → StandsIn db self.old.machines.desk → OfStores D.is_clean S.is_clean self.new.machines → OfStores D.is_sound S.is_sound self.old.machines
+            → IsRun db whole (held D.kept S.kept self.old.machines) self.old.entries.items past
             → IfErr result (FailsFor (counts D.refused S.refused self.old.machines) (counts D.refused S.refused self.new.machines)) }
     {
-        list_runs_are_serial();
+        runs_are_serial();
         database_is_of_catalogue(self.machines.desk.catalog());
-        runs_are_serial(self.machines.desk.catalog());
-        language_is_lawful(self.machines.desk.catalog());
         rebuilt(&mut self.machines, relation)
     }
 

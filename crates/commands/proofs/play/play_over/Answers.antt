@@ -6,12 +6,10 @@ use Rattle.catalog.specs.Catalogue.{Catalogue}
 use Rattle.catalog.specs.Relation.{catalogue_of}
 use Rattle.desk.specs.CatalogueDatabase.{database, databases}
 use Rattle.world.specs.Listed.{IsListed}
-use Rattle.world.proofs.Leaves.{ends_last}
-use Rattle.world.proofs.OneCatalogue.{none_of}
 use Rattle.commands.specs.Play.{StopsItems}
 use Rattle.databases.specs.Schedule.{HasRun, world_over}
 use Rattle.databases.specs.WorldOpener.{IsChainOpened, IsOpenedOver}
-use Rattle.commands.proofs.PlayLemmas.{PlaysAll-weaker, reached_single, run_listed, stands_alone}
+use Rattle.commands.proofs.PlayLemmas.{PlaysAll-weaker}
 use Rattle.databases.proofs.ChainLemmas.{first_is}
 use Rattle.databases.proofs.SoloLemmas.{Appends-kept}
 use Rattle.commands.proofs.play.play_over.Goals as goal
@@ -43,25 +41,24 @@ returns-clause-ok g c = λ first rest is.
       plays = PlaysAll-weaker seen {Q = seen.is_clean ended.world} db whole c.args.items.now opening ended ran.told (λ clean. (clean, began clean)) (ran.plays db whole);
       stands = λ clean. (runs clean).stands;
       run = λ clean. (runs clean).reached;
-      serial = λ clean. c.list_runs_are_serial.ensures db listed whole (seen.machines ended.world) (seen.entries ended.world) (runs clean).reached.0 (runs clean).reached.1;
+      serial = λ clean. c.runs_are_serial.ensures db listed whole (seen.machines ended.world) (seen.entries ended.world) (runs clean).reached.0 (runs clean).reached.1;
       alone = λ none.
           let one = is ∙ ap (λ (rest : List Catalogue). first ∷ rest) none in
           let own = database first in
           let over : IsOpenedOver seen first whole opening.world = subst (IsOpenedOver seen first whole) (sym c.new-schedule.ensures.world) (c.in_ok-world.ensures.ok first one) in
           let here = first_is c.args.chain.now c.first_of-first.result.now c.first_of-first.ensures.0 first [] c.first_of-first.ensures.1 one in
-          let its_own : IsListed (database (catalogue_of c.first_of-first.result.now)) = record { base = c.database_is_of_catalogue.ensures; lawful = c.language_is_lawful.ensures.of_list } in
-          let lawful : IsListed own = subst (λ (first : Catalogue). IsListed (database first)) here its_own in
+          let lawful : IsListed own = subst (λ (first : Catalogue). IsListed (database first)) here c.catalogue_is_listed.ensures in
           let begun = λ (clean : seen.is_clean ended.world).
           let then = leaves.clean clean in
-          let has : HasRun seen own whole opening.world = record { listed = lawful; sound = over.sound then; stands = stands_alone first opening.world.machines.desk over.catalog over.single; reached = rw over.none ([], run_listed own whole (seen.machines opening.world) [] [] (over.run then)) } in
+          let has : HasRun seen own whole opening.world = record { listed = lawful; sound = over.sound then; stands = over.stands then; reached = rw over.none ([], over.run then) } in
           has in
           let goes = λ (clean : seen.is_clean ended.world). leaves.runs own whole clean (begun clean) in
           record {
             catalog = over.catalog;
             last = ap (map catalogue_of) over.single;
             plays = PlaysAll-weaker seen {Q = seen.is_clean ended.world} own whole c.args.items.now opening ended ran.told (λ clean. (clean, begun clean)) (ran.plays own whole);
-            run = λ clean. reached_single first whole (seen.machines ended.world) (seen.entries ended.world) (none_of (seen.machines ended.world).later (ends_last leaves.catalogs (ap (map catalogue_of) over.single)).1) (goes clean).reached;
-            serial = λ clean. c.list_runs_are_serial.ensures own lawful whole (seen.machines ended.world) (seen.entries ended.world) (goes clean).reached.0 (goes clean).reached.1;
+            run = λ clean. (goes clean).reached;
+            serial = λ clean. c.runs_are_serial.ensures own lawful whole (seen.machines ended.world) (seen.entries ended.world) (goes clean).reached.0 (goes clean).reached.1;
           };
       said = Appends-kept (g.W.Write.contents c.args.output.now) (g.W.Write.contents c.play_items-done.new.output) (g.W.Write.contents c.send_out-sent.new.output) ran.told ran.said c.send_out-sent.ensures.same;
     }

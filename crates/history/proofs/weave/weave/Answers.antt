@@ -2,13 +2,11 @@
 use Rattle.std.proofs.Common.{◌≡◌, ◌∙◌, ◌∷◌, ap, map, subst, true}
 use Rattle.catalog.specs.FragmentLeaf.{schemas_of}
 use Rattle.catalog.specs.Relation.{catalogue_of}
-use Rattle.desk.specs.CatalogueDatabase.{database}
 use Rattle.history.specs.declared.records.Past.{Past}
 use Rattle.history.specs.Picks.{rows_of}
 use Rattle.history.specs.Told.{AllStand}
-use Rattle.history.specs.Weaving.{WovenAreRuns, WovenAreSerial}
 use Rattle.history.specs.Woven.{ArePutTogether, IsSettled}
-use Rattle.history.proofs.Woven.{weaves_list, weaves_run}
+use Rattle.history.proofs.Woven.{weaves_run}
 use Rattle.history.proofs.weave.weave.Given as given
 use Rattle.history.proofs.weave.weave.Goals as goal
 
@@ -38,14 +36,7 @@ settled_in g c =
     (subst (λ opening. IsSettled opening (map (λ (past : Past). past.opening) c.pasts-pasts.result.now)) c.opening-opening.ensures (c.is_settled.ensures.0 yes))
 
 pub returns-clause-run : goal.returns-clause-run
-returns-clause-run g c = λ one clean records.
+returns-clause-run g c = λ db listed of clean records.
     let now = c.args.records.now in
-    weaves_run g.D.DeskStore.is_clean g.D.DeskStore.is_sound g.D.DeskStore.kept g.S.SiteStore.is_clean g.S.SiteStore.is_sound g.S.SiteStore.kept now.machines now.catalogs.items now.opening now.entries.items now.pasts.items one records clean (settled_in g c)
-    (subst (λ x. WovenAreRuns (database (catalogue_of x))) c.catalog-catalog.ensures c.woven_are_runs.ensures) (subst (λ x. WovenAreSerial (database (catalogue_of x))) c.catalog-catalog.ensures c.woven_are_serial.ensures)
-    (rows_of c.args.told.now) c.in_ok-happened.happened.items c.in_ok-events_of.field-0.items (put_in g c) c.in_ok-events_of.ensures (stand_in g c)
-
-pub returns-clause-lists : goal.returns-clause-lists
-returns-clause-lists g c = λ db listed of clean records.
-    let now = c.args.records.now in
-    weaves_list g.D.DeskStore.is_clean g.D.DeskStore.is_sound g.D.DeskStore.kept g.S.SiteStore.is_clean g.S.SiteStore.is_sound g.S.SiteStore.kept now.machines now.catalogs.items now.opening now.entries.items now.pasts.items db listed of records clean (settled_in g c)
-    (c.lists_woven_are_runs.ensures db listed) (c.lists_woven_are_serial.ensures db listed) (rows_of c.args.told.now) c.in_ok-happened.happened.items c.in_ok-events_of.field-0.items (put_in g c) c.in_ok-events_of.ensures (stand_in g c)
+    weaves_run g.D.DeskStore.is_clean g.D.DeskStore.is_sound g.D.DeskStore.kept g.S.SiteStore.is_clean g.S.SiteStore.is_sound g.S.SiteStore.kept now.machines now.catalogs.items now.opening now.entries.items now.pasts.items db listed of records clean (settled_in g c)
+    (c.woven_are_runs.ensures db listed) (c.woven_are_serial.ensures db listed) (rows_of c.args.told.now) c.in_ok-happened.happened.items c.in_ok-events_of.field-0.items (put_in g c) c.in_ok-events_of.ensures (stand_in g c)

@@ -7,7 +7,8 @@ use Rattle.catalog.specs.Relation.{catalogue_of}
 use Rattle.protocol.specs.Parts.{In}
 use Rattle.runs.specs.Run.{ShowsFound, lists_told, relation_lines}
 use Rattle.runs.specs.RunText.{verdict_text}
-use Rattle.runs.proofs.RunLemmas.{woven_over}
+use Rattle.runs.proofs.RunLemmas.{of_catalogues, woven_over}
+use Rattle.desk.specs.CatalogueDatabase.{databases}
 use Rattle.runs.proofs.RunRecordsLemmas.{all_printed, one_run}
 use Rattle.runs.proofs.run_records.conclude.Goals as goal
 
@@ -30,7 +31,7 @@ returns-clause-ok g c = λ parts of_parts.
     let among : In catalogue catalogues = subst (λ (chain : List (List (List _) × List SplitRelation)). In catalogue (map catalogue_of chain)) c.as_slice.ensures.catalogs c.in-Some.ensures.among in
     let names : map (λ relation. relation.name) c.as_slice-relations.result.now ≡ map (λ relation. relation.name) (schemas_of catalogue) = ap (map (λ relation. relation.name)) (search rules) in
     let found = subst (λ names. ShowsFound g.D.DeskStore.is_clean g.D.DeskStore.is_sound g.D.DeskStore.kept g.S.SiteStore.is_clean g.S.SiteStore.is_sound g.S.SiteStore.kept names machines ended prints.shown) (names ∙ ap (λ (over : Catalogue). map (λ relation. relation.name) (schemas_of over)) same) prints.found in
-    let given = c.are_of.ensures.from (search rules) in
+    let given = c.are_of.ensures (search rules) in
     record {
       conversations = c.args.conversations.now;
       of_parts = of_parts;
@@ -42,7 +43,6 @@ returns-clause-ok g c = λ parts of_parts.
       records = c.requires;
       catalog = subst (λ (over : Catalogue). In over catalogues) same among;
       given = given;
-      alone = λ catalogue is. c.are_of.ensures.one catalogue is (search rules);
       verdict = verdict;
       judged = judged;
       told = search rules;
@@ -50,8 +50,8 @@ returns-clause-ok g c = λ parts of_parts.
       ended = ended;
       shown = prints.shown;
       found = found;
-      serial = λ one clean none. one_run g.D.DeskStore.is_clean g.D.DeskStore.is_sound g.D.DeskStore.kept g.S.SiteStore.is_clean g.S.SiteStore.is_sound g.S.SiteStore.kept in_force machines ended catalogs opening entries pasts told (map (λ relation. relation.name) (schemas_of in_force)) prints.shown verdict c.requires one found
-          judged clean none;
+      serial = λ first rest is none clean. one_run g.D.DeskStore.is_clean g.D.DeskStore.is_sound g.D.DeskStore.kept g.S.SiteStore.is_clean g.S.SiteStore.is_sound g.S.SiteStore.kept in_force machines ended catalogs opening entries pasts told (map (λ relation. relation.name) (schemas_of in_force)) prints.shown verdict
+          (databases first rest) (c.chain_is_listed.ensures first rest is) (of_catalogues first rest opening.version catalogues (map catalogue_of catalogs) (c.chain_is_listed.ensures first rest is) given is) c.requires found judged none clean;
       printed_is = all_printed (string_bytes c.new-printed.result) _ _ _ (string_bytes c.put_conversations.new.out) (string_bytes c.put_verdict.new.out) (string_bytes c.put_relations.new.out) (search rules) c.in_ok-put_conversations.ensures c.in_ok-put_verdict.ensures prints.printed
           ∙ ap (λ (over : Catalogue). flat_map (λ one. string_bytes one.printed) c.args.conversations.now ++ verdict_text verdict ++ flat_map (relation_lines over) prints.shown) same;
     }

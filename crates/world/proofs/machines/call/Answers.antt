@@ -1,86 +1,22 @@
 -- Why `call` meets its contract.
-use Rattle.std.proofs.Common.{◌≡◌, ◌⊎◌, ◌++◌, ◌∷◌, [], map, refl, sym, subst, IfErr, IfOk}
-use Rattle.desk.specs.Database.{sent}
-use Rattle.reader.specs.declared.command.Command.TheVariants.{Run}
-use Rattle.reader.specs.Command.{IsTextOf}
-use Rattle.protocol.specs.Desk.{Commit_call, Give_up, Rollback, State}
-use Rattle.protocol.specs.World.{Begin, begins, may_begin}
-use Rattle.protocol.proofs.Basics.{if_true}
-use Rattle.world.proofs.InForce.{begins_in_force}
-use Rattle.world.specs.Posted.{letters_in}
+use Rattle.std.proofs.Common.{◌≡◌, ◌⊎◌, ◌++◌, ◌∷◌, [], refl, sym, subst, IfErr, IfOk}
+use Rattle.protocol.specs.Desk.{State}
 use Rattle.desk.specs.declared.refusal.Refusal.TheVariants as refusals
 use Rattle.desk.specs.State.{volatile_of}
 use Rattle.world.specs.declared.event.Call as calls
 use Rattle.world.specs.declared.event.Call.TheVariants as call
 use Rattle.world.specs.declared.event.Event.TheVariants as event
 use Rattle.world.specs.Contents.{held}
-use Rattle.world.specs.Machines.{world_of}
 use Rattle.world.specs.Refused.{IsRefused}
 use Rattle.world.specs.Runs.{StepsOn, entry_of}
-use Rattle.world.proofs.Refusing.{unless_ok}
-use Rattle.world.proofs.SiteSteps.{if_both, if_ok}
+use Rattle.world.proofs.SiteSteps.{if_ok}
 use Rattle.world.proofs.Reasoned.{no_choice}
-use Rattle.world.proofs.Running.{called_on, over_of, runs_on}
-use Rattle.world.proofs.Told.{begins_silent, commit_step, give_up_step, rollback_step, silent_step, state_step}
+use Rattle.world.proofs.Running.{over_of}
 use Rattle.world.specs.Listed.{ListMoved, ListStated, StandsIn}
-use Rattle.world.specs.Runs.{ListStepsOn}
+use Rattle.world.specs.Runs.{StepsOn}
 use Rattle.world.proofs.Listing.{stays_held}
 use Rattle.world.proofs.ListRunning.{list_begins_on, list_commits_on, list_gives_on, list_moves_on, list_rolls_on, list_states_on}
 use Rattle.world.proofs.machines.call.Goals as goal
-
-pub returns-in-Begin-clause-ok : goal.returns-in-Begin-clause-ok
-returns-in-Begin-clause-ok g c = λ db whole entries past of is so.
-    let before = held g.D.DeskStore.kept g.S.SiteStore.kept c.args.machines.now in
-    let after = held g.D.DeskStore.kept g.S.SiteStore.kept c.begin.new.self in
-    subst (λ (asked : calls.Call). IfOk c.begin.result (λ out. StepsOn db whole before after entries (entries ++ entry_of (event.Call asked) out ∷ []) past)) (sym c.in-Begin.is)
-    (if_both c.begin.result (λ out leads within.
-    let w = world_of db before (map (sent db) (letters_in entries)) past in
-    let may = begins_in_force db before so.fit.still (map (sent db) (letters_in entries)) past in
-    runs_on db whole before after entries past (event.Call call.Begin) out begins Begin so leads (if_true (may_begin w) (begins w) w may) refl (may, within)
-    (silent_step db before after out.letters out.replies (event.Call call.Begin) begins leads refl refl (begins_silent (world_of db before [] []) refl))) (c.begin.ensures.ok db (over_of db _ c.args.machines.now.desk.catalog of is) so.fit) (c.begin.ensures.within db (over_of db _ c.args.machines.now.desk.catalog of is) so.fit.desk))
-
-pub returns-in-Commit-clause-ok : goal.returns-in-Commit-clause-ok
-returns-in-Commit-clause-ok g c = λ db whole entries past of is so.
-    let before = held g.D.DeskStore.kept g.S.SiteStore.kept c.args.machines.now in
-    let after = held g.D.DeskStore.kept g.S.SiteStore.kept c.commit.new.self in
-    let txn = c.in-Commit.txn in
-    let what = event.Call (call.Commit txn) in
-    subst (λ (asked : calls.Call). IfOk c.commit.result (λ out. StepsOn db whole before after entries (entries ++ entry_of (event.Call asked) out ∷ []) past)) (sym c.in-Commit.is)
-    (if_ok c.commit.result (λ out asked. called_on db whole before after entries past what out txn (no_choice db) Commit_call so asked tt (no_choice db, refl)
-    (commit_step db before after out.letters out.replies txn (no_choice db) what asked refl refl)) (c.commit.ensures.ok db (no_choice db) (over_of db _ c.args.machines.now.desk.catalog of is) so.fit))
-
-pub returns-in-Rollback-clause-ok : goal.returns-in-Rollback-clause-ok
-returns-in-Rollback-clause-ok g c = λ db whole entries past of is so.
-    let before = held g.D.DeskStore.kept g.S.SiteStore.kept c.args.machines.now in
-    let after = held g.D.DeskStore.kept g.S.SiteStore.kept c.rollback.new.self in
-    let txn = c.in-Rollback.txn in
-    let what = event.Call (call.Rollback txn) in
-    subst (λ (asked : calls.Call). IfOk c.rollback.result (λ out. StepsOn db whole before after entries (entries ++ entry_of (event.Call asked) out ∷ []) past)) (sym c.in-Rollback.is)
-    (if_ok c.rollback.result (λ out asked. called_on db whole before after entries past what out txn (no_choice db) Rollback so asked tt (no_choice db, refl)
-    (rollback_step db before after out.letters out.replies txn (no_choice db) what asked refl refl)) (c.rollback.ensures.ok db (no_choice db) (over_of db _ c.args.machines.now.desk.catalog of is) so.fit))
-
-pub returns-in-GiveUp-clause-ok : goal.returns-in-GiveUp-clause-ok
-returns-in-GiveUp-clause-ok g c = λ db whole entries past of is so.
-    let before = held g.D.DeskStore.kept g.S.SiteStore.kept c.args.machines.now in
-    let after = held g.D.DeskStore.kept g.S.SiteStore.kept c.give_up.new.self in
-    let txn = c.in-GiveUp.txn in
-    let what = event.Call (call.GiveUp txn) in
-    subst (λ (asked : calls.Call). IfOk c.give_up.result (λ out. StepsOn db whole before after entries (entries ++ entry_of (event.Call asked) out ∷ []) past)) (sym c.in-GiveUp.is)
-    (if_ok c.give_up.result (λ out asked. called_on db whole before after entries past what out txn (no_choice db) Give_up so asked tt (no_choice db, refl)
-    (give_up_step db before after out.letters out.replies txn (no_choice db) what asked refl refl)) (c.give_up.ensures.ok db (no_choice db) (over_of db _ c.args.machines.now.desk.catalog of is) so.fit))
-
-pub returns-in-State-clause-ok : goal.returns-in-State-clause-ok
-returns-in-State-clause-ok g c = λ db whole entries past of is so.
-    let before = held g.D.DeskStore.kept g.S.SiteStore.kept c.args.machines.now in
-    let after = held g.D.DeskStore.kept g.S.SiteStore.kept c.statement.new.self in
-    let txn = c.in-State.txn in
-    let text = c.in-State.text in
-    let what = event.Call (call.State txn text) in
-    subst (λ (asked : calls.Call). IfOk c.statement.result (λ out. StepsOn db whole before after entries (entries ++ entry_of (event.Call asked) out ∷ []) past)) (sym c.in-State.is)
-    (if_ok c.statement.result (λ out stated.
-    let spelled = subst (λ of. IsTextOf db.schemas of (Run stated.statement)) c.as_str.ensures stated.spelled in
-    called_on db whole before after entries past what out txn stated.choice (State (before.table.version, stated.statement)) so stated.asked (refl, stated.fits.stays) (stated.statement, stated.choice, (spelled, refl))
-    (state_step db before after out.letters out.replies txn text stated.statement stated.choice what stated.asked spelled refl refl)) (c.statement.ensures.ok db of is so.fit))
 
 pub returns-in-Begin-clause-refused : goal.returns-in-Begin-clause-refused
 returns-in-Begin-clause-refused g c = λ db of is fits.
@@ -100,58 +36,54 @@ pub returns-in-Rollback-clause-refused : goal.returns-in-Rollback-clause-refused
 returns-in-Rollback-clause-refused g c = λ db of is fits.
     subst (λ (asked : calls.Call). IfErr c.rollback.result (λ told. (told ≡ refusals.Memory) ⊎ IsRefused db c.args.machines.now.desk.later.items (volatile_of c.args.machines.now.desk.volatile) asked told)) (sym c.in-Rollback.is) (c.rollback.ensures.told db)
 
--- where no catalogue comes next no relation gets another split
-pub returns-in-Refragment-clause-ok : goal.returns-in-Refragment-clause-ok
-returns-in-Refragment-clause-ok g c = λ db whole entries past of is so. unless_ok _ c.refragment.result (λ next. next so.fit.single) c.refragment.ensures.next
-
 pub returns-in-Refragment-clause-refused : goal.returns-in-Refragment-clause-refused
 returns-in-Refragment-clause-refused g c = λ db of is fits.
     subst (λ (asked : calls.Call). IfErr c.refragment.result (λ told. (told ≡ refusals.Memory) ⊎ IsRefused db c.args.machines.now.desk.later.items (volatile_of c.args.machines.now.desk.volatile) asked told)) (sym c.in-Refragment.is)
     (subst (λ text. IfErr c.refragment.result (λ told. (told ≡ refusals.Memory) ⊎ IsRefused db c.args.machines.now.desk.later.items (volatile_of c.args.machines.now.desk.volatile) (call.Refragment text) told)) c.as_str-in-Refragment.ensures (c.refragment.ensures.told db of is fits))
 
-pub returns-in-Begin-clause-lists : goal.returns-in-Begin-clause-lists
-returns-in-Begin-clause-lists g c = λ db whole entries past of stands so.
+pub returns-in-Begin-clause-ok : goal.returns-in-Begin-clause-ok
+returns-in-Begin-clause-ok g c = λ db whole entries past of stands so.
     let before = held g.D.DeskStore.kept g.S.SiteStore.kept c.args.machines.now in
     let after = held g.D.DeskStore.kept g.S.SiteStore.kept c.begin.new.self in
-    subst (λ (asked : calls.Call). IfOk c.begin.result (λ out. ListStepsOn db whole before after entries (entries ++ entry_of (event.Call asked) out ∷ []) past × StandsIn db c.begin.new.self.desk)) (sym c.in-Begin.is)
+    subst (λ (asked : calls.Call). IfOk c.begin.result (λ out. StepsOn db whole before after entries (entries ++ entry_of (event.Call asked) out ∷ []) past × StandsIn db c.begin.new.self.desk)) (sym c.in-Begin.is)
     (if_ok c.begin.result (λ out listed. (list_begins_on db whole before after entries past out so listed.0, listed.1)) (c.begin.ensures.lists db of stands so.fit))
 
-pub returns-in-Commit-clause-lists : goal.returns-in-Commit-clause-lists
-returns-in-Commit-clause-lists g c = λ db whole entries past of stands so.
+pub returns-in-Commit-clause-ok : goal.returns-in-Commit-clause-ok
+returns-in-Commit-clause-ok g c = λ db whole entries past of stands so.
     let before = held g.D.DeskStore.kept g.S.SiteStore.kept c.args.machines.now in
     let after = held g.D.DeskStore.kept g.S.SiteStore.kept c.commit.new.self in
-    subst (λ (asked : calls.Call). IfOk c.commit.result (λ out. ListStepsOn db whole before after entries (entries ++ entry_of (event.Call asked) out ∷ []) past × StandsIn db c.commit.new.self.desk)) (sym c.in-Commit.is)
+    subst (λ (asked : calls.Call). IfOk c.commit.result (λ out. StepsOn db whole before after entries (entries ++ entry_of (event.Call asked) out ∷ []) past × StandsIn db c.commit.new.self.desk)) (sym c.in-Commit.is)
     (if_ok c.commit.result (λ out listed. (list_commits_on db whole before after entries past out c.in-Commit.txn (no_choice db) so listed.0, listed.1)) (c.commit.ensures.lists db (no_choice db) of stands so.fit))
 
-pub returns-in-Rollback-clause-lists : goal.returns-in-Rollback-clause-lists
-returns-in-Rollback-clause-lists g c = λ db whole entries past of stands so.
+pub returns-in-Rollback-clause-ok : goal.returns-in-Rollback-clause-ok
+returns-in-Rollback-clause-ok g c = λ db whole entries past of stands so.
     let before = held g.D.DeskStore.kept g.S.SiteStore.kept c.args.machines.now in
     let after = held g.D.DeskStore.kept g.S.SiteStore.kept c.rollback.new.self in
-    subst (λ (asked : calls.Call). IfOk c.rollback.result (λ out. ListStepsOn db whole before after entries (entries ++ entry_of (event.Call asked) out ∷ []) past × StandsIn db c.rollback.new.self.desk)) (sym c.in-Rollback.is)
+    subst (λ (asked : calls.Call). IfOk c.rollback.result (λ out. StepsOn db whole before after entries (entries ++ entry_of (event.Call asked) out ∷ []) past × StandsIn db c.rollback.new.self.desk)) (sym c.in-Rollback.is)
     (if_ok c.rollback.result (λ out listed. (list_rolls_on db whole before after entries past out c.in-Rollback.txn (no_choice db) so listed.0, listed.1)) (c.rollback.ensures.lists db (no_choice db) of stands so.fit))
 
-pub returns-in-GiveUp-clause-lists : goal.returns-in-GiveUp-clause-lists
-returns-in-GiveUp-clause-lists g c = λ db whole entries past of stands so.
+pub returns-in-GiveUp-clause-ok : goal.returns-in-GiveUp-clause-ok
+returns-in-GiveUp-clause-ok g c = λ db whole entries past of stands so.
     let before = held g.D.DeskStore.kept g.S.SiteStore.kept c.args.machines.now in
     let after = held g.D.DeskStore.kept g.S.SiteStore.kept c.give_up.new.self in
-    subst (λ (asked : calls.Call). IfOk c.give_up.result (λ out. ListStepsOn db whole before after entries (entries ++ entry_of (event.Call asked) out ∷ []) past × StandsIn db c.give_up.new.self.desk)) (sym c.in-GiveUp.is)
+    subst (λ (asked : calls.Call). IfOk c.give_up.result (λ out. StepsOn db whole before after entries (entries ++ entry_of (event.Call asked) out ∷ []) past × StandsIn db c.give_up.new.self.desk)) (sym c.in-GiveUp.is)
     (if_ok c.give_up.result (λ out listed. (list_gives_on db whole before after entries past out c.in-GiveUp.txn (no_choice db) so listed.0, listed.1)) (c.give_up.ensures.lists db (no_choice db) of stands so.fit))
 
-pub returns-in-State-clause-lists : goal.returns-in-State-clause-lists
-returns-in-State-clause-lists g c = λ db whole entries past of stands so.
+pub returns-in-State-clause-ok : goal.returns-in-State-clause-ok
+returns-in-State-clause-ok g c = λ db whole entries past of stands so.
     let before = held g.D.DeskStore.kept g.S.SiteStore.kept c.args.machines.now in
     let after = held g.D.DeskStore.kept g.S.SiteStore.kept c.statement.new.self in
     let txn = c.in-State.txn in
     let text = c.in-State.text in
-    subst (λ (asked : calls.Call). IfOk c.statement.result (λ out. ListStepsOn db whole before after entries (entries ++ entry_of (event.Call asked) out ∷ []) past × StandsIn db c.statement.new.self.desk)) (sym c.in-State.is)
+    subst (λ (asked : calls.Call). IfOk c.statement.result (λ out. StepsOn db whole before after entries (entries ++ entry_of (event.Call asked) out ∷ []) past × StandsIn db c.statement.new.self.desk)) (sym c.in-State.is)
     (if_ok c.statement.result (λ out listed. (list_states_on db whole before after entries past out txn text so (subst (λ of. ListStated db txn of before after out.letters out.replies) c.as_str.ensures listed.0), listed.1)) (c.statement.ensures.lists db of stands so.fit))
 
-pub returns-in-Refragment-clause-lists : goal.returns-in-Refragment-clause-lists
-returns-in-Refragment-clause-lists g c = λ db whole entries past of stands so.
+pub returns-in-Refragment-clause-ok : goal.returns-in-Refragment-clause-ok
+returns-in-Refragment-clause-ok g c = λ db whole entries past of stands so.
     let before = held g.D.DeskStore.kept g.S.SiteStore.kept c.args.machines.now in
     let after = held g.D.DeskStore.kept g.S.SiteStore.kept c.refragment.new.self in
     let text = c.in-Refragment.text in
-    subst (λ (asked : calls.Call). IfOk c.refragment.result (λ out. ListStepsOn db whole before after entries (entries ++ entry_of (event.Call asked) out ∷ []) past × StandsIn db c.refragment.new.self.desk)) (sym c.in-Refragment.is)
+    subst (λ (asked : calls.Call). IfOk c.refragment.result (λ out. StepsOn db whole before after entries (entries ++ entry_of (event.Call asked) out ∷ []) past × StandsIn db c.refragment.new.self.desk)) (sym c.in-Refragment.is)
     (if_ok c.refragment.result (λ out listed. (list_moves_on db whole before after entries past out text so (subst (λ of. ListMoved db of before after out.letters out.replies) c.as_str-in-Refragment.ensures listed.0), listed.1)) (c.refragment.ensures.lists db of stands so.fit))
 
 pub returns-in-Begin-clause-stays : goal.returns-in-Begin-clause-stays

@@ -14,39 +14,14 @@ use Rattle.world.proofs.Counting.{tells_counted, with_counts}
 use Rattle.world.proofs.SiteSteps.{if_ok}
 use Rattle.world.proofs.Refusals.{letter_refused, unsent_refused}
 use Rattle.world.proofs.Refusing.{if_err}
-use Rattle.world.proofs.Running.{comes_on, list_spared_on, spared_on}
+use Rattle.world.proofs.Running.{list_spared_on}
 use Rattle.world.proofs.ListRunning.{list_comes_on}
 use Rattle.world.proofs.Listing.{desk_stays}
 use Rattle.world.proofs.SiteSteps.{on_any_err}
 use Rattle.world.proofs.machines.deliver.Goals as goal
 
-pub returns-clause-ok : goal.returns-clause-ok
-returns-clause-ok g c = λ db whole past of is clean sound so.
-    let before = held g.D.DeskStore.kept g.S.SiteStore.kept c.args.machines.now in
-    let after = held g.D.DeskStore.kept g.S.SiteStore.kept c.deliver.new.self in
-    let letter = c.in_ok-again.again in
-    let same = c.in_ok-again.ensures in
-    let there = sym c.letter.ensures ∙ ap option_copied c.in-Some.is ∙ ap Some (sym same) in
-    let named : List (List ℕ) → Type 0 = λ sites. list_any (λ site. pointwise nat_eq site letter.site) sites ≡ true in
-    let there_too = sym c.has_site.ensures ∙ c.if-not-has_site.false in
-    let of_site = subst named (sym (of.sites _ ∙ ap (λ (x : Catalogue). x.sites) is)) (subst (λ l. list_any (λ site. pointwise nat_eq site l.site) c.args.machines.now.desk.catalog.0 ≡ true) (sym same) (subst (λ x. list_any (λ site. pointwise nat_eq site c.in-Some.letter.now.site) x.0 ≡ true) c.catalog.ensures there_too)) in
-    if_ok c.deliver.result (λ out came. comes_on db whole before after c.args.log.now.items past out c.args.number letter c.args.kept so there came) (c.deliver.ensures.ok db of is clean sound so.fit of_site)
-
 pub returns-clause-spared : goal.returns-clause-spared
-returns-clause-spared g c = λ db whole past of is clean sound so.
-    let before = held g.D.DeskStore.kept g.S.SiteStore.kept c.args.machines.now in
-    let after = held g.D.DeskStore.kept g.S.SiteStore.kept c.deliver.new.self in
-    let letter = c.in_ok-again.again in
-    let same = c.in_ok-again.ensures in
-    let there = sym c.letter.ensures ∙ ap option_copied c.in-Some.is ∙ ap Some (sym same) in
-    let named : List (List ℕ) → Type 0 = λ sites. list_any (λ site. pointwise nat_eq site letter.site) sites ≡ true in
-    let there_too = sym c.has_site.ensures ∙ c.if-not-has_site.false in
-    let of_site = subst named (sym (of.sites _ ∙ ap (λ (x : Catalogue). x.sites) is)) (subst (λ l. list_any (λ site. pointwise nat_eq site l.site) c.args.machines.now.desk.catalog.0 ≡ true) (sym same) (subst (λ x. list_any (λ site. pointwise nat_eq site c.in-Some.letter.now.site) x.0 ≡ true) c.catalog.ensures there_too)) in
-    if_ok c.deliver.result (λ out taken. spared_on (HaveRefused (counts g.D.DeskStore.refused g.S.SiteStore.refused c.args.machines.now) (counts g.D.DeskStore.refused g.S.SiteStore.refused c.deliver.new.self)) db before after c.args.log.now.items past out c.args.number letter c.args.kept there taken)
-    (c.deliver.ensures.spared db of is clean sound so.fit of_site)
-
-pub returns-clause-spared_lists : goal.returns-clause-spared_lists
-returns-clause-spared_lists g c = λ db past of stands clean sound fit.
+returns-clause-spared g c = λ db past of stands clean sound fit.
     let before = held g.D.DeskStore.kept g.S.SiteStore.kept c.args.machines.now in
     let after = held g.D.DeskStore.kept g.S.SiteStore.kept c.deliver.new.self in
     let letter = c.in_ok-again.again in
@@ -119,8 +94,8 @@ returns-then-not-has_site-clause-refused g c = λ db of stands fit.
     unsent_refused (OfStores D.is_clean S.is_clean old × OfStores D.is_sound S.is_sound old) db (counted D.kept S.kept D.refused S.refused old) (counted D.kept S.kept D.refused S.refused old) c.args.log.now.items old.desk.catalog.0 (event.Deliver c.args.number c.args.kept)
     (of.sites _ ∙ ap (λ (x : Catalogue). x.sites) stands.here) none
 
-pub returns-clause-lists : goal.returns-clause-lists
-returns-clause-lists g c = λ db whole past of stands clean sound so.
+pub returns-clause-ok : goal.returns-clause-ok
+returns-clause-ok g c = λ db whole past of stands clean sound so.
     let before = held g.D.DeskStore.kept g.S.SiteStore.kept c.args.machines.now in
     let after = held g.D.DeskStore.kept g.S.SiteStore.kept c.deliver.new.self in
     let letter = c.in_ok-again.again in

@@ -11,7 +11,7 @@ use Rattle.world.specs.Client.{IsServed}
 use Rattle.world.specs.Counted.{counts}
 use Rattle.world.specs.Contents.{held, unrefused}
 use Rattle.world.specs.Executed.{Stands}
-use Rattle.world.proofs.DatabaseIsOpened.{opens_quiet, opens_run}
+use Rattle.world.proofs.DatabaseIsOpened.{opens_quiet, opens_run, opens_so}
 use Rattle.world.proofs.Counting.{fit_counted}
 use Rattle.world.proofs.OfChain.{last_of}
 use Rattle.desk.specs.CatalogueDatabase.{databases}
@@ -25,8 +25,10 @@ returns-clause-served c = λ catalogue fitting last.
     let here = catalogue_of machines.desk.catalog in
     subst (λ x. FitsSchema (schemas_of x) c.args.whole.now → IsServed (database x) c.args.whole.now (unrefused desk_kept kept_of machines) []) last.is
     (λ fitting.
-    let so = opens_run here c.args.whole.now (held desk_kept kept_of machines) (subst (λ x. IsFormed (catalogue_of x)) c.catalog.ensures (c.database_is_of_catalogue.ensures.of_catalogue.formed 0)) fitting (c.in_ok-machines.ensures.opens last.none (database here)) in
-    record { version = so.version; reached = record { opening = so.opening; opens = so.opens; events = so.events; gone = []; is = so.is; explained = so.explained }; fit = fit_counted (database here) (held desk_kept kept_of machines) (counts (λ _. 0) (λ _. 0) machines) so.fit }) fitting
+    let formed = subst (λ x. IsFormed (catalogue_of x)) c.catalog.ensures (c.database_is_of_catalogue.ensures.of_catalogue.formed 0) in
+    let opens = c.in_ok-machines.ensures.opens last.none (database here) in
+    let so = opens_run here c.args.whole.now (held desk_kept kept_of machines) formed fitting opens in
+    record { version = so.version; reached = record { opening = so.opening; opens = so.opens; events = so.events; gone = []; is = so.is; explained = so.explained }; fit = fit_counted (database here) (held desk_kept kept_of machines) (counts (λ _. 0) (λ _. 0) machines) (opens_so here c.args.whole.now (held desk_kept kept_of machines) formed fitting opens).fit }) fitting
 
 pub returns-clause-stands : goal.returns-clause-stands
 returns-clause-stands c = λ catalogue fitting last.

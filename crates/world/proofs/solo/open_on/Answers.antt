@@ -10,7 +10,7 @@ use Rattle.world.specs.Counted.{counts}
 use Rattle.world.specs.Contents.{counted, held}
 use Rattle.world.specs.Executed.{Stands}
 use Rattle.world.specs.Start.{AreNew}
-use Rattle.world.proofs.DatabaseIsOpened.{opens_quiet, opens_run}
+use Rattle.world.proofs.DatabaseIsOpened.{opens_quiet, opens_run, opens_so}
 use Rattle.world.proofs.Counting.{fit_counted}
 use Rattle.world.proofs.OfChain.{last_of}
 use Rattle.desk.specs.CatalogueDatabase.{databases}
@@ -26,8 +26,10 @@ returns-clause-served g c = λ catalogue last clean.
     let here = catalogue_of machines.desk.catalog in
     subst (λ x. AreNew D.is_sound D.kept S.is_sound S.kept x c.args.desk c.args.sites.items → FitsSchema (schemas_of x) c.args.whole.now → IsServed (database x) c.args.whole.now (counted D.kept S.kept D.refused S.refused machines) []) last.is
     (λ new fitting.
-    let so = opens_run here c.args.whole.now (held D.kept S.kept machines) (subst (λ x. IsFormed (catalogue_of x)) c.catalog.ensures (c.database_is_of_catalogue.ensures.of_catalogue.formed 0)) fitting (c.in_ok-machines.ensures.opens clean new last.none (database here)) in
-    record { version = so.version; reached = record { opening = so.opening; opens = so.opens; events = so.events; gone = []; is = so.is; explained = so.explained }; fit = fit_counted (database here) (held D.kept S.kept machines) (counts D.refused S.refused machines) so.fit })
+    let formed = subst (λ x. IsFormed (catalogue_of x)) c.catalog.ensures (c.database_is_of_catalogue.ensures.of_catalogue.formed 0) in
+    let opens = c.in_ok-machines.ensures.opens clean new last.none (database here) in
+    let so = opens_run here c.args.whole.now (held D.kept S.kept machines) formed fitting opens in
+    record { version = so.version; reached = record { opening = so.opening; opens = so.opens; events = so.events; gone = []; is = so.is; explained = so.explained }; fit = fit_counted (database here) (held D.kept S.kept machines) (counts D.refused S.refused machines) (opens_so here c.args.whole.now (held D.kept S.kept machines) formed fitting opens).fit })
 
 pub returns-clause-stands : goal.returns-clause-stands
 returns-clause-stands g c = λ catalogue last clean.

@@ -17,7 +17,7 @@ returns-in-Ok-clause-shown g c = λ db whole clean has.
     let old = c.args.self.now.world in
     let machines = seen.machines old in
     let found = option_map (λ parts. parts.items) c.in-Ok.found in
-    let kept : found ≡ parts_kept db machines c.args.leaf.now = c.in-Ok.ensures.lists db has.listed has.stands clean has.sound has.reached.1.fit in
+    let kept : found ≡ parts_kept db machines c.args.leaf.now = c.in-Ok.ensures.parts db has.listed has.stands clean has.sound has.reached.1.fit in
     let over = ap catalogue_of (c.catalog.ensures ∙ c.parts.ensures.leaves.catalog) in
     IfOk-weaker c.parts_text.result _ _ (λ text h. inl (has.reached, h ∙ ap (λ (catalogue : Catalogue). parts_text Tabs catalogue c.args.name.now c.args.leaf.now found) over ∙ ap (parts_text Tabs (seen.catalogue old) c.args.name.now c.args.leaf.now) kept)) c.parts_text.ensures
 
@@ -32,4 +32,4 @@ returns-in-Err-clause-shown g c = λ db whole clean has.
     let seen = world_over g.D.DeskStore.is_clean g.S.SiteStore.is_clean g.D.DeskStore.is_sound g.S.SiteStore.is_sound g.D.DeskStore.kept g.S.SiteStore.kept g.D.DeskStore.refused g.S.SiteStore.refused in
     let old = c.args.self.now.world in
     unshown (λ text. string_bytes text) (seen.refused old) (seen.refused c.parts.new.self) c.args.name.now (IsShownParts (sight_of seen db whole old) c.args.name.now c.args.leaf.now) c.in-Err.fault c.failed.result
-    (c.in-Err.ensures.fails_lists db has.listed has.stands clean has.sound has.reached.1.fit) c.failed.ensures.told c.failed.ensures.of_store
+    (c.in-Err.ensures.fails db has.listed has.stands clean has.sound has.reached.1.fit) c.failed.ensures.told c.failed.ensures.of_store

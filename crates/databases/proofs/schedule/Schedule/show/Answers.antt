@@ -13,7 +13,7 @@ use Rattle.databases.proofs.schedule.Schedule.show.Goals as goal
 pub returns-in-Ok-clause-shown : goal.returns-in-Ok-clause-shown
 returns-in-Ok-clause-shown g c = λ db whole clean has.
     let found = option_map (λ rows. rows.items) c.in-Ok.found in
-    let serial = c.in-Ok.ensures.lists db whole has.reached.0 has.listed has.stands clean has.sound has.reached.1 in
+    let serial = c.in-Ok.ensures.serial db whole has.reached.0 has.listed has.stands clean has.sound has.reached.1 in
     let over = ap catalogue_of (c.catalog.ensures ∙ c.rebuilt.ensures.leaves.catalog) in
     IfOk-weaker c.relation_text.result _ _ (λ text h. inl (found, serial, h ∙ ap (λ (catalogue : Catalogue). relation_text Tabs catalogue c.args.name.now found) over)) c.relation_text.ensures
 
@@ -29,4 +29,4 @@ returns-in-Err-clause-shown g c = λ db whole clean has.
     let old = c.args.self.now.world in
     let told = subst (λ (name : List ℕ). IfOk c.failed.result (λ text. string_bytes text ≡ failed_text name c.in-Err.fault)) c.as_str.ensures c.failed.ensures.told in
     unshown (λ text. string_bytes text) (seen.refused old) (seen.refused c.rebuilt.new.self) c.args.name.now (IsShownRelation (sight_of seen db whole old) c.args.name.now) c.in-Err.fault c.failed.result
-    (c.in-Err.ensures.fails_lists db whole has.reached.0 has.listed has.stands clean has.sound has.reached.1) told c.failed.ensures.of_store
+    (c.in-Err.ensures.fails_after db whole has.reached.0 has.listed has.stands clean has.sound has.reached.1) told c.failed.ensures.of_store

@@ -28,7 +28,8 @@ returns-in-Ok-clause-ok c = λ catalogue is.
       catalog = last.is;
       single = last.none;
       sound = c.in-Ok.ensures.sound;
-      run = λ clean. c.in-Ok.ensures.ok catalogue last clean new (c.requires catalogue [] is);
+      stands = λ clean. (c.in-Ok.ensures.alone catalogue last clean new (c.requires catalogue [] is)).1;
+      run = λ clean. (c.in-Ok.ensures.alone catalogue last clean new (c.requires catalogue [] is)).0;
     }
 
 pub returns-in-Ok-clause-lists : goal.returns-in-Ok-clause-lists
@@ -36,7 +37,7 @@ returns-in-Ok-clause-lists c = λ first rest is.
     let here = first_is c.args.chain.now c.first_of.result.now c.first_of.ensures.0 first rest c.first_of.ensures.1 is in
     let sites = subst (λ (catalogue : Catalogue). AreNewSites catalogue c.in_ok-sites.sites.items) here c.in_ok-sites.ensures.new in
     let new = are_new first c.in_ok-desk.desk c.in_ok-sites.sites.items c.in_ok-desk.ensures.new sites in
-    let opened = c.in-Ok.ensures.lists first rest is (c.requires first rest is) c.in_ok-desk.ensures.new.nothing.version in
+    let opened = c.in-Ok.ensures.ok first rest is (c.requires first rest is) c.in_ok-desk.ensures.new.nothing.version in
     record {
       none = c.in-Ok.ensures.none;
       number = c.in-Ok.world.machines.desk.volatile.version;

@@ -10,12 +10,13 @@ returns-in-Ok-clause-ok c = λ catalogue is.
       catalog = last.is;
       single = last.none;
       sound = λ clean. c.in-Ok.ensures.sound;
-      run = λ clean. c.in-Ok.ensures.ok catalogue (c.requires catalogue [] is) last;
+      stands = λ clean. (c.in-Ok.ensures.alone catalogue (c.requires catalogue [] is) last).1;
+      run = λ clean. (c.in-Ok.ensures.alone catalogue (c.requires catalogue [] is) last).0;
     }
 
 pub returns-in-Ok-clause-lists : goal.returns-in-Ok-clause-lists
 returns-in-Ok-clause-lists c = λ first rest is.
-    let opened = c.in-Ok.ensures.lists first rest is (c.requires first rest is) in
+    let opened = c.in-Ok.ensures.ok first rest is (c.requires first rest is) in
     record {
       none = c.in-Ok.ensures.none;
       number = 1;

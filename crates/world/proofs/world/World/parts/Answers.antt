@@ -1,31 +1,17 @@
 -- Why `World::parts` meets its contract.
-use Rattle.std.proofs.Common.{refl}
 use Rattle.catalog.specs.Relation.{catalogue_of}
-use Rattle.desk.specs.CatalogueDatabase.{database}
 use Rattle.world.specs.Contents.{held}
-use Rattle.world.proofs.Fragments.{sites_of_fit, sites_of_list}
+use Rattle.world.proofs.Fragments.{sites_of_list}
 use Rattle.world.proofs.world.World.parts.Goals as goal
 
 pub returns-clause-parts : goal.returns-clause-parts
-returns-clause-parts g c = λ clean sound fit.
-    let catalogue = catalogue_of c.args.self.now.machines.desk.catalog in
-    let before = held g.D.DeskStore.kept g.S.SiteStore.kept c.args.self.now.machines in
-    c.kept_parts.ensures.parts (database catalogue) refl clean sound (sites_of_fit catalogue before fit)
-
-pub returns-clause-fails : goal.returns-clause-fails
-returns-clause-fails g c = λ clean sound fit.
-    let catalogue = catalogue_of c.args.self.now.machines.desk.catalog in
-    let before = held g.D.DeskStore.kept g.S.SiteStore.kept c.args.self.now.machines in
-    c.kept_parts.ensures.fails clean sound (sites_of_fit catalogue before fit)
-
-pub returns-clause-lists : goal.returns-clause-lists
-returns-clause-lists g c = λ db listed stands clean sound fit.
+returns-clause-parts g c = λ db listed stands clean sound fit.
     let catalogue = catalogue_of c.args.self.now.machines.desk.catalog in
     let before = held g.D.DeskStore.kept g.S.SiteStore.kept c.args.self.now.machines in
     c.kept_parts.ensures.parts db stands.here clean sound (sites_of_list db catalogue before listed.base.of_catalogue stands.here fit)
 
-pub returns-clause-fails_lists : goal.returns-clause-fails_lists
-returns-clause-fails_lists g c = λ db listed stands clean sound fit.
+pub returns-clause-fails : goal.returns-clause-fails
+returns-clause-fails g c = λ db listed stands clean sound fit.
     let catalogue = catalogue_of c.args.self.now.machines.desk.catalog in
     let before = held g.D.DeskStore.kept g.S.SiteStore.kept c.args.self.now.machines in
     c.kept_parts.ensures.fails clean sound (sites_of_list db catalogue before listed.base.of_catalogue stands.here fit)
