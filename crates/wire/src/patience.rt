@@ -5,7 +5,7 @@ use std::sync::{Mutex, MutexGuard, Wait};
 use std::thread::yield_now;
 
 /// How often a thread looks, and lets others run in between, before it sleeps. To wake one takes longer than most waits do.
-const LOOKS: u32 = 100;
+const LOOKS: u32 = 1000;
 
 /// What comes next through a channel; none once nothing can come. No clause says so, since none follows a channel.
 pub(crate) fn next<R: Wait, T: Drop>(rt: &R, from: &Receiver<T>) -> Option<T> {
