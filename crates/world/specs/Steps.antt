@@ -19,7 +19,7 @@ use Rattle.world.specs.Frame.{CallsNoStore, StaysInForce, StaysOrFollows}
 use Rattle.world.specs.Listed.{FitsList, IsListed, StandsIn}
 use Rattle.world.specs.Machines.{Machines}
 use Rattle.world.specs.Refused.{IsRefusedFor}
-use Rattle.world.specs.Runs.{IsRun, IsSpared, GoesOn}
+use Rattle.world.specs.Runs.{GoesOn, IsRun, IsSpared}
 
 -- the entry or the fault that is answered
 abbrev pub answer_of : Result (Bor Entry) (Bor faults.Fault) → Result Entry faults.Fault

@@ -25,7 +25,7 @@ ghost use Rattle.world.specs.declared.fault.Fault.TheVariants as faults;
 ghost use Rattle.world.specs.Events.{is_nowhere, is_unsent};
 ghost use Rattle.world.specs.EventApplied.{IsAtSite, may_call, may_call_at, told_by_desk};
 ghost use Rattle.world.specs.Refused.{IsRefused, IsRefusedFor};
-ghost use Rattle.world.specs.Runs.{IsRun, IsSpared, StepsOn, Spares, entry_of};
+ghost use Rattle.world.specs.Runs.{IsRun, IsSpared, Spares, StepsOn, entry_of};
 ghost use Rattle.world.specs.Seated.{place_of};
 
 use crate::event::{Call, Entry, Event};

@@ -31,7 +31,7 @@ ghost use Rattle.world.specs.Contents.{OfGiven, OfStores, counted, held};
 ghost use Rattle.world.specs.Committed.{AnswerInTurn, committed_of};
 ghost use Rattle.world.specs.Posted.{letters_in};
 ghost use Rattle.world.specs.Refused.{IsRefusedFor};
-ghost use Rattle.world.specs.Runs.{IsRun, IsSerialRun, IsSpared, GoesOn, RunsOn};
+ghost use Rattle.world.specs.Runs.{GoesOn, IsRun, IsSerialRun, IsSpared, RunsOn};
 ghost use Rattle.world.specs.Steps.{Steps, answer_of};
 ghost use Rattle.world.specs.contracts.world.World.{the_row};
 ghost use Rattle.world.specs.Settled.{AreThoseOf, ShowsSerial, parts_kept, rows_shown};
