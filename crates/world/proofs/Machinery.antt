@@ -301,9 +301,6 @@ at_site_alone db step before after out notices fit leads = record {
   replies = leads.replies;
 }
 
-pub done_leads : (db : Database) (before : Machines) (seat : Seat) (after : List Seat) (out : List letters.Letter) → AreFit db before → (what : doing.SiteAction) (choice : Choice (language db)) → is_for_site what ≡ true → SomeSeatDoes what seat before.seats after out → Leads db (happens_at db what (kept_in out) choice) before (with_seats before after) out []
-done_leads db before seat after out fit what choice for_site did = at_site_alone db (happens_at db what (kept_in out) choice) before after out [] fit (list_done db before seat after out (fits_list db before fit) what choice for_site did)
-
 pub take_within : (db : Database) (before : Machines) (seat : Seat) (after : List Seat) (out : List letters.Letter) → AreFit db before → (letter : letters.Letter) (choice : Choice (language db)) → is_order letter.body ≡ true → SomeSeatDoes (Take letter) seat before.seats after out → (kept : Bool) → kept ≡ kept_in out →
     passes (world_of db before [] []) kept choice (sent db letter) ≡ true
 take_within db before seat after out fit = list_within db before seat after out (fits_list db before fit)
