@@ -140,13 +140,13 @@ talks_then seen first second third old middle new one two = record {
 }
 
 -- what exchanges asked for and heard tells what has happened
-each_told : (catalogue : Catalogue) (law : MovesFollow (database catalogue)) (exchanges : List Exchange) (old new : Standing catalogue) (entries : List Entry) → Tells (database catalogue) entries old.past → (answered : AnswersEach catalogue exchanges old new) →
+each_told : (catalogue : Catalogue) (exchanges : List Exchange) (old new : Standing catalogue) (entries : List Entry) → Tells (database catalogue) entries old.past → (answered : AnswersEach catalogue exchanges old new) →
     Tells (database catalogue) (entries ++ said_by_each catalogue exchanges old new answered) new.past
-each_told catalogue law [] old new entries so same = still_told catalogue old new entries so (ap (λ (standing : Standing catalogue). standing.past) same)
-each_told catalogue law (first ∷ others) old new entries so answered =
+each_told catalogue [] old new entries so same = still_told catalogue old new entries so (ap (λ (standing : Standing catalogue). standing.past) same)
+each_told catalogue (first ∷ others) old new entries so answered =
     let said = said_by first.mode catalogue first.task old answered.0 first.told answered.1 in
     subst (λ es. Tells (database catalogue) es new.past) (append_assoc entries said (said_by_each catalogue others answered.0 new answered.2))
-    (each_told catalogue law others answered.0 new (entries ++ said) (task_told first.mode catalogue law first.task old answered.0 first.told entries so answered.1) answered.2)
+    (each_told catalogue others answered.0 new (entries ++ said) (task_told first.mode catalogue first.task old answered.0 first.told entries so answered.1) answered.2)
 
 -- a talk over a database that was opened over whole relations is a session
 pub session_over : {B : Type 0} (seen : Seen B) (catalogue : Catalogue) (origin : Origin) (old new : Option (List ℕ)) (opened ended : B) → IsBegun seen catalogue origin opened → MovesFollow (database catalogue) → (talks : Talks seen old new opened ended) →
@@ -163,7 +163,7 @@ session_over seen catalogue origin old new opened ended fresh law talks whole be
       lines = stretch.lines;
       served = stretch.goes_on.served;
       stands = stretch.goes_on.stands;
-      serial = law.serial whole (seen.machines ended) _ stretch.later (each_told catalogue law (exchanges_in catalogue stretch.pieces) (standing_of seen catalogue opened []) (standing_of seen catalogue ended stretch.later) [] (record { phased = refl; stated = tt; heard = refl }) stretch.answered) stretch.goes_on.served;
+      serial = law.serial whole (seen.machines ended) _ stretch.later (each_told catalogue (exchanges_in catalogue stretch.pieces) (standing_of seen catalogue opened []) (standing_of seen catalogue ended stretch.later) [] (record { phased = refl; stated = tt; heard = refl }) stretch.answered) stretch.goes_on.served;
     }
 
 -- so over a list of catalogues

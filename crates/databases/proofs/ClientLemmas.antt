@@ -1,5 +1,5 @@
 -- Lemmas on a database for one client.
-use Rattle.std.proofs.Common.{◌≡◌, ◌++◌, ◌∷◌, [], if◌then◌else◌, IfErr, IfOk, OnOk, ℕ, List, Option, None, Some, append_assoc, Bool, true, false, inl, inr, ◌⊎◌, Result, Ok, Err, ap, refl, subst, sym, ◌∙◌}
+use Rattle.std.proofs.Common.{◌≡◌, ◌++◌, ◌∷◌, [], if◌then◌else◌, IfErr, IfOk, OnOk, ℕ, List, Option, None, Some, append_assoc, Bool, false, Result, Ok, Err, ap, refl, subst, sym, ◌∙◌}
 use Rattle.std.proofs.lemmas.List.{append-nil}
 use Rattle.terms.specs.declared.leaf.Leaf.{Leaf}
 use Rattle.terms.specs.declared.value.Value.{Value}
@@ -13,11 +13,13 @@ use Rattle.desk.specs.declared.reply.Notice.{Notice}
 use Rattle.desk.specs.Database.{Database, language}
 use Rattle.world.specs.declared.event.Entry.{Entry}
 use Rattle.world.specs.Commands.{Executes, MovesFollow}
-use Rattle.world.specs.Course.{deeds_in, said_in}
+use Rattle.world.specs.Course.{said_in}
 use Rattle.desk.specs.CatalogueDatabase.{database, fits}
 use Rattle.world.specs.Machines.{AreFit, Machines}
 use Rattle.world.specs.Executed.{Stands}
 use Rattle.world.specs.Client.{IsServed}
+use Rattle.world.specs.ListServed.{IsListServed}
+use Rattle.world.proofs.Hindering.{listed_served, served_alone}
 use Rattle.world.specs.Settled.{AreThoseOf, parts_kept, rows_shown}
 use Rattle.world.specs.Stopping.{is_stop}
 use Rattle.world.specs.Replies.{Tells}
@@ -94,48 +96,41 @@ module _ {B : Type 0} {seen : Seen B} (catalogue : Catalogue) (whole : Relations
 
   -- a command is executed, unless that stops the database
   abbrev ExecutesNext : List ℕ → Result (List Notice) Refusal → Catalogue → Type 0
-  ExecutesNext text reply c = (whole : Relations) (past : List (Deed (language (database c)))) → seen.stopped old ≡ None → seen.is_clean new → seen.is_sound old → IsServed (database c) whole before past → Executes (database c) (fits c) whole text (seen.current old) before (seen.current new) after past reply
+  ExecutesNext text reply c = (whole : Relations) (past : List (Deed (language (database c)))) → seen.stopped old ≡ None → seen.is_clean new → seen.is_sound old → before.later ≡ [] → IsListServed (database c) whole before past → IfErr reply (λ told. is_stop told ≡ false) → Executes (database c) (fits c) whole text (seen.current old) before (seen.current new) after past reply
 
-  does_next : (text : List ℕ) (reply : Result (List Notice) Refusal) → ExecutesNext text reply own → Executes (database catalogue) (fits catalogue) whole text (seen.current old) before (seen.current new) after past reply
-  does_next text reply next = subst (ExecutesNext text reply) h.catalog next whole past h.going clean h.sound h.served
+  does_next : (text : List ℕ) (reply : Result (List Notice) Refusal) → ExecutesNext text reply own → IfErr reply (λ told. is_stop told ≡ false) → Executes (database catalogue) (fits catalogue) whole text (seen.current old) before (seen.current new) after past reply
+  does_next text reply next goes = subst (ExecutesNext text reply) h.catalog next whole past h.going clean h.sound h.served.fit.single (listed_served (database catalogue) whole before past h.served) goes
 
   is_done : (text : List ℕ) (reply : Result (List Notice) Refusal) (does : Executes (database catalogue) (fits catalogue) whole text (seen.current old) before (seen.current new) after past reply) →
-      IsDone catalogue text (standing_of seen catalogue old past) (standing_of seen catalogue new (past ++ deeds_in (database catalogue) does.moves before after does.made)) reply
-  is_done text reply does = record { moves = does.moves; made = does.made; command = does.command; outcome = does.outcome h.stands; happened = refl }
+      IsDone catalogue text (standing_of seen catalogue old past) (standing_of seen catalogue new (past ++ does.deeds)) reply
+  is_done text reply does = record { moves = does.moves; deeds = does.deeds; command = does.command; outcome = does.outcome h.stands; tells = does.tells; happened = refl }
 
-  goes_next : (text : List ℕ) (reply : Result (List Notice) Refusal) (does : Executes (database catalogue) (fits catalogue) whole text (seen.current old) before (seen.current new) after past reply) → seen.stopped new ≡ None → seen.catalogue new ≡ seen.catalogue old → Sounds →
-      GoesOn seen catalogue whole (past ++ deeds_in (database catalogue) does.moves before after does.made) new
-  goes_next text reply does going same sound = goes_on (past ++ deeds_in (database catalogue) does.moves before after does.made) going same sound does.served (does.stands h.stands)
+  goes_next : (text : List ℕ) (reply : Result (List Notice) Refusal) (does : Executes (database catalogue) (fits catalogue) whole text (seen.current old) before (seen.current new) after past reply) → seen.stopped new ≡ None → seen.catalogue new ≡ seen.catalogue old → after.later ≡ [] → Sounds →
+      GoesOn seen catalogue whole (past ++ does.deeds) new
+  goes_next text reply does going same alone sound = goes_on (past ++ does.deeds) going same sound (served_alone (database catalogue) whole after (past ++ does.deeds) alone does.served) (does.stands h.stands)
 
   -- it is heard
-  pub is_heard : (mode : Mode) (text : List ℕ) (heard : List Notice) (told : List ℕ) → ExecutesNext text (Ok heard) own → seen.stopped new ≡ None → seen.catalogue new ≡ seen.catalogue old → Sounds →
+  pub is_heard : (mode : Mode) (text : List ℕ) (heard : List Notice) (told : List ℕ) → ExecutesNext text (Ok heard) own → seen.stopped new ≡ None → seen.catalogue new ≡ seen.catalogue old → after.later ≡ [] → Sounds →
       told ≡ heard_text mode heard → IsAnswered seen mode catalogue whole (Runs text) past old new (Answered told)
-  is_heard mode text heard told next going same sound lines =
-      let does = does_next text (Ok heard) next in
+  is_heard mode text heard told next going same alone sound lines =
+      let does = does_next text (Ok heard) next tt in
       record {
-        later = past ++ deeds_in (database catalogue) does.moves before after does.made;
-        goes_on = goes_next text (Ok heard) does going same sound;
+        later = past ++ does.deeds;
+        goes_on = goes_next text (Ok heard) does going same alone sound;
         answers = record { heard = heard; does = is_done text (Ok heard) does; lines = lines };
       }
 
   -- a refusal that does not stop the database is told
-  abbrev StopsOr : List ℕ → Refusal → Catalogue → Type 0
-  StopsOr text refusal c = (whole : Relations) (past : List (Deed (language (database c)))) → seen.stopped old ≡ None → seen.is_clean new → seen.is_sound old → IsServed (database c) whole before past → (is_stop refusal ≡ true) ⊎ Executes (database c) (fits c) whole text (seen.current old) before (seen.current new) after past (Err refusal)
-
-  goes_so : {P : Type 0} (refusal : Refusal) → is_stop refusal ≡ false → (is_stop refusal ≡ true) ⊎ P → P
-  goes_so refusal goes (inl stops) = let e : true ≡ false = sym stops ∙ goes in cc
-  goes_so refusal goes (inr so) = so
-
-  pub is_turned_away : {E : Type 0} (mode : Mode) (text : List ℕ) (refusal : Refusal) (result : Result replies.Reply E) → StopsOr text refusal own → (is_stop refusal ≡ false → seen.stopped new ≡ None) → seen.catalogue new ≡ seen.catalogue old → Sounds →
+  pub is_turned_away : {E : Type 0} (mode : Mode) (text : List ℕ) (refusal : Refusal) (result : Result replies.Reply E) → ExecutesNext text (Err refusal) own → (is_stop refusal ≡ false → seen.stopped new ≡ None) → seen.catalogue new ≡ seen.catalogue old → after.later ≡ [] → Sounds →
       seen.current new ≡ seen.current old → OnOk result (is_stop refusal ≡ false) → IfOk result (λ reply. told_by reply ≡ Refused (line_in mode (refused_text refusal))) → IfOk result (λ reply. IsAnswered seen mode catalogue whole (Runs text) past old new (told_by reply))
-  is_turned_away mode text refusal (Ok reply) next going same sound still goes told =
-      let does = goes_so refusal goes (subst (StopsOr text refusal) h.catalog next whole past h.going clean h.sound h.served) in
+  is_turned_away mode text refusal (Ok reply) next going same alone sound still goes told =
+      let does = does_next text (Err refusal) next goes in
       subst (IsAnswered seen mode catalogue whole (Runs text) past old new) (sym told) (record {
-        later = past ++ deeds_in (database catalogue) does.moves before after does.made;
-        goes_on = goes_next text (Err refusal) does (going goes) same sound;
+        later = past ++ does.deeds;
+        goes_on = goes_next text (Err refusal) does (going goes) same alone sound;
         answers = record { refusal = refusal; does = is_done text (Err refusal) does; goes_on = goes; same = still; uncommitted = does.uncommitted refusal refl; line = refl };
       })
-  is_turned_away mode text refusal (Err e) next going same sound still goes told = tt
+  is_turned_away mode text refusal (Err e) next going same alone sound still goes told = tt
 
   -- what is shown of the whole database that the fragments are those of, and of a leaf
   pub rows_of_own : (name : List ℕ) (shown : Option (List (List Value))) → ((whole : Relations) → seen.is_clean new → seen.is_sound old → AreFit (database own) before → AreThoseOf (database own) before whole → FitsSchema (schemas_of own) whole → shown ≡ rows_shown (database own) whole name) →
@@ -164,31 +159,31 @@ count_still mode catalogue name None old new told counts = counts.0
 count_still mode catalogue name (Some leaf) old new told counts = counts.0
 
 -- what a command and tasks asked for and heard tells what has happened
-done_told : (catalogue : Catalogue) (law : MovesFollow (database catalogue)) (text : List ℕ) (old new : Standing catalogue) (reply : Result (List Notice) Refusal) (entries : List Entry) → Tells (database catalogue) entries old.past → (does : IsDone catalogue text old new reply) → Tells (database catalogue) (entries ++ said_in does.moves) new.past
-done_told catalogue law text old new reply entries so does = subst (Tells (database catalogue) (entries ++ said_in does.moves)) (sym does.happened) (law.tells does.moves old.machines new.machines entries old.past so does.made)
+done_told : (catalogue : Catalogue) (text : List ℕ) (old new : Standing catalogue) (reply : Result (List Notice) Refusal) (entries : List Entry) → Tells (database catalogue) entries old.past → (does : IsDone catalogue text old new reply) → Tells (database catalogue) (entries ++ said_in does.moves) new.past
+done_told catalogue text old new reply entries so does = subst (Tells (database catalogue) (entries ++ said_in does.moves)) (sym does.happened) (does.tells entries so)
 
-pub task_told : (mode : Mode) (catalogue : Catalogue) (law : MovesFollow (database catalogue)) (task : Reading) (old new : Standing catalogue) (told : Told) (entries : List Entry) → Tells (database catalogue) entries old.past → (answers : AnswersTask mode catalogue task old new told) →
+pub task_told : (mode : Mode) (catalogue : Catalogue) (task : Reading) (old new : Standing catalogue) (told : Told) (entries : List Entry) → Tells (database catalogue) entries old.past → (answers : AnswersTask mode catalogue task old new told) →
     Tells (database catalogue) (entries ++ said_by mode catalogue task old new told answers) new.past
-task_told mode catalogue law Nothing old new told entries so answers = absurd answers
-task_told mode catalogue law (Runs text) old new (Answered told) entries so answers = done_told catalogue law text old new (Ok answers.heard) entries so answers.does
-task_told mode catalogue law (Runs text) old new (Refused told) entries so answers = done_told catalogue law text old new (Err answers.refusal) entries so answers.does
-task_told mode catalogue law (ShowsRelation name) old new (Answered told) entries so answers = still_told catalogue old new entries so answers.0.past
-task_told mode catalogue law (ShowsRelation name) old new (Refused told) entries so answers = absurd answers
-task_told mode catalogue law (ShowsLeaf name) old new (Answered told) entries so answers = still_told catalogue old new entries so (leaf_still mode catalogue name (written_leaf name (catalogue_leaves catalogue)) old new told answers).past
-task_told mode catalogue law (ShowsLeaf name) old new (Refused told) entries so answers = absurd answers
-task_told mode catalogue law (DumpsRelation name) old new (Answered told) entries so answers = still_told catalogue old new entries so answers.0.past
-task_told mode catalogue law (DumpsRelation name) old new (Refused told) entries so answers = absurd answers
-task_told mode catalogue law (CountsLeaf name) old new (Answered told) entries so answers = still_told catalogue old new entries so (count_still mode catalogue name (written_leaf name (catalogue_leaves catalogue)) old new told answers).past
-task_told mode catalogue law (CountsLeaf name) old new (Refused told) entries so answers = absurd answers
-task_told mode catalogue law Unreadable old new told entries so answers = absurd answers
+task_told mode catalogue Nothing old new told entries so answers = absurd answers
+task_told mode catalogue (Runs text) old new (Answered told) entries so answers = done_told catalogue text old new (Ok answers.heard) entries so answers.does
+task_told mode catalogue (Runs text) old new (Refused told) entries so answers = done_told catalogue text old new (Err answers.refusal) entries so answers.does
+task_told mode catalogue (ShowsRelation name) old new (Answered told) entries so answers = still_told catalogue old new entries so answers.0.past
+task_told mode catalogue (ShowsRelation name) old new (Refused told) entries so answers = absurd answers
+task_told mode catalogue (ShowsLeaf name) old new (Answered told) entries so answers = still_told catalogue old new entries so (leaf_still mode catalogue name (written_leaf name (catalogue_leaves catalogue)) old new told answers).past
+task_told mode catalogue (ShowsLeaf name) old new (Refused told) entries so answers = absurd answers
+task_told mode catalogue (DumpsRelation name) old new (Answered told) entries so answers = still_told catalogue old new entries so answers.0.past
+task_told mode catalogue (DumpsRelation name) old new (Refused told) entries so answers = absurd answers
+task_told mode catalogue (CountsLeaf name) old new (Answered told) entries so answers = still_told catalogue old new entries so (count_still mode catalogue name (written_leaf name (catalogue_leaves catalogue)) old new told answers).past
+task_told mode catalogue (CountsLeaf name) old new (Refused told) entries so answers = absurd answers
+task_told mode catalogue Unreadable old new told entries so answers = absurd answers
 
-tasks_told : (mode : Mode) (catalogue : Catalogue) (law : MovesFollow (database catalogue)) (answers : List (Reading × Told)) (old new : Standing catalogue) (entries : List Entry) → Tells (database catalogue) entries old.past → (answered : AnswersTasks mode catalogue answers old new) →
+tasks_told : (mode : Mode) (catalogue : Catalogue) (answers : List (Reading × Told)) (old new : Standing catalogue) (entries : List Entry) → Tells (database catalogue) entries old.past → (answered : AnswersTasks mode catalogue answers old new) →
     Tells (database catalogue) (entries ++ said_by_tasks mode catalogue answers old new answered) new.past
-tasks_told mode catalogue law [] old new entries so same = still_told catalogue old new entries so (ap (λ (standing : Standing catalogue). standing.past) same)
-tasks_told mode catalogue law (first ∷ others) old new entries so answered =
+tasks_told mode catalogue [] old new entries so same = still_told catalogue old new entries so (ap (λ (standing : Standing catalogue). standing.past) same)
+tasks_told mode catalogue (first ∷ others) old new entries so answered =
     let said = said_by mode catalogue first.0 old answered.0 first.1 answered.1 in
     subst (λ es. Tells (database catalogue) es new.past) (append_assoc entries said (said_by_tasks mode catalogue others answered.0 new answered.2))
-    (tasks_told mode catalogue law others answered.0 new (entries ++ said) (task_told mode catalogue law first.0 old answered.0 first.1 entries so answered.1) answered.2)
+    (tasks_told mode catalogue others answered.0 new (entries ++ said) (task_told mode catalogue first.0 old answered.0 first.1 entries so answered.1) answered.2)
 
 -- tasks over a database that was opened over whole relations are a run of them
 pub run_over : {B : Type 0} (seen : Seen B) (mode : Mode) (catalogue : Catalogue) (origin : Origin) (tasks : List Reading) (written : List ℕ) (any_refused : Bool) (opened ended : B) → IsBegun seen catalogue origin opened → MovesFollow (database catalogue) → (seen.is_clean ended → seen.is_clean opened) →
@@ -204,7 +199,7 @@ run_over seen mode catalogue origin tasks written any_refused opened ended fresh
       work = stretch.work;
       served = stretch.goes_on.served;
       stands = stretch.goes_on.stands;
-      serial = law.serial whole (seen.machines ended) _ stretch.later (tasks_told mode catalogue law stretch.work.answers (standing_of seen catalogue opened []) (standing_of seen catalogue ended stretch.later) [] (record { phased = refl; stated = tt; heard = refl }) stretch.work.answered) stretch.goes_on.served;
+      serial = law.serial whole (seen.machines ended) _ stretch.later (tasks_told mode catalogue stretch.work.answers (standing_of seen catalogue opened []) (standing_of seen catalogue ended stretch.later) [] (record { phased = refl; stated = tt; heard = refl }) stretch.work.answered) stretch.goes_on.served;
     }
 
 -- tasks over a database that was opened are a run of them

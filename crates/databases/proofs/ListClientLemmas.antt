@@ -1,5 +1,5 @@
 -- Lemmas on a database for one client over a list of catalogues.
-use Rattle.std.proofs.Common.{◌≡◌, ◌++◌, ◌∷◌, [], IfOk, OnErr, OnOk, map, ℕ, Bool, suc, List, Option, None, true, false, inl, inr, ◌⊎◌, Result, Ok, Err, ap, refl, subst, sym, ◌∙◌}
+use Rattle.std.proofs.Common.{◌≡◌, ◌++◌, ◌∷◌, [], IfOk, OnErr, OnOk, map, ℕ, Bool, suc, List, Option, None, false, Result, Ok, Err, ap, refl, subst, sym, ◌∙◌}
 use Rattle.terms.specs.declared.value.Value.{Value}
 use Rattle.meaning.specs.declared.statement.Statement.{Statement}
 use Rattle.meaning.specs.Whole.{Relations}
@@ -84,10 +84,6 @@ rows_serial db whole happened name shown so is =
       rows = is ∙ ap (λ (ss : List (List Statement)). rows_shown db (relations_after db ss whole) name) all;
     }
 
-goes_so : {P Q : Type 0} (refusal : Refusal) → is_stop refusal ≡ false → ((is_stop refusal ≡ true) × P) ⊎ Q → Q
-goes_so refusal goes (inl stops) = let e : true ≡ false = sym stops.0 ∙ goes in cc
-goes_so refusal goes (inr so) = so
-
 -- ---- calls
 module _ {B : Type 0} {seen : Seen B} (db : Database) (whole : Relations) (happened : Happened db) (old new : B) (clean : seen.is_clean new) (h : GoesOnOver seen db whole happened old) where
   abbrev Sounds : Type 0
@@ -135,10 +131,10 @@ module _ {B : Type 0} {seen : Seen B} (db : Database) (whole : Relations) (happe
   }
 
   -- a refusal that does not stop the database is told
-  pub is_turned_away_over : {E P : Type 0} (mode : Mode) (text : List ℕ) (refusal : Refusal) (result : Result replies.Reply E) → ((is_stop refusal ≡ true) × P) ⊎ Makes text (Err refusal) → (is_stop refusal ≡ false → seen.stopped new ≡ None) → StandsNow → Sounds →
+  pub is_turned_away_over : {E : Type 0} (mode : Mode) (text : List ℕ) (refusal : Refusal) (result : Result replies.Reply E) → (is_stop refusal ≡ false → Makes text (Err refusal)) → (is_stop refusal ≡ false → seen.stopped new ≡ None) → StandsNow → Sounds →
       seen.current new ≡ seen.current old → OnOk result (is_stop refusal ≡ false) → IfOk result (λ reply. told_by reply ≡ Refused (line_in mode (refused_text refusal))) → IfOk result (λ reply. IsAnsweredOver seen mode db whole (Runs text) happened old new (told_by reply))
   is_turned_away_over mode text refusal (Ok reply) makes going stands sound still goes told =
-      let made = goes_so refusal goes makes in
+      let made = makes goes in
       subst (IsAnsweredOver seen mode db whole (Runs text) happened old new) (sym told) (record {
         later = more text (Err refusal) made;
         goes_on = goes_over (more text (Err refusal) made) (going goes) stands sound (told_more text (Err refusal) made);

@@ -19,13 +19,15 @@ use Rattle.desk.specs.declared.reply.Reply.TheVariants as reply
 use Rattle.desk.specs.Database.{language}
 use Rattle.world.specs.declared.solo.Solo as code
 use Rattle.desk.specs.CatalogueDatabase.{database, fits}
+use Rattle.world.specs.declared.event.Entry.{Entry}
 use Rattle.world.specs.Commands.{IsCommand, Outcome}
 use Rattle.world.specs.Contents.{OfStores, counted}
-use Rattle.world.specs.Course.{Made, Move, deeds_in}
+use Rattle.world.specs.Course.{Move, said_in}
 use Rattle.world.specs.Machines.{Machines}
 use Rattle.world.specs.Executed.{Stands}
 use Rattle.world.specs.Client.{IsServed}
 use Rattle.world.specs.Settled.{AreThoseOf, parts_kept, rows_shown}
+use Rattle.world.specs.Replies.{Tells}
 use Rattle.world.specs.Stopping.{is_stop}
 use Rattle.forms.specs.declared.mode.Mode.{Mode}
 use Rattle.forms.specs.Mode.{answer_in, line_in}
@@ -94,13 +96,14 @@ abbrev pub heard_text : Mode → List Notice → List ℕ
 heard_text mode heard = flat_map (λ notice. reply_in mode notice.reply) heard
 
 -- a command makes its calls, and they come to its outcome: it has done what it asks for, or something was refused on the way, or it is refused for its reason alone. What has
--- happened is what its calls did
+-- happened is what its calls did, and what was asked for and heard of them tells it
 pub record IsDone (catalogue : Catalogue) (text : List ℕ) (before after : Standing catalogue) (reply : Result (List Notice) Refusal) : Type 0 where
   pub moves : List Move
-  pub made : Made (database catalogue) moves before.machines after.machines
+  pub deeds : List (Deed (language (database catalogue)))
   pub command : IsCommand (database catalogue).schemas text before.current after.current moves reply
-  pub outcome : Outcome (database catalogue) text before.current after.current before.machines after.machines before.past moves made reply
-  pub happened : after.past ≡ before.past ++ deeds_in (database catalogue) moves before.machines after.machines made
+  pub outcome : Outcome (database catalogue) text before.current after.current before.machines after.machines before.past deeds reply
+  pub tells : (entries : List Entry) → Tells (database catalogue) entries before.past → Tells (database catalogue) (entries ++ said_in moves) (before.past ++ deeds)
+  pub happened : after.past ≡ before.past ++ deeds
 
 -- it is executed, and all that its client hears is told
 pub record IsHeard (mode : Mode) (catalogue : Catalogue) (text : List ℕ) (before after : Standing catalogue) (told : List ℕ) : Type 0 where

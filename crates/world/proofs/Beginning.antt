@@ -3,7 +3,7 @@ use Rattle.std.proofs.Common.{◌≡◌, refl, sym, ap, ◌∙◌, Bool, true, f
 use Rattle.std.specs.List.{filter_map}
 use Rattle.std.specs.Option.{option_map}
 use Rattle.store.specs.declared.name.Txn.{Txn}
-use Rattle.protocol.specs.Desk.{desk_began, is_desk_within, next_txn}
+use Rattle.protocol.specs.Desk.{Deed, desk_began, is_desk_within, next_txn}
 use Rattle.protocol.specs.Language.{Lang, Name}
 use Rattle.protocol.specs.Letters.{txn_name}
 use Rattle.protocol.specs.World.{World, begins, begun}
@@ -71,12 +71,23 @@ module _ (db : Database) (before after : Machines) (heard : List Notice) (serves
       go true e = absurd (first_there heard (ap (map notice_of) none) _ (serves.replies ∙ ap (filter_map (told db)) (sym e)))
       go false e = refl
 
+  -- no letter comes of it, so this is where it led
+  pub begin_leads : (past : List (Deed (language db))) → begins (world_of db before [] past) ≡ world_of db after [] (past ++ serves.deeds)
+  begin_leads past = sym (all_silent serves.comings (begins w) (silent (is_desk_within (desk_began w.desk)))) ∙ serves.is past
+    where
+      w : World (language db)
+      w = world_of db before [] past
+
+      silent : (b : Bool) → (if b then begun false w else w).letters ≡ []
+      silent true = refl
+      silent false = refl
+
   -- and nothing has been done
   pub begin_still : heard ≡ [] → IsStill db before after
   begin_still none =
       let none_begun : begins here ≡ here = if_false (is_desk_within (desk_began here.desk)) (begun false here) here (begin_unheard none) in
       let came : world_of db after [] ([] ++ serves.deeds) ≡ here = sym (serves.is []) ∙ all_silent serves.comings (begins here) (still_silent (is_desk_within (desk_began here.desk))) ∙ none_begun in
-      record { fit = serves.fit; same = ap (λ (w : World (language db)). record w { past = [] }) came }
+      record { fit = serves.fit; same = ap (λ (w : World (language db)). record w { past = [] }) came; counts = serves.counts }
 
   pub begin_done : (txn : Txn) (told : List Notice) → told ≡ heard → option_map (λ notice. notice.txn) (slice_get heard 0) ≡ Some txn → DoesBegin db before txn after told
   begin_done txn told same first = record { named = go (slice_get heard 0) refl first; within = room (slice_get heard 0) refl first; serves = subst (Serves db To_begin before after) (sym same) serves }

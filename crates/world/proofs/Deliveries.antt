@@ -27,7 +27,8 @@ use Rattle.world.specs.declared.fault.Fault.{Fault}
 use Rattle.world.specs.declared.fault.Fault.TheVariants as faults
 use Rattle.world.specs.Counted.{HaveRefused, KeptUnless, NoFewer}
 use Rattle.world.specs.Mailbox.{Ask, AsksForNow, Breaks, Coming, Fails, Goes, Passed_over, Scene, Serves, Taken, Turned_away, all_come, asked, at_rest, come, done_with, settled}
-use Rattle.world.specs.Machines.{AreFit, AreOfPlaces, Leads, Machines, is_of_site, world_of}
+use Rattle.world.specs.Machines.{AreFit, AreOfPlaces, Leads, Machines, world_of}
+use Rattle.world.specs.Sites.{has_site}
 use Rattle.world.specs.Taking.{CameUnless, IsDone, IsInRound, put_out_by, stop_of, world_at}
 use Rattle.world.specs.Reasons.{HasReason, TurnsAway}
 use Rattle.world.specs.Stopping.{is_stop}
@@ -239,7 +240,7 @@ module _ (db : Database) (letter : letters.Letter) (before after : Machines) (ou
     kept = ⊎_elim (λ is. inl (subst (λ (kept : Bool). IsKept {L = language db} (Taken kept taken.came.choice)) (sym is) tt)) (λ refused. inr refused) taken.spared;
   }
 
-  pub passed_over : AreFit db before → is_of_site db letter ≡ false → after ≡ before → out ≡ [] → notices ≡ [] → IsDone db letter (with_counts before a) (with_counts after b) out notices
+  pub passed_over : AreFit db before → has_site db.sites letter.site ≡ false → after ≡ before → out ≡ [] → notices ≡ [] → IsDone db letter (with_counts before a) (with_counts after b) out notices
   passed_over fit unsent same none silent = record {
     coming = Passed_over;
     reason = unsent;

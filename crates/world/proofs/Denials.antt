@@ -23,6 +23,7 @@ use Rattle.desk.specs.Does.{IsRefragment, IsUnread, StatesPastLimits}
 use Rattle.desk.specs.State.{desk_of}
 use Rattle.world.specs.declared.event.Call as calls
 use Rattle.world.specs.declared.event.Call.TheVariants as call
+use Rattle.world.specs.Counted.{NoFewer}
 use Rattle.world.specs.Mailbox.{IsStill}
 use Rattle.world.specs.Commands.{IsUnreadable}
 use Rattle.world.specs.Course.{IsTurnedDown}
@@ -30,6 +31,7 @@ use Rattle.world.specs.Machines.{AreFit, Machines, world_of}
 use Rattle.world.specs.Refused.{IsRefused}
 use Rattle.world.specs.Smoothly.{IsReady}
 use Rattle.world.specs.Stopping.{is_stop}
+use Rattle.world.proofs.Counting.{no_fewer}
 
 -- ---- what stops
 pub is_memory : (told : refusals.Refusal) → told ≡ told_as.Memory → is_stop told ≡ true
@@ -41,7 +43,7 @@ memory_stops told (inr other) = inr other
 
 -- machines that were left as they were
 pub as_before : (db : Database) (before after : Machines) → AreFit db before → after ≡ before → IsStill db before after
-as_before db before after fit same = record { fit = subst (AreFit db) (sym same) fit; same = ap (λ (m : Machines). world_of db m [] []) same }
+as_before db before after fit same = record { fit = subst (AreFit db) (sym same) fit; same = ap (λ (m : Machines). world_of db m [] []) same; counts = subst (λ (m : Machines). NoFewer before.refused m.refused) (sym same) (no_fewer before.refused) }
 
 pub still_denied : (db : Database) (before after : Machines) (asked : calls.Call) (told : refusals.Refusal) → AreFit db before → after ≡ before → (told ≡ told_as.Memory) ⊎ IsRefused db before.later before.table asked told → IsTurnedDown db asked before after told
 still_denied db before after asked told fit same (inl memory) = inl (is_memory told memory)

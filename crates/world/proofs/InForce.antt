@@ -22,7 +22,7 @@ use Rattle.desk.proofs.Raised.{TurnKeeps, moving_is}
 use Rattle.protocol.specs.Letters.{txn_name}
 use Rattle.std.specs.List.{list_any}
 use Rattle.world.specs.declared.event.Call.TheVariants as calls
-use Rattle.world.specs.Refused.{IsRefused, SomebodyMoves}
+use Rattle.world.specs.Refused.{IsRefused}
 use Rattle.desk.specs.Transaction.{txn_of}
 use Rattle.world.specs.Machines.{IsForNow, Machines, world_of}
 use Rattle.meaning.specs.Statement.{is_refragment}
@@ -76,7 +76,7 @@ pub in_force_on : (db : Database) (n m : ℕ) (was now : List (List ℕ) × List
 in_force_on db n m was now same kept is = ap db.catalogue same ∙ is ∙ ap catalogue_of (sym kept)
 
 -- who moves, where somebody does
-somebody : (db : Database) (table : VolatileState) (txns : List Txn) → list_any (λ txn. desk_moving (table.standing txn)) txns ≡ true → SomebodyMoves db table
+somebody : (db : Database) (table : VolatileState) (txns : List Txn) → list_any (λ txn. desk_moving (table.standing txn)) txns ≡ true → (t : Name) × (is_moving ((desk_of db table).txn t) ≡ true)
 somebody db table [] e = absurd (cc)
 somebody db table (txn ∷ txns) e = ⊎_elim
     (λ moves. (txn_name txn, moving_is db (table.standing txn) ∙ moves))

@@ -63,6 +63,7 @@ pub mod Sited
 pub mod EndsTold
 pub mod Quieting
 pub mod StatementEnds
+pub mod Hindering
 pub mod Moves
 pub mod Standing
 pub mod Outcomes

@@ -18,7 +18,7 @@ use Rattle.protocol.specs.Letters.{txn_name}
 use Rattle.protocol.specs.NothingCommits.{is_of_commit}
 use Rattle.protocol.specs.Serial.{committed, phased_of, phases_of}
 use Rattle.protocol.specs.World.{World, begun, first_turn}
-use Rattle.protocol.proofs.Basics.{every_append}
+use Rattle.protocol.proofs.Basics.{clash, every_append}
 use Rattle.protocol.proofs.NothingCommits.{committed_still}
 use Rattle.desk.specs.declared.refusal.Refusal.{Refusal}
 use Rattle.desk.specs.declared.refusal.Refusal.TheVariants as refusal
@@ -40,7 +40,7 @@ use Rattle.world.specs.Commands.{heard_in}
 use Rattle.world.specs.Course.{Begins, Commits, CommitsNone, IsOne, Move, Refragments, Refuses, Rolls_back, States, said, said_in, said_of}
 use Rattle.world.specs.Frame.{ListMakes, OverLists}
 use Rattle.world.specs.Listed.{FitsList, IsListed, ListAsked, ListBegun, ListMoved, ListStated, StandsIn}
-use Rattle.world.specs.ListServed.{HasItsReason, IsListServed, IsListServedOn, ListGoes, ListHeardIsSerial, ListMade, RefusedOnTheWay}
+use Rattle.world.specs.ListServed.{HasItsReason, IsListServed, IsListServedOn, ListHeardIsSerial, ListMade, RefusedOnTheWay}
 use Rattle.world.specs.Machines.{Machines, world_of}
 use Rattle.world.specs.Refused.{IsRefused}
 use Rattle.world.specs.Replies.{AreStated, Shows, Tells, phased_by, text_by}
@@ -160,6 +160,12 @@ module _ (db : Database) (whole : Relations) where
   makes_as machines past (Ok x) K M so made = made_as machines past (K (Ok x)) (M (Ok x)) so made
   makes_as machines past (Err why) K M so (inl stops) = inl stops
   makes_as machines past (Err why) K M so (inr made) = inr (made_as machines past (K (Err why)) (M (Err why)) so made)
+
+  -- so of a call that doesn't stop the database
+  pub makes_unless : {T : Type 0} (machines : Machines) (past : List (Deed (language db))) (result : Result T Refusal) (kind : Kinds T) → ListMakes db whole machines past result kind → IfErr result (λ told. is_stop told ≡ false) → ListMade db whole machines past (kind result)
+  makes_unless machines past (Ok x) kind made goes = made
+  makes_unless machines past (Err why) kind (inl stops) goes = clash stops.0 goes
+  makes_unless machines past (Err why) kind (inr made) goes = made
 
   -- none is made
   pub none_made : (machines : Machines) (past : List (Deed (language db))) (kind : List Move → Type 0) → kind [] → IsListServed db whole machines past → ListMade db whole machines past kind

@@ -15,7 +15,8 @@ use Rattle.desk.specs.Database.{Database, language, sent}
 use Rattle.desk.specs.State.{desk_of, notice_of}
 use Rattle.desk.specs.Transition.{told}
 use Rattle.world.specs.Listed.{FitsList, ListAsked, ListCame, ListLeads}
-use Rattle.world.specs.Machines.{AreOfPlaces, Machines, is_of_site, world_of}
+use Rattle.world.specs.Machines.{AreOfPlaces, Machines, world_of}
+use Rattle.world.specs.Sites.{has_site}
 use Rattle.world.specs.Mailbox.{ListComes, Scene, all_come, come, done_with}
 use Rattle.world.specs.Reasons.{HasReason, TurnsAway}
 use Rattle.world.specs.Taking.{IsInRound, ListIsDone}
@@ -74,7 +75,7 @@ module _ (db : Database) where
     list_taken kept came ends = record { coming = Taken kept came.choice; reason = (came.within, ends); leads = came.leads }
 
     -- it is passed over
-    pub list_passed : FitsList db before → is_of_site db letter ≡ false → after ≡ before → out ≡ [] → notices ≡ [] → ListIsDone db letter before after out notices
+    pub list_passed : FitsList db before → has_site db.sites letter.site ≡ false → after ≡ before → out ≡ [] → notices ≡ [] → ListIsDone db letter before after out notices
     list_passed fit unsent same none silent = record {
       coming = Passed_over;
       reason = unsent;

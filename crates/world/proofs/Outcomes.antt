@@ -1,5 +1,5 @@
 -- What a command comes to.
-use Rattle.std.proofs.Common.{◌≡◌, refl, sym, ap, ◌∙◌, subst, ℕ, true, false, List, [], ◌∷◌, ◌++◌, map, ◌⊎◌, inl, inr, ⊎_elim, Bool, Option, Some, None, Result, Ok, Err, OnErr}
+use Rattle.std.proofs.Common.{◌≡◌, refl, sym, ap, ◌∙◌, subst, ℕ, true, false, List, [], ◌∷◌, ◌++◌, append-nil, map, ◌⊎◌, inl, inr, ⊎_elim, Bool, Option, Some, None, Result, Ok, Err, IfErr, OnErr}
 use Rattle.meaning.specs.declared.answer.Answer.{Answer as AnswerNow}
 use Rattle.meaning.specs.declared.statement.Refragment.{Refragment}
 use Rattle.meaning.specs.declared.statement.Statement.{Statement}
@@ -26,16 +26,19 @@ use Rattle.desk.specs.State.{notice_of}
 use Rattle.world.specs.declared.event.Call as calls
 use Rattle.world.specs.declared.event.Call.TheVariants as call
 use Rattle.world.specs.Client.{IsServed, autocommit_reply, is_end, still_open, tells}
-use Rattle.world.specs.Commands.{CommandsFollow, Executes, IsCallOf, IsCommand, IsDecided, IsLone, IsRefragmented, IsStated, IsTakenBack, MovesFollow, Outcome, UnlessStopped, finds_no_number, has_answered, has_begun, has_committed, has_rolled_back, heard_in, is_hindered, is_misplaced, is_refragment_inside, is_too_much, is_too_much_alone}
-use Rattle.world.specs.Course.{Begins, CommitsNone, Made, Move, Refragments, Refuses, SomeHindered, States, deeds_in, said_in}
+use Rattle.world.specs.Commands.{CommandsFollow, Executes, IsCallOf, IsCommand, IsDecided, IsLone, IsRefragmented, IsStated, IsTakenBack, MovesFollow, Outcome, finds_no_number, has_answered, has_begun, has_committed, has_rolled_back, heard_in, is_hindered, is_misplaced, is_refragment_inside, is_too_much, is_too_much_alone}
+use Rattle.world.specs.Course.{Begins, Commits, CommitsNone, Made, Move, Refragments, Refuses, Rolls_back, SomeHindered, States, deeds_in, said_in}
 use Rattle.world.specs.Executed.{ObeysUnlessRefused, Stands}
 use Rattle.world.specs.Frame.{MakesMoves}
 use Rattle.world.specs.Machines.{Machines}
 use Rattle.world.specs.Refused.{IsRefused}
 use Rattle.world.specs.Settling.{GrowsQuiet}
+use Rattle.world.specs.Stopping.{is_stop}
+use Rattle.world.proofs.Beginning.{begin_leads}
 use Rattle.world.proofs.Deeds.{committed_none, move_served}
 use Rattle.world.proofs.Denials.{is_full, no_commit, no_rollback, no_room}
 use Rattle.world.proofs.Executed.{heard_alone, not_ended, still_there, tells_more}
+use Rattle.world.proofs.Hindering.{listed_served, made_hindered, made_reasons}
 use Rattle.world.proofs.Moves.{back_cases, command_cases, decided_cases, lone_cases, refragmented_cases, stated_cases}
 use Rattle.world.proofs.RoomToBegin.{numbers_run_out}
 use Rattle.world.proofs.Standing.{begun, command_stands, stands_whenever, stated}
@@ -143,7 +146,7 @@ module _ (db : Database) (fits : Place → Content → Bool) (reached : ReachedL
 
   module _ (past : List (Deed (language db))) (current later : Option Txn) (before after : Machines) (served : IsServed db whole before past) (stands : Stands db fits current before past) where
     abbrev Comes : (moves : List Move) → Made db moves before after → Type 0
-    Comes moves made = Outcome db text current later before after past moves made reply
+    Comes moves made = Outcome db text current later before after past (deeds_in db moves before after made) reply
 
     as_open : (c : Option Txn) → current ≡ c → Stands db fits c before past
     as_open c same = subst (λ (x : Option Txn). Stands db fits x before past) same stands
@@ -154,12 +157,13 @@ module _ (db : Database) (fits : Place → Content → Bool) (reached : ReachedL
         let does = made.1 in
         let more = past ++ does.serves.deeds in
         let done = begun db fits reached obeys law whole past txn before made.0 greeted served (as_open None none) does in
+        let served_more = move_served db whole reached (Begins txn greeted) before made.0 past served does in
         ⊎_elim
         (λ ended. ⊎_elim
         (λ (is_so : IsAnswered txn). has_answered txn statement is_so.heard is_so.answer is_so.says spelled (after_none ∙ sym none) is_so.hears)
-        (λ hindered. is_hindered hindered.heard hindered.says (inr hindered.some)) ended)
-        (λ (limit : MeetsLimit txn made.0). is_too_much_alone limit.told limit.says (after_none ∙ sym none) limit.full txn made.0 greeted none does limit.past_limits)
-        (stated_comes statement spelled ordinary more txn greeted made.0 after (move_served db whole reached (Begins txn greeted) before made.0 past served does) (stands_whenever db fits (Some txn) made.0 past more done.0) done.1 moves is made.2))
+        (λ hindered. is_hindered hindered.heard hindered.says (made_hindered db (Begins txn greeted ∷ moves) before after past made (inr hindered.some))) ended)
+        (λ (limit : MeetsLimit txn made.0). is_too_much_alone limit.told limit.says (after_none ∙ sym none) limit.full none txn does.named made.0 does.serves.deeds (deeds_in db moves made.0 after made.2) refl (begin_leads db before made.0 greeted does.serves past) limit.past_limits)
+        (stated_comes statement spelled ordinary more txn greeted made.0 after served_more (stands_whenever db fits (Some txn) made.0 past more done.0) done.1 moves is made.2))
         (λ why says made.
         let full = no_room db before why served.fit made.1.0 in
         finds_no_number why says (after_none ∙ sym none) full.0 none (inr (statement, spelled)) (numbers_run_out db before past served.fit (as_open None none) full.1))
@@ -185,10 +189,10 @@ module _ (db : Database) (fits : Place → Content → Bool) (reached : ReachedL
         (λ txn heard is some says made. has_begun txn heard says is.0 some (begun db fits reached obeys law whole past txn before made.0 heard served (as_open None is.1) made.1).1)
         (λ txn given heard is still says made. ⊎_elim
         (λ done. has_answered txn is.0.0 heard done.1.0 says is.0.1 (still ∙ ap (λ (c : Option Txn). still_open c heard) is.1 ∙ still_there txn heard done.1.0 done.1.1 ∙ sym is.1) done.1.1)
-        (λ hindered. is_hindered heard says (inl hindered))
+        (λ hindered. is_hindered heard says (made_hindered db (States txn given heard ∷ []) before after past made (inl hindered)))
         (obeys.states whole before made.0 past given txn heard served (as_open (Some txn) is.1) made.1))
-        (λ txn heard is none says made. ⊎_elim (λ done. has_committed txn heard says is.0 is.1 done.1) (λ hindered. is_hindered heard says (inl hindered)) (obeys.commits whole before made.0 past txn heard served (as_open (Some txn) is.1) made.1))
-        (λ txn heard is none says made. ⊎_elim (λ done. has_rolled_back txn heard says is.0 is.1 done.1) (λ hindered. is_hindered heard says (inl hindered)) (obeys.rolls_back whole before made.0 past txn heard served (as_open (Some txn) is.1) made.1))
+        (λ txn heard is none says made. ⊎_elim (λ done. has_committed txn heard says is.0 is.1 done.1) (λ hindered. is_hindered heard says (made_hindered db (Commits txn heard ∷ []) before after past made (inl hindered))) (obeys.commits whole before made.0 past txn heard served (as_open (Some txn) is.1) made.1))
+        (λ txn heard is none says made. ⊎_elim (λ done. has_rolled_back txn heard says is.0 is.1 done.1) (λ hindered. is_hindered heard says (made_hindered db (Rolls_back txn heard ∷ []) before after past made (inl hindered))) (obeys.rolls_back whole before made.0 past txn heard served (as_open (Some txn) is.1) made.1))
         (λ asked told is still says made. call_refused (Refuses asked told ∷ []) made asked told says still is made.1.0)
         (λ moves statement spelled ordinary none after_none is. lone_comes statement spelled ordinary none after_none moves is)
         (λ moves refragment spelled none after_none. refragmented_cases text reply (λ moves. (made : Made db moves before after) → Comes moves made) (λ came more is made. absurd made.1) moves)
@@ -200,19 +204,20 @@ commands_follow db fits reached obeys law one follow whole text current later be
     let served_more = follow.served whole moves before after past served made in
     record {
       moves = moves;
-      made = made;
+      deeds = deeds_in db moves before after made;
       command = command;
-      served = served_more;
+      served = listed_served db whole after more served_more;
       tells = λ entries told. follow.tells moves before after entries past told made;
       serial = λ entries told. follow.serial whole after (entries ++ said_in moves) more (follow.tells moves before after entries past told made) served_more;
+      reasons = made_reasons db reached whole past (deeds_in db moves before after made) moves before after [] made refl (subst (IsServed db whole before) (sym (append-nil past)) served);
       uncommitted = λ refused is. committed_none db moves before after made past (refused_none refused reply is db.schemas text current later moves command);
       stands = λ stands. stands_whenever db fits later after past more (command_stands db fits reached obeys law whole past db.schemas text current later reply before after served stands moves command made);
       outcome = λ stands. command_comes db fits reached obeys law one whole text reply past current later before after served stands moves command made;
     }
 
--- of a call of the code
+-- of a call of the code that doesn't stop the database
 pub executed : (db : Database) (fits : Place → Content → Bool) → CommandsFollow db fits → (whole : Relations) (text : List ℕ) (current later : Option Txn) (before after : Machines) (past : List (Deed (language db))) {T : Type 0} (items : T → List Notice) (result : Result T refusals.Refusal) →
-    IsServed db whole before past → MakesMoves db before after result (λ done moves. IsCommand db.schemas text current later moves (heard_in items done)) → UnlessStopped items (Executes db fits whole text current before later after past) result
-executed db fits law whole text current later before after past items (Ok x) served made = law whole text current later before after past (Ok (items x)) made.moves served made.made made.is
-executed db fits law whole text current later before after past items (Err why) served (inl stops) = inl stops
-executed db fits law whole text current later before after past items (Err why) served (inr made) = inr (law whole text current later before after past (Err why) made.moves served made.made made.is)
+    IsServed db whole before past → MakesMoves db before after result (λ done moves. IsCommand db.schemas text current later moves (heard_in items done)) → IfErr result (λ told. is_stop told ≡ false) → Executes db fits whole text current before later after past (heard_in items result)
+executed db fits law whole text current later before after past items (Ok x) served made goes = law whole text current later before after past (Ok (items x)) made.moves served made.made made.is
+executed db fits law whole text current later before after past items (Err why) served (inl stops) goes = clash stops goes
+executed db fits law whole text current later before after past items (Err why) served (inr made) goes = law whole text current later before after past (Err why) made.moves served made.made made.is

@@ -46,11 +46,11 @@ use Rattle.desk.specs.State.{desk_of}
 use Rattle.world.specs.declared.fault.Fault as faults
 use Rattle.world.specs.declared.fault.Fault.TheVariants as fault
 use Rattle.world.specs.Listed.{FitsList}
-use Rattle.world.specs.Machines.{Machines, is_of_site, is_order, world_of}
+use Rattle.world.specs.Machines.{Machines, is_order, world_of}
 use Rattle.world.specs.Reasons.{SiteTells, Tells, TurnsAway}
 use Rattle.world.specs.declared.sites.SiteAction as doing
 use Rattle.world.specs.declared.sites.SiteAction.TheVariants.{Take}
-use Rattle.world.specs.Sites.{IsSeated, Seat, is_called, seat_of, state_at, states_of}
+use Rattle.world.specs.Sites.{IsSeated, Seat, has_site, is_called, seat_of, state_at, states_of}
 use Rattle.world.specs.Taking.{stop_of, turns_away}
 use Rattle.world.proofs.Seating.{HasItsLeaves, name_is, seat_has, seat_named, state_there}
 
@@ -244,7 +244,7 @@ turned_away db machines letter fit (fault.Site site_fault.Memory) tells is = cc
 turned_away db machines letter fit (fault.Site (site_fault.Store why)) tells is = cc
 turned_away db machines letter fit fault.Unsent tells is = cc
 
-pub is_unsent : (db : Database) (machines : Machines) (letter : letters.Letter) (told : faults.Fault) → Tells db machines letter told → stop_of told ≡ None → turns_away told ≡ false → is_of_site db letter ≡ false
+pub is_unsent : (db : Database) (machines : Machines) (letter : letters.Letter) (told : faults.Fault) → Tells db machines letter told → stop_of told ≡ None → turns_away told ≡ false → has_site db.sites letter.site ≡ false
 is_unsent db machines letter (fault.Desk told) (inl memory) goes_on is = let e = sym (ap (λ t. stop_of (fault.Desk t)) memory) ∙ goes_on in cc
 is_unsent db machines letter (fault.Desk told) (inr full) goes_on is = let e = sym (ap (λ t. turns_away (fault.Desk t)) full.0) ∙ is in cc
 is_unsent db machines letter (fault.Site site_fault.Full) tells goes_on is = cc

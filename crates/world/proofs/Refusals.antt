@@ -1,5 +1,5 @@
 -- Why events are refused: what machines and their stores tell is the event's reason.
-use Rattle.std.proofs.Common.{◌≡◌, ◌≢◌, ◌≤◌, ◌+◌, ◌^◌, ◌⊎◌, refl, sym, ap, subst, ℕ, Bool, false, true, List, Some, Result, Ok, Err, IfErr, IfSome, OnErr, inl, inr, ⊎_elim, slice_get}
+use Rattle.std.proofs.Common.{◌≡◌, ◌≢◌, ◌≤◌, ◌+◌, ◌^◌, ◌⊎◌, not, refl, sym, ap, subst, ℕ, Bool, false, true, List, Some, Result, Ok, Err, IfErr, IfSome, OnErr, inl, inr, ⊎_elim, slice_get}
 use Rattle.std.specs.Prelude.{⊤}
 use Rattle.store.specs.declared.fault.StoreFault.TheVariants as store_faults
 use Rattle.store.specs.declared.letter.Letter.{Letter}
@@ -22,14 +22,14 @@ use Rattle.world.specs.declared.event.Event.TheVariants as event
 use Rattle.world.specs.declared.fault.Fault.{Fault}
 use Rattle.world.specs.declared.fault.Fault.TheVariants as fault
 use Rattle.world.specs.Counted.{HaveRefused}
-use Rattle.world.specs.Events.{is_nowhere, is_unsent}
+use Rattle.world.specs.Events.{is_unsent}
 use Rattle.world.specs.EventApplied.{IsAtSite, told_by_desk}
 use Rattle.world.specs.Machines.{Machines}
 use Rattle.world.specs.Posted.{letters_in}
 use Rattle.world.specs.Reasons.{Tells}
 use Rattle.world.specs.Refused.{DeskRestartTells, HasOwnReason, IsRefused, IsRefusedFor, PlaceTells, SiteRestartTells}
 use Rattle.world.specs.Seated.{place_of}
-use Rattle.world.specs.Sites.{Seat, seat_of}
+use Rattle.world.specs.Sites.{Seat, has_site, seat_of}
 use Rattle.world.specs.Stopping.{StopsFor}
 use Rattle.world.specs.Taking.{stop_of}
 use Rattle.world.proofs.SiteSteps.{unchanged}
@@ -125,7 +125,7 @@ module _ (Sound : Type 0) (db : Database) (before after : Machines) (entries : L
   pub unsent_refused : (sites : List (List ℕ)) (what : events.Event) → db.sites ≡ sites → is_unsent sites entries what ≡ true → IsRefusedFor Sound db before after entries what fault.Unsent
   unsent_refused sites what is none = inr (inl (refl, subst (λ (s : List (List ℕ)). is_unsent s entries what ≡ true) (sym is) none))
 
-  pub nowhere_refused : (sites : List (List ℕ)) (what : doing.SiteAction) (kept : Bool) (at : events.Event) → db.sites ≡ sites → IsAtSite what kept at → is_nowhere sites (place_of what) ≡ true → IsRefusedFor Sound db before after entries at fault.Unsent
+  pub nowhere_refused : (sites : List (List ℕ)) (what : doing.SiteAction) (kept : Bool) (at : events.Event) → db.sites ≡ sites → IsAtSite what kept at → not (has_site sites (place_of what)) ≡ true → IsRefusedFor Sound db before after entries at fault.Unsent
   nowhere_refused sites (things.Take letter) kept at is here none = absurd here
   nowhere_refused sites (things.GiveUp place ticket) kept at is here none = unsent_refused sites at is (subst (λ (e : events.Event). is_unsent sites entries e ≡ true) (sym here) none)
   nowhere_refused sites (things.Inquire place) kept at is here none = unsent_refused sites at is (subst (λ (e : events.Event). is_unsent sites entries e ≡ true) (sym here) none)

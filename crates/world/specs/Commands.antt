@@ -1,5 +1,6 @@
 -- The commands of one client: the calls that each makes, and what it comes to.
 use Rattle.std.specs.Prelude.{◌≡◌, ◌≤◌, ◌⊎◌, ◌^◌, ℕ, Bool, suc, true, false, List, [], ◌∷◌, ◌++◌, map, Option, Some, None, Result, Ok, Err, if◌then◌else◌, slice_get}
+use Rattle.std.specs.List.{AllByRecursion, flat_map}
 use Rattle.std.specs.Option.{option_map}
 use Rattle.meaning.specs.declared.answer.Answer.{Answer as AnswerNow}
 use Rattle.meaning.specs.declared.schema.RelationSchema.{RelationSchema}
@@ -15,9 +16,10 @@ use Rattle.reader.specs.Command.{IsTextOf}
 use Rattle.reader.specs.Fault.{Fault}
 use Rattle.store.specs.Content.{Content}
 use Rattle.store.specs.declared.name.Txn.{Txn}
-use Rattle.protocol.specs.Desk.{Deed}
+use Rattle.protocol.specs.Desk.{Deed, next_txn}
 use Rattle.protocol.specs.Letters.{txn_name}
 use Rattle.protocol.specs.Serial.{committed}
+use Rattle.protocol.specs.World.{begins}
 use Rattle.desk.specs.declared.refusal.Refusal as refusals
 use Rattle.desk.specs.declared.refusal.Refusal.TheVariants as refusal
 use Rattle.desk.specs.declared.reply.Notice.{Notice}
@@ -25,17 +27,18 @@ use Rattle.desk.specs.declared.reply.Reply.TheVariants.{Answer, Begun, Committed
 use Rattle.desk.specs.Database.{Database, language}
 use Rattle.desk.specs.Place.{Place}
 use Rattle.desk.specs.Does.{IsRefragment, StatesPastLimits}
-use Rattle.desk.specs.State.{notice_of}
+use Rattle.desk.specs.State.{desk_of, notice_of}
 use Rattle.world.specs.declared.event.Call as calls
 use Rattle.world.specs.declared.event.Call.TheVariants as call
 use Rattle.world.specs.declared.event.Entry.{Entry}
-use Rattle.world.specs.Client.{DoesBegin, IsServed, autocommit_reply, is_end, tells}
-use Rattle.world.specs.Course.{Begins, Commits, Made, Move, Refragments, Refuses, Rolls_back, SomeHindered, States, deeds_in, said_in}
+use Rattle.world.specs.Client.{IsServed, autocommit_reply, is_end, tells}
+use Rattle.world.specs.Course.{Begins, Commits, Made, Move, Refragments, Refuses, Rolls_back, States, deeds_in, said_in, said_of}
 use Rattle.world.specs.Executed.{Stands}
-use Rattle.world.specs.Machines.{Machines}
+use Rattle.world.specs.Hindered.{WereHindered}
+use Rattle.world.specs.ListServed.{HasItsReason, IsListServed}
+use Rattle.world.specs.Machines.{Machines, world_of}
 use Rattle.world.specs.Replies.{Tells}
 use Rattle.world.specs.Runs.{IsSerialRun}
-use Rattle.world.specs.Stopping.{is_stop}
 
 -- what a client is answered by a call of the code: what it hears, or why it is refused
 abbrev pub heard_in : {T : Type 0} → (T → List Notice) → Result T refusals.Refusal → Result (List Notice) refusals.Refusal
@@ -118,40 +121,37 @@ pub data IsCommand (schemas : List RelationSchema) (text : List ℕ) (current la
   is_lone : (statement : Statement) → IsTextOf schemas text (command.Run statement) → is_refragment statement ≡ false → current ≡ None → later ≡ None → IsLone text moves reply → IsCommand schemas text current later moves reply
   refragments : (refragment : Refragment) → IsTextOf schemas text (command.Run (statements.Refragment refragment)) → current ≡ None → later ≡ None → IsRefragmented text moves reply → IsCommand schemas text current later moves reply
 
--- ---- what a command comes to, where the database stands
+-- ---- what a command comes to, where the database stands and no catalogue comes later
 -- its transaction has begun, is committed, is rolled back, or its statement is answered, and its client hears so; or something was refused on the way; or it is refused:
--- at once; a transaction can't begin, since the numbers have run out; REFRAGMENT comes inside a transaction; or to state the statement would lead past the limits, in the open transaction or in the one that has begun for it alone
-pub data Outcome (db : Database) (text : List ℕ) (current later : Option Txn) (before after : Machines) (past : List (Deed (language db))) (moves : List Move) (made : Made db moves before after) (reply : Result (List Notice) refusals.Refusal) : Type 0 where
-  has_begun : (txn : Txn) (heard : List Notice) → reply ≡ Ok heard → IsTextOf db.schemas text command.Begin → later ≡ Some txn → map notice_of heard ≡ (txn_name txn, Begun) ∷ [] → Outcome db text current later before after past moves made reply
-  has_committed : (txn : Txn) (heard : List Notice) → reply ≡ Ok heard → IsTextOf db.schemas text command.Commit → current ≡ Some txn → map notice_of heard ≡ (txn_name txn, Committed) ∷ [] → Outcome db text current later before after past moves made reply
-  has_rolled_back : (txn : Txn) (heard : List Notice) → reply ≡ Ok heard → IsTextOf db.schemas text command.Rollback → current ≡ Some txn → map notice_of heard ≡ (txn_name txn, RolledBack) ∷ [] → Outcome db text current later before after past moves made reply
-  has_answered : (txn : Txn) (statement : Statement) (heard : List Notice) (answer : AnswerNow) → reply ≡ Ok heard → IsTextOf db.schemas text (command.Run statement) → later ≡ current → map notice_of heard ≡ (txn_name txn, Answer answer) ∷ [] → Outcome db text current later before after past moves made reply
-  is_hindered : (heard : List Notice) → reply ≡ Ok heard → SomeHindered db moves before after past made → Outcome db text current later before after past moves made reply
-  is_misplaced : (told : refusals.Refusal) → reply ≡ Err told → later ≡ current → IsMisplaced db.schemas text current told → Outcome db text current later before after past moves made reply
-  finds_no_number : (told : refusals.Refusal) → reply ≡ Err told → later ≡ current → told ≡ refusal.Full → current ≡ None → IsTextOf db.schemas text command.Begin ⊎ ((statement : Statement) × IsTextOf db.schemas text (command.Run statement)) → 2 ^ 63 ≤ suc before.table.number → Outcome db text current later before after past moves made reply
-  is_refragment_inside : (told : refusals.Refusal) → reply ≡ Err told → later ≡ current → (txn : Txn) → current ≡ Some txn → IsRefragment db.schemas text told → Outcome db text current later before after past moves made reply
-  is_too_much : (told : refusals.Refusal) → reply ≡ Err told → later ≡ current → told ≡ refusal.Full → (txn : Txn) → current ≡ Some txn → StatesPastLimits db before.table txn text → Outcome db text current later before after past moves made reply
-  is_too_much_alone : (told : refusals.Refusal) → reply ≡ Err told → later ≡ current → told ≡ refusal.Full → (txn : Txn) (began : Machines) (greeted : List Notice) → current ≡ None → DoesBegin db before txn began greeted → StatesPastLimits db began.table txn text → Outcome db text current later before after past moves made reply
+-- at once; a transaction can't begin, since the numbers have run out; REFRAGMENT comes inside a transaction; or to state the statement would lead past the limits, in the open transaction or in the one that has begun for it alone.
+-- past, deeds: what had happened before it, and what has happened by it
+pub data Outcome (db : Database) (text : List ℕ) (current later : Option Txn) (before after : Machines) (past deeds : List (Deed (language db))) (reply : Result (List Notice) refusals.Refusal) : Type 0 where
+  has_begun : (txn : Txn) (heard : List Notice) → reply ≡ Ok heard → IsTextOf db.schemas text command.Begin → later ≡ Some txn → map notice_of heard ≡ (txn_name txn, Begun) ∷ [] → Outcome db text current later before after past deeds reply
+  has_committed : (txn : Txn) (heard : List Notice) → reply ≡ Ok heard → IsTextOf db.schemas text command.Commit → current ≡ Some txn → map notice_of heard ≡ (txn_name txn, Committed) ∷ [] → Outcome db text current later before after past deeds reply
+  has_rolled_back : (txn : Txn) (heard : List Notice) → reply ≡ Ok heard → IsTextOf db.schemas text command.Rollback → current ≡ Some txn → map notice_of heard ≡ (txn_name txn, RolledBack) ∷ [] → Outcome db text current later before after past deeds reply
+  has_answered : (txn : Txn) (statement : Statement) (heard : List Notice) (answer : AnswerNow) → reply ≡ Ok heard → IsTextOf db.schemas text (command.Run statement) → later ≡ current → map notice_of heard ≡ (txn_name txn, Answer answer) ∷ [] → Outcome db text current later before after past deeds reply
+  is_hindered : (heard : List Notice) → reply ≡ Ok heard → WereHindered db before after past deeds → Outcome db text current later before after past deeds reply
+  is_misplaced : (told : refusals.Refusal) → reply ≡ Err told → later ≡ current → IsMisplaced db.schemas text current told → Outcome db text current later before after past deeds reply
+  finds_no_number : (told : refusals.Refusal) → reply ≡ Err told → later ≡ current → told ≡ refusal.Full → current ≡ None → IsTextOf db.schemas text command.Begin ⊎ ((statement : Statement) × IsTextOf db.schemas text (command.Run statement)) → 2 ^ 63 ≤ suc before.table.number → Outcome db text current later before after past deeds reply
+  is_refragment_inside : (told : refusals.Refusal) → reply ≡ Err told → later ≡ current → (txn : Txn) → current ≡ Some txn → IsRefragment db.schemas text told → Outcome db text current later before after past deeds reply
+  is_too_much : (told : refusals.Refusal) → reply ≡ Err told → later ≡ current → told ≡ refusal.Full → (txn : Txn) → current ≡ Some txn → StatesPastLimits db before.table txn text → Outcome db text current later before after past deeds reply
+  is_too_much_alone : (told : refusals.Refusal) → reply ≡ Err told → later ≡ current → told ≡ refusal.Full → current ≡ None → (txn : Txn) → txn_name txn ≡ next_txn (desk_of db before.table) → (began : Machines) (done left : List (Deed (language db))) → deeds ≡ done ++ left → begins (world_of db before [] past) ≡ world_of db began [] (past ++ done) → StatesPastLimits db began.table txn text → Outcome db text current later before after past deeds reply
 
--- A command is executed, or refused, and that stops nothing: these are its moves. What was asked for and heard tells what has happened, so the serial law holds of
+-- A command is executed, or refused, and that stops nothing: these are its moves, and these deeds are done. What was asked for and heard tells what has happened, so the serial law holds of
 -- it: with all that was before, the committed transactions, one after another over the whole relations, give the answers that were heard and what the settled
 -- fragments rebuild. Where it is refused nothing is committed. A database that stood stands again, and the command comes to its outcome. entries, past: what was
 -- asked for and heard, and what had happened, before it
 pub record Executes (db : Database) (fits : Place → Content → Bool) (whole : Relations) (text : List ℕ) (current : Option Txn) (before : Machines) (later : Option Txn) (after : Machines) (past : List (Deed (language db))) (reply : Result (List Notice) refusals.Refusal) : Type 0 where
   pub moves : List Move
-  pub made : Made db moves before after
+  pub deeds : List (Deed (language db))
   pub command : IsCommand db.schemas text current later moves reply
-  pub served : IsServed db whole after (past ++ deeds_in db moves before after made)
-  pub tells : (entries : List Entry) → Tells db entries past → Tells db (entries ++ said_in moves) (past ++ deeds_in db moves before after made)
-  pub serial : (entries : List Entry) → Tells db entries past → IsSerialRun db whole after (entries ++ said_in moves)
-  pub uncommitted : (told : refusals.Refusal) → reply ≡ Err told → committed (past ++ deeds_in db moves before after made) ≡ committed past
-  pub stands : Stands db fits current before past → Stands db fits later after (past ++ deeds_in db moves before after made)
-  pub outcome : Stands db fits current before past → Outcome db text current later before after past moves made reply
-
--- so of an answer of the code, unless it stops the database
-abbrev pub UnlessStopped : {T : Type 0} → (T → List Notice) → (Result (List Notice) refusals.Refusal → Type 0) → Result T refusals.Refusal → Type 0
-UnlessStopped items P (Ok heard) = P (Ok (items heard))
-UnlessStopped items P (Err told) = (is_stop told ≡ true) ⊎ P (Err told)
+  pub served : IsListServed db whole after (past ++ deeds)
+  pub tells : (entries : List Entry) → Tells db entries past → Tells db (entries ++ flat_map said_of moves) (past ++ deeds)
+  pub serial : (entries : List Entry) → Tells db entries past → IsSerialRun db whole after (entries ++ flat_map said_of moves)
+  pub reasons : AllByRecursion (HasItsReason db whole past deeds) moves
+  pub uncommitted : (told : refusals.Refusal) → reply ≡ Err told → committed (past ++ deeds) ≡ committed past
+  pub stands : Stands db fits current before past → Stands db fits later after (past ++ deeds)
+  pub outcome : Stands db fits current before past → Outcome db text current later before after past deeds reply
 
 -- ---- the laws
 -- what happens to a client's database, move by move, and what tells of it

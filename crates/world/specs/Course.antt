@@ -1,5 +1,6 @@
 -- What a client asks for and what comes of it, call by call.
 use Rattle.std.specs.Prelude.{◌≡◌, ◌⊎◌, ⊤, ℕ, true, List, [], ◌∷◌, ◌++◌, Result, Ok, Err}
+use Rattle.std.specs.List.{flat_map}
 use Rattle.store.specs.declared.name.Txn.{Txn}
 use Rattle.protocol.specs.Desk.{Commit_call, Deed, Rollback}
 use Rattle.desk.specs.declared.refusal.Refusal.{Refusal}
@@ -43,9 +44,9 @@ said_of (Refragments text (Ok heard)) = said (call.Refragment text) heard ∷ []
 said_of (Refragments text (Err told)) = []
 said_of (Refuses asked told) = []
 
+-- of all
 abbrev pub said_in : List Move → List Entry
-said_in [] = []
-said_in (move ∷ moves) = said_of move ++ said_in moves
+said_in moves = flat_map said_of moves
 
 -- no commit is asked for and done by these moves
 abbrev pub CommitsNone : List Move → Type 0

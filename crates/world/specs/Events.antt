@@ -1,13 +1,11 @@
 -- The events of a world as the protocol's.
-use Rattle.std.specs.Prelude.{◌≡◌, ℕ, nat_eq, Bool, true, false, not, List, Option, Some, None, slice_get}
-use Rattle.std.specs.Cmp.Lexicographic.{pointwise}
-use Rattle.std.specs.List.{list_any}
+use Rattle.std.specs.Prelude.{◌≡◌, ℕ, Bool, true, false, not, List, slice_get}
+use Rattle.std.specs.Option.{option_map_or}
 use Rattle.meaning.specs.declared.statement.Refragment.{Refragment}
 use Rattle.meaning.specs.declared.statement.Statement.{Statement}
 use Rattle.meaning.specs.declared.statement.Statement.TheVariants as statements
 use Rattle.reader.specs.declared.command.Command.TheVariants as command
 use Rattle.reader.specs.Command.{IsTextOf}
-use Rattle.store.specs.declared.letter.Letter.{Letter}
 use Rattle.protocol.specs.Desk as protocol
 use Rattle.protocol.specs.Letters.{name_of, txn_name}
 use Rattle.protocol.specs.World as world
@@ -17,6 +15,7 @@ use Rattle.world.specs.declared.event.Entry.{Entry}
 use Rattle.world.specs.declared.event.Event as events
 use Rattle.world.specs.declared.event.Event.TheVariants as event
 use Rattle.world.specs.Posted.{letters_in}
+use Rattle.world.specs.Sites.{has_site}
 
 -- an event; a statement's text is that of the statement, and it is for the catalogue in force. n: the number of that; kept: whether the store did not refuse
 abbrev pub IsEvent : (db : Database) → ℕ → events.Event → Bool → world.Event (language db) → Type 0
@@ -32,20 +31,11 @@ IsEvent db n (event.SiteInquires site) kept e = e ≡ world.Site_inquires site
 IsEvent db n (event.SiteRestarts site whether) kept e = e ≡ world.Site_restarts site whether
 IsEvent db n (event.DeskRestarts whether) kept e = e ≡ world.Desk_restarts whether
 
--- whether no site has the name
-abbrev pub is_nowhere : List (List ℕ) → List ℕ → Bool
-is_nowhere sites name = not (list_any (λ site. pointwise nat_eq site name) sites)
-
--- whether there is no such letter, or no such site of it
-abbrev pub is_none_of : List (List ℕ) → Option Letter → Bool
-is_none_of sites None = true
-is_none_of sites (Some letter) = is_nowhere sites letter.site
-
 -- whether an event is of a letter that wasn't sent, or of a site that is none of these
 abbrev pub is_unsent : List (List ℕ) → List Entry → events.Event → Bool
 is_unsent sites entries (event.Call asked) = false
-is_unsent sites entries (event.Deliver number whether) = is_none_of sites (slice_get (letters_in entries) number)
-is_unsent sites entries (event.SiteGivesUp site ticket) = is_nowhere sites site
-is_unsent sites entries (event.SiteInquires site) = is_nowhere sites site
-is_unsent sites entries (event.SiteRestarts site whether) = is_nowhere sites site
+is_unsent sites entries (event.Deliver number whether) = option_map_or (λ letter. not (has_site sites letter.site)) (slice_get (letters_in entries) number) true
+is_unsent sites entries (event.SiteGivesUp site ticket) = not (has_site sites site)
+is_unsent sites entries (event.SiteInquires site) = not (has_site sites site)
+is_unsent sites entries (event.SiteRestarts site whether) = not (has_site sites site)
 is_unsent sites entries (event.DeskRestarts whether) = false

@@ -15,13 +15,13 @@ use Rattle.desk.specs.State.{notice_of}
 use Rattle.world.specs.Mailbox.{WasHindered}
 use Rattle.world.specs.Machines.{Machines, world_of}
 use Rattle.world.specs.Client.{DoesAsk, DoesBegin, DoesState, IsServed}
-use Rattle.world.specs.Smoothly.{IsReady}
+use Rattle.protocol.specs.WithoutRefusal.{Ready}
 
 module _ (db : Database) (fits : Place → Content → Bool) where
   -- where a client's database stands between commands: all is quiet, or its open transaction is ready
   abbrev pub Stands : Option Txn → Machines → List (Deed (language db)) → Type 0
   Stands None machines past = IsQuiet (world_of db machines [] past)
-  Stands (Some txn) machines past = IsReady db fits (txn_name txn) machines past
+  Stands (Some txn) machines past = Ready (language db) machines.table.version fits (txn_name txn) (world_of db machines [] past)
 
   -- it is served, and stands so, once more has been done
   pub record StandsOn (whole : Relations) (current : Option Txn) (machines : Machines) (past : List (Deed (language db))) : Type 0 where

@@ -59,8 +59,8 @@ pub record LeavesMachines {D S : Type 0} (desk_is_clean : D → Type 0) (site_is
 pub record LeavesDatabase {D S : Type 0} (desk_is_clean : D → Type 0) (site_is_clean : S → Type 0) (desk_is_sound : D → Type 0) (site_is_sound : S → Type 0) (desk_refused : D → ℕ) (site_refused : S → ℕ) (old new : code.Machines D S) : Type 0 where
   pub clean : OfStores desk_is_clean site_is_clean new → OfStores desk_is_clean site_is_clean old
   pub sound : OfStores desk_is_clean site_is_clean new → OfStores desk_is_sound site_is_sound old → OfStores desk_is_sound site_is_sound new
-  pub counts : AllZip (λ (count now : ℕ). count ≤ now) (counts desk_refused site_refused old) (counts desk_refused site_refused new)
-  pub catalogs : KeepsCatalogs (λ machines. machines.desk.later.items) old new
+  pub counts : AllZip (λ (count now : ℕ). count ≤ now) (desk_refused old.desk.store ∷ map (λ site. site_refused site.store) old.sites.items) (desk_refused new.desk.store ∷ map (λ site. site_refused site.store) new.sites.items)
+  pub catalogs : EndsIn (old.desk.catalog ∷ old.desk.later.items) (new.desk.catalog ∷ new.desk.later.items)
 
 -- so of the stores of sites
 pub record LeavesSites {S : Type 0} (is_clean is_sound : S → Type 0) (refused : S → ℕ) (old new : List (Site S)) : Type 0 where
@@ -155,10 +155,6 @@ pub record RunsTo {D S T : Type 0} (IsClean IsSound : code.Machines D S → Type
   pub comes : ComesTo IsClean IsSound view old new result (λ db done moves. IfOk done (λ x. kind db x moves))
   pub own : IfErr result (λ told. is_stop told ≡ true)
 
--- no catalogue comes later, or the first that does is no next one by the relation of a REFRAGMENT of this text
-abbrev pub NoneIsNext : {D S : Type 0} → code.Machines D S → List ℕ → Type 0
-NoneIsNext machines text = (machines.desk.later.items ≡ []) ⊎ FindsNoNext (catalogue_of machines.desk.catalog) (schemas_of (catalogue_of machines.desk.catalog)) (first_in machines.desk.later.items) text
-
--- a REFRAGMENT of this text is refused by NoNext only where that is so
+-- a REFRAGMENT of this text is refused by NoNext only where no catalogue comes later, or the first that does is no next one by its relation
 abbrev pub FindsNone : {D S T : Type 0} → (code.Machines D S → Type 0) → (code.Machines D S → Type 0) → (code.Machines D S → Machines) → code.Machines D S → code.Machines D S → Result T Refusal → List ℕ → Type 0
-FindsNone clean sound view old new result text = OverLists clean sound view old new (λ db whole past. result ≡ Err NoNext → NoneIsNext old text)
+FindsNone clean sound view old new result text = OverLists clean sound view old new (λ db whole past. result ≡ Err NoNext → (old.desk.later.items ≡ []) ⊎ FindsNoNext (catalogue_of old.desk.catalog) (schemas_of (catalogue_of old.desk.catalog)) (first_in old.desk.later.items) text)

@@ -33,6 +33,7 @@ pub mod Smoothly
 pub mod Settling
 pub mod Executed
 pub mod Course
+pub mod Hindered
 pub mod ListServed
 pub mod Commands
 pub mod Batch

@@ -1,6 +1,6 @@
 -- One client's database over a list of catalogues, of which another one may come into force: what it has been through, and what its calls do.
 use Rattle.std.specs.Prelude.{◌≡◌, ◌⊎◌, ⊤, ℕ, true, List, [], ◌++◌, map, Ok, Err}
-use Rattle.std.specs.List.{AllByRecursion, filter_map}
+use Rattle.std.specs.List.{AllByRecursion, filter_map, flat_map}
 use Rattle.meaning.specs.Whole.{Relations}
 use Rattle.store.specs.declared.letter.Letter as letters
 use Rattle.protocol.specs.Accepted.{stated_of}
@@ -17,7 +17,7 @@ use Rattle.desk.specs.Transition.{told}
 use Rattle.world.specs.declared.event.Call as calls
 use Rattle.world.specs.declared.event.Call.TheVariants as call
 use Rattle.world.specs.declared.event.Entry.{Entry}
-use Rattle.world.specs.Course.{Begins, Commits, CommitsNone, Move, Refragments, Refuses, Rolls_back, States, said_in}
+use Rattle.world.specs.Course.{Begins, Commits, CommitsNone, Move, Refragments, Refuses, Rolls_back, States, said_of}
 use Rattle.world.specs.Listed.{FitsList}
 use Rattle.world.specs.Machines.{Machines, world_of}
 use Rattle.world.specs.Refused.{IsRefused}
@@ -72,7 +72,7 @@ pub record ListMade (db : Database) (whole : Relations) (machines : Machines) (p
   pub moves : List Move
   pub deeds : List (Deed (language db))
   pub served : IsListServed db whole machines (past ++ deeds)
-  pub tells : (entries : List Entry) → Tells db entries past → Tells db (entries ++ said_in moves) (past ++ deeds)
+  pub tells : (entries : List Entry) → Tells db entries past → Tells db (entries ++ flat_map said_of moves) (past ++ deeds)
   pub reasons : AllByRecursion (HasItsReason db whole past deeds) moves
   pub uncommitted : CommitsNone moves → committed (past ++ deeds) ≡ committed past
   pub is : kind moves

@@ -1,6 +1,5 @@
 -- The machines of a database together, as the protocol's world.
-use Rattle.std.specs.Prelude.{◌≡◌, ⊤, ℕ, nat_eq, Bool, true, false, List, [], ◌++◌, map, None}
-use Rattle.std.specs.Cmp.Lexicographic.{pointwise}
+use Rattle.std.specs.Prelude.{◌≡◌, ⊤, ℕ, Bool, true, false, List, [], ◌++◌, map, None}
 use Rattle.std.specs.List.{AllByRecursion, filter_map, list_any}
 use Rattle.std.specs.Ordering.{is_eq}
 use Rattle.terms.specs.declared.leaf.Leaf.{Leaf}
@@ -125,7 +124,3 @@ pub record Came (db : Database) (letter : letters.Letter) (kept : Bool) (before 
   pub choice : Choice (language db)
   pub within : passes (world_of db before [] []) kept choice (sent db letter) ≡ true
   pub leads : Leads db (λ w. comes w kept choice (sent db letter)) before after out notices
-
--- a letter is to or from a site of the database
-abbrev pub is_of_site : Database → letters.Letter → Bool
-is_of_site db letter = list_any (λ site. pointwise nat_eq site letter.site) db.sites

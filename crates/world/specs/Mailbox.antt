@@ -96,3 +96,4 @@ Fails db before after = (after ≡ before) ⊎ ((ask : Ask (language db)) × Ask
 pub record IsStill (db : Database) (before after : Machines) : Type 0 where
   pub fit : AreFit db after
   pub same : world_of db after [] [] ≡ world_of db before [] []
+  pub counts : NoFewer before.refused after.refused

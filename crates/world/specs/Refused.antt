@@ -37,14 +37,10 @@ use Rattle.world.specs.Sites.{Seat, seat_of}
 use Rattle.world.specs.Stopping.{StopsFor}
 use Rattle.world.specs.Taking.{stop_of}
 
--- a transaction gives a relation another split
-abbrev pub SomebodyMoves : Database → VolatileState → Type 0
-SomebodyMoves db table = (t : Name) × (is_moving ((desk_of db table).txn t) ≡ true)
-
 -- want of memory aside: as the protocol refuses it of this coordinator, the limits on beginnings among that, or a statement's text is read as no statement's, or leads past a limit; a transaction gives a relation
 -- another split, so that no other begins, and it states nothing more; a REFRAGMENT isn't alone, or no catalogue comes next by its relation. later: the catalogues that come after the one in force
 abbrev pub IsRefused : (db : Database) → List (List (List ℕ) × List SplitRelation) → VolatileState → calls.Call → refusals.Refusal → Type 0
-IsRefused db later table call.Begin told = ((told ≡ Full) × (is_desk_within (desk_began (desk_of db table)) ≡ false)) ⊎ ((told ≡ refusal_of.NotAlone) × SomebodyMoves db table)
+IsRefused db later table call.Begin told = ((told ≡ Full) × (is_desk_within (desk_began (desk_of db table)) ≡ false)) ⊎ ((told ≡ refusal_of.NotAlone) × ((t : Name) × (is_moving ((desk_of db table).txn t) ≡ true)))
 IsRefused db later table (call.State txn text) told = ((told ≡ refusal_of.Busy) × (is_moving (txn_in db table txn) ≡ true)) ⊎ ((statement : Statement) → (option_map refused_as (refusal (State (table.version, statement)) (txn_in db table txn)) ≡ Some told) ⊎
     ((refusal (State (table.version, statement)) (txn_in db table txn) ≡ None) × (IsNoStatement db.schemas text told ⊎ ((told ≡ Full) × StatesPastLimits db table txn text))))
 IsRefused db later table (call.Commit txn) told = option_map refused_as (refusal Commit_call (txn_in db table txn)) ≡ Some told

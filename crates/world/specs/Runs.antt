@@ -10,19 +10,21 @@ use Rattle.meaning.specs.Whole.{Relations}
 use Rattle.protocol.specs.Accepted.{Holds, IsAccepted}
 use Rattle.protocol.specs.Desk.{Choice, Deed}
 use Rattle.protocol.specs.Catalogues.{serial_answers_then, serial_then}
+use Rattle.protocol.specs.Home.{AreHomed}
 use Rattle.protocol.specs.Local.{local}
 use Rattle.protocol.specs.Serial.{AllExplained, IsOpening, settled}
 use Rattle.protocol.specs.World as world
 use Rattle.protocol.specs.World.{Event, World, happens, run}
 use Rattle.desk.specs.declared.reply.Out.{Out}
-use Rattle.desk.specs.Database.{Database, language, sent, statements}
+use Rattle.desk.specs.Database.{Database, IsPlace, language, sent, statements}
+use Rattle.desk.specs.Database.{statements as statements_of}
 use Rattle.desk.specs.Place.{Place}
 use Rattle.world.specs.declared.event.Entry.{Entry}
 use Rattle.world.specs.declared.event.Event as events
 use Rattle.world.specs.declared.event.Event.TheVariants as event
 use Rattle.world.specs.Events.{IsEvent}
 use Rattle.world.specs.Listed.{FitsList}
-use Rattle.world.specs.Machines.{AreOfPlaces, Machines, world_of}
+use Rattle.world.specs.Machines.{Machines, world_of}
 use Rattle.world.specs.Posted.{letters_in}
 use Rattle.world.specs.Replies.{Tells, answers_to, committed_in, texts_of}
 
@@ -42,7 +44,7 @@ pub record IsRun (db : Database) (whole : Relations) (machines : Machines) (entr
   pub events : List (Event (language db))
   pub are : AreEvents db opening entries events
   pub is : run events opening ≡ world_of db machines (map (sent db) (letters_in entries)) past
-  pub placed : AreOfPlaces db (letters_in entries)
+  pub placed : AreHomed (language db) (IsPlace db) (map (sent db) (letters_in entries))
   pub explained : AllExplained past
   pub tells : Tells db entries past
   pub fit : FitsList db machines
@@ -103,8 +105,8 @@ answers_after db txns whole = serial_answers_then local (statements db) txns who
 pub record IsSerialRun (db : Database) (whole : Relations) (machines : Machines) (entries : List Entry) : Type 0 where
   pub statements : Txn → List Statement
   pub spelled : (txn : Txn) → AllZip (λ (text : List ℕ) (statement : Statement). IsTextOf db.schemas text (command.Run statement)) (texts_of entries txn) (statements txn)
-  pub answers : map (answers_to entries) (committed_in entries) ≡ answers_after db (map statements (committed_in entries)) whole
-  pub rebuilt : (place : Place) → settled (world_of db machines [] []) place ≡ db.content machines.table.version place (relations_after db (map statements (committed_in entries)) whole)
+  pub answers : map (answers_to entries) (committed_in entries) ≡ serial_answers_then local (statements_of db) (map statements (committed_in entries)) whole
+  pub rebuilt : (place : Place) → settled (world_of db machines [] []) place ≡ db.content machines.table.version place (serial_then local (statements_of db) (map statements (committed_in entries)) whole)
 
 -- the serial law of the machines at hand: each run of them is serial
 abbrev pub RunsAreSerial : Database → Type 0

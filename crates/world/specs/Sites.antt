@@ -1,9 +1,15 @@
 -- The sites of a database, each under its name, as the protocol's world has them.
 pub use Rattle.site.specs.Seat.{IsSeated, Seat, is_called, nobody, seat_from, state_at}
-use Rattle.std.specs.Prelude.{◌≡◌, ℕ, List, [], ◌∷◌, Option, Some, None, if◌then◌else◌}
+use Rattle.std.specs.Prelude.{◌≡◌, ℕ, nat_eq, Bool, List, [], ◌∷◌, Option, Some, None, if◌then◌else◌}
+use Rattle.std.specs.Cmp.Lexicographic.{pointwise}
+use Rattle.std.specs.List.{list_any}
 use Rattle.protocol.specs.Catalogues.{Catalogues, listed}
 use Rattle.protocol.specs.Local.{local}
 use Rattle.protocol.specs.Site.{SiteState}
+
+-- whether one of these sites has the name
+abbrev pub has_site : List (List ℕ) → List ℕ → Bool
+has_site sites name = list_any (λ site. pointwise nat_eq site name) sites
 
 -- the first site of a name, if there is one
 abbrev pub seat_of : List ℕ → List Seat → Option Seat

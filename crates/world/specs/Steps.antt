@@ -1,6 +1,5 @@
 -- One event of a world: what a step answers, and what stands after it.
-use Rattle.std.specs.Prelude.{◌≡◌, ◌⊎◌, ◌++◌, ◌∷◌, [], ℕ, Bool, true, false, List, Result, Ok, Err, IfOk, IfErr, OnOk, OnErr}
-use Rattle.std.specs.Borrow.{Bor}
+use Rattle.std.specs.Prelude.{◌≡◌, ◌⊎◌, ◌++◌, ◌∷◌, [], ℕ, Bool, true, false, List, Result, Err, IfOk, IfErr, OnOk, OnErr}
 use Rattle.meaning.specs.Whole.{Relations}
 use Rattle.protocol.specs.Desk.{Deed}
 use Rattle.desk.specs.declared.refusal.Refusal.TheVariants as refusals
@@ -20,11 +19,6 @@ use Rattle.world.specs.Listed.{FitsList, IsListed, StandsIn}
 use Rattle.world.specs.Machines.{Machines}
 use Rattle.world.specs.Refused.{IsRefusedFor}
 use Rattle.world.specs.Runs.{GoesOn, IsRun, IsSpared}
-
--- the entry or the fault that is answered
-abbrev pub answer_of : Result (Bor Entry) (Bor faults.Fault) → Result Entry faults.Fault
-answer_of (Ok entry) = Ok entry.now
-answer_of (Err told) = Err told.now
 
 -- IsClean, IsSound: that no store of the machines failed on its own, and that each is sound; hold: what the machines hold; count: so, with how often the
 -- media have refused. An event that happens has an entry, the last one, which is answered. Over each list of catalogues in which the machines stand, whichever comes into force, it is

@@ -22,7 +22,8 @@ ghost use Rattle.world.specs.declared.event.Entry.{Entry as EntryNow};
 ghost use Rattle.world.specs.declared.event.Event.TheVariants as events;
 ghost use Rattle.world.specs.declared.event.Event.{Event as EventNow};
 ghost use Rattle.world.specs.declared.fault.Fault.TheVariants as faults;
-ghost use Rattle.world.specs.Events.{is_nowhere, is_unsent};
+ghost use Rattle.world.specs.Events.{is_unsent};
+ghost use Rattle.world.specs.Sites.{has_site};
 ghost use Rattle.world.specs.EventApplied.{IsAtSite, may_call, may_call_at, told_by_desk};
 ghost use Rattle.world.specs.Refused.{IsRefused, IsRefusedFor};
 ghost use Rattle.world.specs.Runs.{IsRun, IsSpared, Spares, StepsOn, entry_of};
@@ -82,14 +83,16 @@ impl<D: DeskStore, S: SiteStore> Machines<D, S> {
     ghost use Rattle.world.specs.Taking.{CameUnless, ListCameUnless, stop_of};
     ghost use Rattle.site.specs.Refusals.{AsksToKeep};
     ghost use Rattle.world.specs.EventApplied.{may_call_at};
-    ghost use Rattle.world.specs.Frame.{CallsNoStore, LeavesDatabase, LeavesMachines, NoneIsNext, StaysInForce, StaysOnErr, StaysOrFollows};
+    ghost use Rattle.world.specs.Frame.{CallsNoStore, LeavesDatabase, LeavesMachines, StaysInForce, StaysOnErr, StaysOrFollows};
     ghost use Rattle.world.specs.Listed.{FitsList, ListAsked, ListBegun, ListCame, ListLeads, ListMoved, ListStated, StandsIn};
     ghost use Rattle.world.specs.Contents.{OfStores, held};
-    ghost use Rattle.world.specs.Machines.{AreFit, Asked, Came, Leads, Stated, happens_at, is_for_site, is_of_site, is_order, world_of};
+    ghost use Rattle.world.specs.Machines.{AreFit, Asked, Came, Leads, Stated, happens_at, is_for_site, is_order, world_of};
+    ghost use Rattle.catalog.specs.FragmentLeaf.{schemas_of};
     ghost use Rattle.catalog.specs.Relation.{catalogue_of};
-    ghost use Rattle.desk.specs.OfCatalogue.{InForce, IsOfCatalogue};
+    ghost use Rattle.desk.specs.OfCatalogue.{InForce, IsOfCatalogue, first_in};
+    ghost use Rattle.desk.specs.Refragmented.{FindsNoNext};
     ghost use Rattle.world.specs.Seated.{place_of};
-    ghost use Rattle.world.specs.Sites.{Seat, seat_of};
+    ghost use Rattle.world.specs.Sites.{Seat, has_site, seat_of};
 
     /// A transaction begins.
     pub(crate) fn begin(&mut self) -> Result<Out, Refusal>
@@ -196,7 +199,7 @@ impl<D: DeskStore, S: SiteStore> Machines<D, S> {
     pub(crate) fn refragment(&mut self, text: &str) -> Result<Out, Refusal>
         ensures leaves { LeavesMachines D.is_clean S.is_clean D.is_sound S.is_sound D.refused S.refused self.old self.new }
         ensures next { OnOk result (self.old.desk.later.items ≢ []) }
-        ensures finds_none { result ≡ Err refusals.NoNext → NoneIsNext self.old text.now }
+        ensures finds_none { result ≡ Err refusals.NoNext → (self.old.desk.later.items ≡ []) ⊎ FindsNoNext (catalogue_of self.old.desk.catalog) (schemas_of (catalogue_of self.old.desk.catalog)) (first_in self.old.desk.later.items) text.now }
         ensures told { (db : Database) → IsOfCatalogue db → InForce db self.old.desk.volatile.version self.old.desk.catalog → Fits db (D.kept self.old.desk.store) (volatile_of self.old.desk.volatile)
             → IfErr result (λ told. (told ≡ refusals.Memory) ⊎ IsRefused db self.old.desk.later.items (volatile_of self.old.desk.volatile) (calls.Refragment text.now) told) }
         ensures lists { (db : Database) → IsOfCatalogue db → StandsIn db self.old.desk → FitsList db (held D.kept S.kept self.old)
@@ -212,11 +215,11 @@ impl<D: DeskStore, S: SiteStore> Machines<D, S> {
     #[inline(always)]
     fn reply(&mut self, letter: &Letter, kept: bool) -> Result<Out, Refusal>
         ensures leaves { LeavesDatabase D.is_clean S.is_clean D.is_sound S.is_sound D.refused S.refused self.old self.new }
-        ensures ok { (db : Database) → IsOfCatalogue db → InForce db self.old.desk.volatile.version self.old.desk.catalog → OfStores D.is_clean S.is_clean self.new → OfStores D.is_sound S.is_sound self.old → AreFit db (held D.kept S.kept self.old) → is_order letter.now.body ≡ false → is_of_site db letter.now ≡ true
+        ensures ok { (db : Database) → IsOfCatalogue db → InForce db self.old.desk.volatile.version self.old.desk.catalog → OfStores D.is_clean S.is_clean self.new → OfStores D.is_sound S.is_sound self.old → AreFit db (held D.kept S.kept self.old) → is_order letter.now.body ≡ false → has_site db.sites letter.now.site ≡ true
             → IfOk result (λ out. Came db letter.now out.kept (held D.kept S.kept self.old) (held D.kept S.kept self.new) out.letters out.replies) }
-        ensures told { (db : Database) → IsOfCatalogue db → StandsIn db self.old.desk → FitsList db (held D.kept S.kept self.old) → is_order letter.now.body ≡ false → is_of_site db letter.now ≡ true
+        ensures told { (db : Database) → IsOfCatalogue db → StandsIn db self.old.desk → FitsList db (held D.kept S.kept self.old) → is_order letter.now.body ≡ false → has_site db.sites letter.now.site ≡ true
             → IfErr result (λ told. Tells db (held D.kept S.kept self.old) letter.now (faults.Desk told)) }
-        ensures lists { (db : Database) → IsOfCatalogue db → StandsIn db self.old.desk → OfStores D.is_clean S.is_clean self.new → OfStores D.is_sound S.is_sound self.old → FitsList db (held D.kept S.kept self.old) → is_order letter.now.body ≡ false → is_of_site db letter.now ≡ true
+        ensures lists { (db : Database) → IsOfCatalogue db → StandsIn db self.old.desk → OfStores D.is_clean S.is_clean self.new → OfStores D.is_sound S.is_sound self.old → FitsList db (held D.kept S.kept self.old) → is_order letter.now.body ≡ false → has_site db.sites letter.now.site ≡ true
             → IfOk result (λ out. ListCame db letter.now out.kept (held D.kept S.kept self.old) (held D.kept S.kept self.new) out.letters out.replies × StandsIn db self.new.desk) }
         ensures follows { StaysOrFollows self.old self.new }
         ensures stays { OnErr result (StaysInForce self.old self.new) }
@@ -232,19 +235,19 @@ impl<D: DeskStore, S: SiteStore> Machines<D, S> {
     #[inline(always)]
     pub(crate) fn deliver(&mut self, letter: Letter, kept: bool) -> Result<Out, Fault>
         ensures leaves { LeavesDatabase D.is_clean S.is_clean D.is_sound S.is_sound D.refused S.refused self.old self.new }
-        ensures ok { (db : Database) → IsOfCatalogue db → InForce db self.old.desk.volatile.version self.old.desk.catalog → OfStores D.is_clean S.is_clean self.new → OfStores D.is_sound S.is_sound self.old → AreFit db (held D.kept S.kept self.old) → is_of_site db letter ≡ true
+        ensures ok { (db : Database) → IsOfCatalogue db → InForce db self.old.desk.volatile.version self.old.desk.catalog → OfStores D.is_clean S.is_clean self.new → OfStores D.is_sound S.is_sound self.old → AreFit db (held D.kept S.kept self.old) → has_site db.sites letter.site ≡ true
             → IfOk result (λ out. Came db letter out.kept (held D.kept S.kept self.old) (held D.kept S.kept self.new) out.letters out.replies) }
-        ensures lists { (db : Database) → IsOfCatalogue db → StandsIn db self.old.desk → OfStores D.is_clean S.is_clean self.new → OfStores D.is_sound S.is_sound self.old → FitsList db (held D.kept S.kept self.old) → is_of_site db letter ≡ true
+        ensures lists { (db : Database) → IsOfCatalogue db → StandsIn db self.old.desk → OfStores D.is_clean S.is_clean self.new → OfStores D.is_sound S.is_sound self.old → FitsList db (held D.kept S.kept self.old) → has_site db.sites letter.site ≡ true
             → IfOk result (λ out. ListCame db letter out.kept (held D.kept S.kept self.old) (held D.kept S.kept self.new) out.letters out.replies × StandsIn db self.new.desk) }
         ensures follows { StaysOrFollows self.old self.new }
         ensures stays { OnErr result (StaysInForce self.old self.new) }
-        ensures keeps { (db : Database) → IsOfCatalogue db → InForce db self.old.desk.volatile.version self.old.desk.catalog → OfStores D.is_clean S.is_clean self.new → OfStores D.is_sound S.is_sound self.old → FitsList db (held D.kept S.kept self.old) → is_of_site db letter ≡ true
+        ensures keeps { (db : Database) → IsOfCatalogue db → InForce db self.old.desk.volatile.version self.old.desk.catalog → OfStores D.is_clean S.is_clean self.new → OfStores D.is_sound S.is_sound self.old → FitsList db (held D.kept S.kept self.old) → has_site db.sites letter.site ≡ true
             → IfOk result (λ out. CallKept out.kept (sent db letter).body) }
-        ensures told { (db : Database) → IsOfCatalogue db → StandsIn db self.old.desk → FitsList db (held D.kept S.kept self.old) → is_of_site db letter ≡ true
+        ensures told { (db : Database) → IsOfCatalogue db → StandsIn db self.old.desk → FitsList db (held D.kept S.kept self.old) → has_site db.sites letter.site ≡ true
             → IfErr result (Tells db (held D.kept S.kept self.old) letter) }
-        ensures spared { (db : Database) → IsOfCatalogue db → InForce db self.old.desk.volatile.version self.old.desk.catalog → OfStores D.is_clean S.is_clean self.new → OfStores D.is_sound S.is_sound self.old → AreFit db (held D.kept S.kept self.old) → is_of_site db letter ≡ true
+        ensures spared { (db : Database) → IsOfCatalogue db → InForce db self.old.desk.volatile.version self.old.desk.catalog → OfStores D.is_clean S.is_clean self.new → OfStores D.is_sound S.is_sound self.old → AreFit db (held D.kept S.kept self.old) → has_site db.sites letter.site ≡ true
             → IfOk result (λ out. CameUnless ((kept ≡ false) ⊎ HaveRefused (counts D.refused S.refused self.old) (counts D.refused S.refused self.new)) db letter (held D.kept S.kept self.old) (held D.kept S.kept self.new) out.letters out.replies) }
-        ensures spared_lists { (db : Database) → IsOfCatalogue db → StandsIn db self.old.desk → OfStores D.is_clean S.is_clean self.new → OfStores D.is_sound S.is_sound self.old → FitsList db (held D.kept S.kept self.old) → is_of_site db letter ≡ true
+        ensures spared_lists { (db : Database) → IsOfCatalogue db → StandsIn db self.old.desk → OfStores D.is_clean S.is_clean self.new → OfStores D.is_sound S.is_sound self.old → FitsList db (held D.kept S.kept self.old) → has_site db.sites letter.site ≡ true
             → IfOk result (λ out. ListCameUnless ((kept ≡ false) ⊎ HaveRefused (counts D.refused S.refused self.old) (counts D.refused S.refused self.new)) db letter (held D.kept S.kept self.old) (held D.kept S.kept self.new) out.letters out.replies) }
         ensures sent { result ≢ Err faults.Unsent }
         ensures unkept { is_order letter.body ≡ false → IfOk result (λ out. out.kept ≡ false → (kept ≡ false) ⊎ HaveRefused (counts D.refused S.refused self.old) (counts D.refused S.refused self.new)) }
@@ -418,8 +421,8 @@ fn apply_event_at<D: DeskStore, S: SiteStore>(
     ensures ok { (db : Database) (whole : Relations) (entries : List EntryNow) (at : EventNow) (past : List (Deed (language db))) → IsOfCatalogue db → StandsIn db machines.old.desk → OfStores D.is_clean S.is_clean machines.new → OfStores D.is_sound S.is_sound machines.old
         → IsAtSite what kept at → IsRun db whole (held D.kept S.kept machines.old) entries past → IfOk result (λ out. StepsOn db whole (held D.kept S.kept machines.old) (held D.kept S.kept machines.new) entries (entries ++ entry_of at out ∷ []) past × StandsIn db machines.new.desk) }
     ensures desk { machines.new.desk ≡ machines.old.desk }
-    ensures unsent { result ≡ Err faults.Unsent → is_nowhere machines.old.desk.catalog.0 (place_of what) ≡ true }
-    ensures nowhere { is_nowhere machines.old.desk.catalog.0 (place_of what) ≡ true → result ≡ Err faults.Unsent }
+    ensures unsent { result ≡ Err faults.Unsent → not (has_site machines.old.desk.catalog.0 (place_of what)) ≡ true }
+    ensures nowhere { not (has_site machines.old.desk.catalog.0 (place_of what)) ≡ true → result ≡ Err faults.Unsent }
     ensures refused { (db : Database) (entries : List EntryNow) (at : EventNow) → IsOfCatalogue db → InForce db machines.old.desk.volatile.version machines.old.desk.catalog → FitsList db (held D.kept S.kept machines.old) → IsAtSite what kept at
         → IfErr result (IsRefusedFor (OfStores D.is_clean S.is_clean machines.new × OfStores D.is_sound S.is_sound machines.old) db (counted D.kept S.kept D.refused S.refused machines.old) (counted D.kept S.kept D.refused S.refused machines.new) entries at) }
     ensures uncalled { may_call_at what kept ≡ false → CallsNoStore machines.old machines.new }

@@ -1,14 +1,18 @@
 //! A relation gets the split that the next catalogue has for it, in a transaction of its own.
 
-ghost use Rattle.std.specs.Prelude.{◌≡◌, ◌≢◌, ◌∷◌, [], Err, IfOk, Some, slice_get};
+ghost use Rattle.std.specs.Prelude.{◌≡◌, ◌≢◌, ◌⊎◌, ◌∷◌, [], Err, IfOk, Some, slice_get};
 ghost use Rattle.std.specs.Option.{option_map};
+ghost use Rattle.catalog.specs.FragmentLeaf.{schemas_of};
+ghost use Rattle.catalog.specs.Relation.{catalogue_of};
+ghost use Rattle.desk.specs.OfCatalogue.{first_in};
+ghost use Rattle.desk.specs.Refragmented.{FindsNoNext};
 ghost use Rattle.store.specs.declared.name.Txn.{Txn as TxnNow};
 ghost use Rattle.world.specs.Commands.{IsDecided, IsRefragmented, heard_in};
 ghost use Rattle.world.specs.Course.{Refragments};
 ghost use Rattle.desk.specs.declared.refusal.Refusal.TheVariants as refusals;
 ghost use Rattle.world.specs.Contents.{OfStores, counted};
 ghost use Rattle.world.specs.Counted.{counts};
-ghost use Rattle.world.specs.Frame.{Blames, FindsNone, LeavesDatabase, ListMakes, NoneIsNext, OverLists};
+ghost use Rattle.world.specs.Frame.{Blames, FindsNone, LeavesDatabase, ListMakes, OverLists};
 
 use crate::autocommit::decide;
 use crate::client::named;
@@ -28,7 +32,7 @@ fn announce<D: DeskStore, S: SiteStore>(
     ensures blames { Blames (OfStores D.is_clean S.is_clean) (OfStores D.is_sound S.is_sound) (counts D.refused S.refused) machines.old machines.new result }
     ensures lists { OverLists (OfStores D.is_clean S.is_clean) (OfStores D.is_sound S.is_sound) (counted D.kept S.kept D.refused S.refused) machines.old machines.new
         (λ db whole past. ListMakes db whole (counted D.kept S.kept D.refused S.refused machines.new) past result (λ done moves. (moves ≡ Refragments text.now (heard_in (λ heard. heard.items) done) ∷ []) × IfOk done (λ heard. heard.items ≢ []))) }
-    ensures finds_none { result ≡ Err refusals.NoNext → NoneIsNext machines.old text.now }
+    ensures finds_none { result ≡ Err refusals.NoNext → (machines.old.desk.later.items ≡ []) ⊎ FindsNoNext (catalogue_of machines.old.desk.catalog) (schemas_of (catalogue_of machines.old.desk.catalog)) (first_in machines.old.desk.later.items) text.now }
 {
     match machines.refragment(text) {
         Ok(out) => deliver_all(machines, out),

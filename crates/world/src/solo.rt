@@ -1,6 +1,6 @@
 //! A database for one client at a time.
 
-ghost use Rattle.std.specs.Prelude.{◌≡◌, ◌≢◌, ◌⊎◌, ◌∷◌, ℕ, true, List, [], None, Some, Err, IfErr, IfOk, OnErr, OnOk, ◌++◌, is_some, if◌then◌else◌, length, map};
+ghost use Rattle.std.specs.Prelude.{◌≡◌, ◌≢◌, ◌⊎◌, ◌∷◌, ℕ, false, true, List, [], None, Some, Err, IfErr, IfOk, OnErr, OnOk, ◌++◌, is_some, if◌then◌else◌, length, map};
 ghost use Rattle.std.specs.Option.{option_map};
 ghost use Rattle.meaning.specs.declared.statement.Statement.{Statement as StatementNow};
 ghost use Rattle.meaning.specs.Statement.{IsStatementOf, is_refragment};
@@ -11,12 +11,12 @@ ghost use Rattle.catalog.specs.Relation.{catalogue_of};
 ghost use Rattle.reader.specs.declared.command.Command.TheVariants.{Begin, Commit, Rollback, Run};
 ghost use Rattle.reader.specs.declared.command.Command.{Command as CommandNow};
 ghost use Rattle.store.specs.declared.name.Txn.{Txn as TxnNow};
-ghost use Rattle.world.specs.Commands.{Executes, IsCommand, IsNoCommand, IsUnreadable, UnlessStopped, heard_in};
+ghost use Rattle.world.specs.Commands.{Executes, IsCommand, IsNoCommand, IsUnreadable, heard_in};
 ghost use Rattle.reader.specs.Command.{IsCommandOf, IsTextOf};
 ghost use Rattle.protocol.specs.Desk.{Deed};
 ghost use Rattle.store.specs.PlainDesk.{kept_of as desk_kept};
 ghost use Rattle.store.specs.PlainSite.{IsSound, kept_of};
-ghost use Rattle.desk.specs.Database.{Database, language};
+ghost use Rattle.desk.specs.Database.{language};
 ghost use Rattle.desk.specs.declared.refusal.Refusal.{Refusal as RefusalNow};
 ghost use Rattle.desk.specs.declared.refusal.Refusal.TheVariants as refusals;
 ghost use Rattle.world.specs.declared.fault.Fault.TheVariants as faults;
@@ -24,10 +24,10 @@ ghost use Rattle.desk.specs.CatalogueDatabase.{database, databases, fits};
 ghost use Rattle.world.specs.Counted.{counts};
 ghost use Rattle.world.specs.BatchRuns.{HasRun, WasStopped};
 ghost use Rattle.world.specs.Fault.{FailsFor, is_memory};
-ghost use Rattle.world.specs.Frame.{ComesTo, EndsIn, FindsNone, LeavesDatabase, LeavesMachines, ListMakes, OverFit, OverFitting, OverListServed, OverLists, OverServed, StaysAsItIs};
+ghost use Rattle.world.specs.Frame.{ComesTo, EndsIn, FindsNone, LeavesDatabase, LeavesMachines, OverFit, OverFitting, OverListServed, OverLists, OverServed, StaysAsItIs};
 ghost use Rattle.world.specs.Batch.{RunsAll};
 ghost use Rattle.world.specs.Course.{CommitsNone};
-ghost use Rattle.world.specs.Listed.{FitsList, IsListed, StandsIn};
+ghost use Rattle.world.specs.Listed.{StandsIn};
 ghost use Rattle.world.specs.ListServed.{IsListServed, IsListServedOn, ListMade};
 ghost use Rattle.world.specs.Chain.{IsLast, StandsAt, StandsLast, sites_of};
 ghost use Rattle.world.specs.Contents.{OfGiven, OfStores, counted, held, unrefused};
@@ -348,14 +348,12 @@ impl<D: DeskStore, S: SiteStore> Solo<D, S> {
     pub fn execute(&mut self, text: &str) -> Result<Vec<Notice>, Refusal>
         ensures leaves { LeavesDatabase D.is_clean S.is_clean D.is_sound S.is_sound D.refused S.refused self.old.machines self.new.machines }
         ensures executes { (whole : Relations) (past : List (Deed (language (database (catalogue_of self.old.machines.desk.catalog))))) → self.old.stopped ≡ None → OfStores D.is_clean S.is_clean self.new.machines → OfStores D.is_sound S.is_sound self.old.machines
-            → IsServed (database (catalogue_of self.old.machines.desk.catalog)) whole (counted D.kept S.kept D.refused S.refused self.old.machines) past
-            → UnlessStopped (λ heard. heard.items) (Executes (database (catalogue_of self.old.machines.desk.catalog)) (fits (catalogue_of self.old.machines.desk.catalog)) whole text.now self.old.current (counted D.kept S.kept D.refused S.refused self.old.machines) self.new.current (counted D.kept S.kept D.refused S.refused self.new.machines) past) result }
-        ensures served { OverServed (OfStores D.is_clean S.is_clean) (OfStores D.is_sound S.is_sound) (counted D.kept S.kept D.refused S.refused) self.old.machines self.new.machines
-            (λ db whole past. (deeds : List (Deed (language db))) × IsServed db whole (counted D.kept S.kept D.refused S.refused self.new.machines) (past ++ deeds)) }
+            → self.old.machines.desk.later.items ≡ [] → IsListServed (database (catalogue_of self.old.machines.desk.catalog)) whole (counted D.kept S.kept D.refused S.refused self.old.machines) past
+            → IfErr result (λ told. is_stop told ≡ false) → Executes (database (catalogue_of self.old.machines.desk.catalog)) (fits (catalogue_of self.old.machines.desk.catalog)) whole text.now self.old.current (counted D.kept S.kept D.refused S.refused self.old.machines) self.new.current (counted D.kept S.kept D.refused S.refused self.new.machines) past (heard_in (λ heard. heard.items) result) }
         ensures lists { self.old.stopped ≡ None → OverLists (OfStores D.is_clean S.is_clean) (OfStores D.is_sound S.is_sound) (counted D.kept S.kept D.refused S.refused) self.old.machines self.new.machines
-            (λ db whole past. ListMakes db whole (counted D.kept S.kept D.refused S.refused self.new.machines) past result (λ done moves. IsCommand db.schemas text.now self.old.current self.new.current moves (heard_in (λ heard. heard.items) done) × OnErr done (CommitsNone moves))) }
+            (λ db whole past. IfErr result (λ told. is_stop told ≡ false) → ListMade db whole (counted D.kept S.kept D.refused S.refused self.new.machines) past (λ moves. IsCommand db.schemas text.now self.old.current self.new.current moves (heard_in (λ heard. heard.items) result) × OnErr result (CommitsNone moves))) }
         ensures served_lists { OverLists (OfStores D.is_clean S.is_clean) (OfStores D.is_sound S.is_sound) (counted D.kept S.kept D.refused S.refused) self.old.machines self.new.machines (λ db whole past. IsListServedOn db whole (counted D.kept S.kept D.refused S.refused self.new.machines) past) }
-        ensures blames { self.old.stopped ≡ None → OfStores D.is_clean S.is_clean self.new.machines → OfStores D.is_sound S.is_sound self.old.machines → IfErr result (StopsFor (counts D.refused S.refused self.old.machines) (counts D.refused S.refused self.new.machines)) }
+        ensures blames { self.old.stopped ≡ None → OfStores D.is_clean S.is_clean self.new.machines → OfStores D.is_sound S.is_sound self.old.machines → IfErr result (StopsFor (counted D.kept S.kept D.refused S.refused self.old.machines).refused (counted D.kept S.kept D.refused S.refused self.new.machines).refused) }
         ensures inside { (txn : TxnNow) → self.old.stopped ≡ None → self.old.current ≡ Some txn → IsTextOf (schemas_of (catalogue_of self.old.machines.desk.catalog)) text.now Begin → (result ≡ Err refusals.Busy) ⊎ (result ≡ Err refusals.Memory) }
         ensures outside { self.old.stopped ≡ None → self.old.current ≡ None → IsTextOf (schemas_of (catalogue_of self.old.machines.desk.catalog)) text.now Commit ⊎ IsTextOf (schemas_of (catalogue_of self.old.machines.desk.catalog)) text.now Rollback → (result ≡ Err refusals.NoTransaction) ⊎ (result ≡ Err refusals.Memory) }
         ensures finds_none { (statement : StatementNow) → self.old.stopped ≡ None → self.old.current ≡ None → IsTextOf (schemas_of (catalogue_of self.old.machines.desk.catalog)) text.now (Run statement) → is_refragment statement ≡ true → FindsNone (OfStores D.is_clean S.is_clean) (OfStores D.is_sound S.is_sound) (counted D.kept S.kept D.refused S.refused) self.old.machines self.new.machines result text.now }

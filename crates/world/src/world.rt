@@ -4,6 +4,7 @@ ghost use Rattle.std.specs.Borrow.{follows_so, sem};
 ghost use mathlib.Core.Option.{none};
 ghost use Rattle.std.specs.Prelude.{⊤, ◌≡◌, ◌≢◌, ◌⊎◌, ◌++◌, ◌∷◌, [], ℕ, Bool, true, false, List, Err, OnOk, OnErr, IfOk, IfErr, length, map, slice_get, take, ◌<◌};
 ghost use Rattle.std.specs.Option.{option_copied, option_map};
+ghost use Rattle.std.specs.Result.{result_copied};
 ghost use Rattle.meaning.specs.Whole.{FitsSchema, Relations};
 ghost use Rattle.catalog.specs.Catalogue.{Catalogue};
 ghost use Rattle.catalog.specs.FragmentLeaf.{schemas_of};
@@ -32,7 +33,7 @@ ghost use Rattle.world.specs.Committed.{AnswerInTurn, committed_of};
 ghost use Rattle.world.specs.Posted.{letters_in};
 ghost use Rattle.world.specs.Refused.{IsRefusedFor};
 ghost use Rattle.world.specs.Runs.{GoesOn, IsRun, IsSerialRun, IsSpared, RunsOn};
-ghost use Rattle.world.specs.Steps.{Steps, answer_of};
+ghost use Rattle.world.specs.Steps.{Steps};
 ghost use Rattle.world.specs.contracts.world.World.{the_row};
 ghost use Rattle.world.specs.Settled.{AreThoseOf, ShowsSerial, parts_kept, rows_shown};
 ghost use Rattle.world.specs.Recovery.{StopsOpening};
@@ -138,7 +139,7 @@ impl<D: DeskStore, S: SiteStore> World<D, S> {
     /// memory.
     pub fn step(&mut self, event: Event) -> Result<&Entry, &Fault>
         ensures* steps { sem 𝓛 (follows_so (the_row D.row S.row) (the_row D.row S.row) self.entry.ghost_name none (λ _ _. ⊤)
-            (λ new. Steps (OfStores D.is_clean S.is_clean) (OfStores D.is_sound S.is_sound) (held D.kept S.kept) (counted D.kept S.kept D.refused S.refused) event (answer_of result) self.old new)) }
+            (λ new. Steps (OfStores D.is_clean S.is_clean) (OfStores D.is_sound S.is_sound) (held D.kept S.kept) (counted D.kept S.kept D.refused S.refused) event (result_copied result) self.old new)) }
         ensures event { IfOk result (λ entry. entry.now.event ≡ event) }
     {
         match self.happens(event) {

@@ -2,10 +2,11 @@
 use Rattle.world.proofs.Leaves.{database_still}
 use Rattle.std.proofs.Common.{◌≡◌, ◌∙◌, inl, refl, sym, ap, rules, subst, not, false, true, nat_eq, List, ℕ, Some}
 use Rattle.protocol.proofs.Basics.{clash}
-use Rattle.world.specs.Events.{is_none_of, is_unsent}
+use Rattle.world.specs.Events.{is_unsent}
+use Rattle.world.specs.Sites.{has_site}
 use Rattle.std.specs.Cmp.Lexicographic.{pointwise}
 use Rattle.std.specs.List.{list_any}
-use Rattle.std.specs.Option.{option_copied}
+use Rattle.std.specs.Option.{option_copied, option_map_or}
 use Rattle.catalog.specs.Catalogue.{Catalogue}
 use Rattle.world.specs.declared.event.Event.TheVariants as event
 use Rattle.world.specs.Counted.{HaveRefused, counts}
@@ -38,14 +39,14 @@ returns-in_err-again-clause-nowhere g c = λ none.
     let there = sym c.letter.ensures ∙ ap option_copied c.in-Some.is in
     let tested = sym c.has_site.ensures ∙ c.if-not-has_site.false in
     let found = subst (λ x. list_any (λ site. pointwise nat_eq site c.in-Some.letter.now.site) x.0 ≡ true) c.catalog.ensures tested in
-    clash (subst (λ o. is_none_of c.args.machines.now.desk.catalog.0 o ≡ true) there none) (ap not found)
+    clash (subst (λ o. option_map_or (λ letter. not (has_site c.args.machines.now.desk.catalog.0 letter.site)) o true ≡ true) there none) (ap not found)
 
 pub returns-clause-nowhere : goal.returns-clause-nowhere
 returns-clause-nowhere g c = λ none.
     let there = sym c.letter.ensures ∙ ap option_copied c.in-Some.is in
     let tested = sym c.has_site.ensures ∙ c.if-not-has_site.false in
     let found = subst (λ x. list_any (λ site. pointwise nat_eq site c.in-Some.letter.now.site) x.0 ≡ true) c.catalog.ensures tested in
-    clash (subst (λ o. is_none_of c.args.machines.now.desk.catalog.0 o ≡ true) there none) (ap not found)
+    clash (subst (λ o. option_map_or (λ letter. not (has_site c.args.machines.now.desk.catalog.0 letter.site)) o true ≡ true) there none) (ap not found)
 
 pub returns-clause-refused : goal.returns-clause-refused
 returns-clause-refused g c = λ db of stands fit.
@@ -90,7 +91,7 @@ returns-then-not-has_site-clause-refused g c = λ db of stands fit.
     let tested = sym c.has_site.ensures ∙ c.if-not-has_site.true in
     let nowhere = subst (λ x. list_any (λ site. pointwise nat_eq site c.in-Some.letter.now.site) x.0 ≡ false) c.catalog.ensures tested in
     let there = sym c.letter.ensures ∙ ap option_copied c.in-Some.is in
-    let none : is_unsent old.desk.catalog.0 c.args.log.now.items (event.Deliver c.args.number c.args.kept) ≡ true = ap (is_none_of old.desk.catalog.0) there ∙ ap not nowhere in
+    let none : is_unsent old.desk.catalog.0 c.args.log.now.items (event.Deliver c.args.number c.args.kept) ≡ true = ap (λ o. option_map_or (λ letter. not (has_site old.desk.catalog.0 letter.site)) o true) there ∙ ap not nowhere in
     unsent_refused (OfStores D.is_clean S.is_clean old × OfStores D.is_sound S.is_sound old) db (counted D.kept S.kept D.refused S.refused old) (counted D.kept S.kept D.refused S.refused old) c.args.log.now.items old.desk.catalog.0 (event.Deliver c.args.number c.args.kept)
     (of.sites _ ∙ ap (λ (x : Catalogue). x.sites) stands.here) none
 

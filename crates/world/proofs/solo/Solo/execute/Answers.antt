@@ -1,18 +1,16 @@
 -- Why `execute` meets its contract.
 use Rattle.catalog.specs.Relation.{catalogue_of}
 use Rattle.catalog.specs.declared.relation.SplitRelation.{SplitRelation}
-use Rattle.desk.specs.Database.{language}
 use Rattle.desk.specs.OfCatalogue.{IsOfCatalogue}
-use Rattle.protocol.specs.Client.{ReachedLaw}
-use Rattle.std.proofs.Common.{List, [], ℕ, refl, subst}
+use Rattle.std.proofs.Common.{List, ℕ, refl, subst}
 use Rattle.world.proofs.Calls.{leaves_of}
-use Rattle.world.proofs.Deeds.{nothing_more}
 use Rattle.world.proofs.Leaves.{database_still}
+use Rattle.world.proofs.Hindering.{served_alone}
 use Rattle.world.proofs.Outcomes.{executed, refused_commits_none}
 use Rattle.desk.specs.CatalogueDatabase.{database, fits}
 use Rattle.world.specs.Commands.{CommandsFollow}
 use Rattle.world.specs.Contents.{counted}
-use Rattle.world.proofs.ListCalls.{makes_as, makes_on}
+use Rattle.world.proofs.ListCalls.{made_as, makes_on, makes_unless}
 use Rattle.world.proofs.ListSolo.{served_still}
 use Rattle.world.proofs.solo.Solo.execute.Goals as goal
 
@@ -23,21 +21,14 @@ pub returns-in-Some-clause-leaves : goal.returns-in-Some-clause-leaves
 returns-in-Some-clause-leaves g c = database_still g.D.DeskStore.is_clean g.S.SiteStore.is_clean g.D.DeskStore.is_sound g.S.SiteStore.is_sound g.D.DeskStore.refused g.S.SiteStore.refused c.args.self.now.machines
 
 pub returns-clause-executes : goal.returns-clause-executes
-returns-clause-executes g c = λ whole past going clean sound served.
+returns-clause-executes g c = λ whole past going clean sound alone listed.
     let catalogue = catalogue_of c.args.self.now.machines.desk.catalog in
     let view = counted g.D.DeskStore.kept g.S.SiteStore.kept g.D.DeskStore.refused g.S.SiteStore.refused in
+    let served = served_alone (database catalogue) whole (view c.args.self.now.machines) past alone listed in
     let of = subst (λ (x : List (List ℕ) × List SplitRelation). IsOfCatalogue (database (catalogue_of x))) c.catalog.ensures c.database_is_of_catalogue.ensures.of_catalogue in
     let law = subst (λ (x : List (List ℕ) × List SplitRelation). CommandsFollow (database (catalogue_of x)) (fits (catalogue_of x))) c.catalog-3.ensures c.commands_follow.ensures in
     executed (database catalogue) (fits catalogue) law whole c.args.text.now c.args.self.now.current c.command-done.new.self.current (view c.args.self.now.machines) (view c.command-done.new.self.machines) past (λ heard. heard.items) c.command-done.result served
     (c.command-done.ensures.comes.moves (database catalogue) of refl clean sound served.fit)
-
-pub returns-clause-served : goal.returns-clause-served
-returns-clause-served g c = λ whole past clean sound served.
-    let on = c.command-done.ensures.comes.served (database (catalogue_of c.args.self.now.machines.desk.catalog)) whole past
-    (subst (λ (x : List (List ℕ) × List SplitRelation). IsOfCatalogue (database (catalogue_of x))) c.catalog.ensures c.database_is_of_catalogue.ensures.of_catalogue)
-    (subst (λ (x : List (List ℕ) × List SplitRelation). ReachedLaw (language (database (catalogue_of x)))) c.catalog-2.ensures c.one_client_is_a_run.ensures)
-    refl clean sound served in
-    (on.deeds, on.served)
 
 pub returns-clause-inside : goal.returns-clause-inside
 returns-clause-inside g c = λ txn going some spelled. c.command-done.ensures.inside txn some spelled
@@ -45,16 +36,12 @@ returns-clause-inside g c = λ txn going some spelled. c.command-done.ensures.in
 pub returns-clause-blames : goal.returns-clause-blames
 returns-clause-blames g c = λ going clean sound. c.command-done.ensures.comes.blames clean sound
 
-pub returns-in-Some-clause-served : goal.returns-in-Some-clause-served
-returns-in-Some-clause-served g c = λ whole past clean sound served.
-    let db = database (catalogue_of c.args.self.now.machines.desk.catalog) in
-    ([], nothing_more db whole (counted g.D.DeskStore.kept g.S.SiteStore.kept g.D.DeskStore.refused g.S.SiteStore.refused c.args.self.now.machines) past served)
-
 pub returns-clause-lists : goal.returns-clause-lists
 returns-clause-lists g c = λ going db whole past listed stands clean sound served.
     let made = c.command-done.ensures.comes.lists db whole past listed stands clean sound served in (
-      makes_as db whole (counted g.D.DeskStore.kept g.S.SiteStore.kept g.D.DeskStore.refused g.S.SiteStore.refused c.command-done.new.self.machines) past c.command-done.result _ _
-          (λ moves command. (command, refused_commits_none (λ heard. heard.items) c.command-done.result db.schemas c.args.text.now c.args.self.now.current c.command-done.new.self.current moves command)) made.0,
+      λ goes. made_as db whole (counted g.D.DeskStore.kept g.S.SiteStore.kept g.D.DeskStore.refused g.S.SiteStore.refused c.command-done.new.self.machines) past _ _
+          (λ moves command. (command, refused_commits_none (λ heard. heard.items) c.command-done.result db.schemas c.args.text.now c.args.self.now.current c.command-done.new.self.current moves command))
+          (makes_unless db whole (counted g.D.DeskStore.kept g.S.SiteStore.kept g.D.DeskStore.refused g.S.SiteStore.refused c.command-done.new.self.machines) past c.command-done.result _ made.0 goes),
       made.1,
     )
 
