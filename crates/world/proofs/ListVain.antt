@@ -1,5 +1,5 @@
 -- What a call of one client over a list of catalogues does, with all its letters: where no commit is asked for, nothing is committed.
-use Rattle.std.proofs.Common.{◌≡◌, ◌&&◌, refl, sym, ap, ◌∙◌, subst, true, List, [], ◌∷◌, ◌++◌, append_assoc, map, Result, Ok, Err, IfOk, OnErr}
+use Rattle.std.proofs.Common.{◌≡◌, ◌&&◌, refl, sym, ap, ◌∙◌, subst, true, List, [], ◌∷◌, ◌++◌, map, Result, IfOk, OnErr}
 use Rattle.meaning.specs.Whole.{Relations}
 use Rattle.meaning.specs.declared.statement.Statement.TheVariants as kinds
 use Rattle.store.specs.declared.letter.Letter as letters
@@ -7,7 +7,6 @@ use Rattle.store.specs.declared.name.Txn.{Txn}
 use Rattle.protocol.specs.Client.{IsReached}
 use Rattle.protocol.specs.Desk.{Began, Choice, Deed, Known, Rollback, State, desk_after, fresh_as, is_desk_within, next_txn, on_request}
 use Rattle.protocol.specs.Language.{same}
-use Rattle.protocol.specs.Letter.{Letter}
 use Rattle.protocol.specs.Letters.{txn_name}
 use Rattle.protocol.specs.NothingCommits.{AreInVain}
 use Rattle.protocol.specs.Serial.{AllExplained, Explained}
@@ -18,7 +17,6 @@ use Rattle.desk.specs.declared.refusal.Refusal.{Refusal}
 use Rattle.desk.specs.declared.reply.Notice.{Notice}
 use Rattle.desk.specs.declared.reply.Out.{Out}
 use Rattle.desk.specs.Database.{Database, language, sent}
-use Rattle.desk.specs.State.{desk_of}
 use Rattle.world.specs.Listed.{IsListed, ListAsked, ListBegun, ListLeads, ListMoved, ListStated}
 use Rattle.world.specs.ListServed.{IsListServedOn, IsListWaiting, ListGoes}
 use Rattle.world.specs.Machines.{Machines, world_of}

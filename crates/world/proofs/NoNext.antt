@@ -11,7 +11,6 @@ use Rattle.desk.specs.declared.refusal.Refusal.TheVariants.{NoNext}
 use Rattle.desk.specs.declared.reply.Notice.{Notice}
 use Rattle.desk.specs.Database.{Database, language}
 use Rattle.desk.specs.Request.{refused_as, txn_in}
-use Rattle.world.specs.Client.{autocommit_reply}
 use Rattle.world.specs.Commands.{IsDecided, heard_in}
 use Rattle.world.specs.Course.{Move}
 use Rattle.world.specs.Frame.{ListMakes}

@@ -4,8 +4,6 @@ use Rattle.std.proofs.lemmas.List.{append-nil, map-append}
 use Rattle.std.proofs.lemmas.List.Elements.{filter_map-append}
 use Rattle.std.proofs.lemmas.Grind.{flat_map-append}
 use Rattle.meaning.specs.declared.statement.Statement.{Statement}
-use Rattle.reader.specs.declared.command.Command.TheVariants as command
-use Rattle.store.specs.declared.letter.Letter as letters
 use Rattle.store.specs.declared.name.Txn as names
 use Rattle.protocol.specs.Accepted.{stated_by, stated_of}
 use Rattle.protocol.specs.Desk.{Choice, Deed, Transition, desk_after, desk_began, desk_restarted, is_desk_within, next_txn, on_desk_letter, Began}

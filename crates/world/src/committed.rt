@@ -1,6 +1,6 @@
 //! The committed transactions, as the entries of a world tell of them.
 
-ghost use Rattle.std.specs.Prelude.{◌≡◌, ◌++◌, ◌&&◌, List, [], map, IfOk, OnOk, if◌then◌else◌};
+ghost use Rattle.std.specs.Prelude.{◌≡◌, ◌++◌, ◌&&◌, [], map, IfOk, OnOk, if◌then◌else◌};
 ghost use Rattle.std.specs.List.{flat_map, list_any};
 ghost use Rattle.std.specs.Option.{option_copied};
 ghost use Rattle.world.specs.Replies.{answer_of, answers_to, committed_in, is_begun_by, is_told_committed, is_txn, is_commit, own_text, texts_of};

@@ -1,6 +1,6 @@
 //! Relations, rebuilt from the settled fragments as a SELECT of all their columns.
 
-ghost use Rattle.std.specs.Prelude.{◌≡◌, ◌≢◌, ◌≤◌, ◌∷◌, [], Err, Some, IfErr, IfOk, map, ℕ, List, IfSome, false, unwrap_or};
+ghost use Rattle.std.specs.Prelude.{◌≡◌, ◌≢◌, ◌∷◌, [], Err, Some, IfErr, IfOk, map, ℕ, List, IfSome, false, unwrap_or};
 ghost use Rattle.std.specs.FinMap as fin;
 ghost use Rattle.std.specs.List.{AllByRecursion, Contains, filter};
 ghost use Rattle.std.specs.Option.{option_and_then, option_copied, option_map};

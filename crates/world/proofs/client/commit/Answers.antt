@@ -1,5 +1,5 @@
 -- Why `commit` meets its contract.
-use Rattle.std.proofs.Common.{rules, List, inl, Err, ◌∙◌, refl, ◌++◌, []}
+use Rattle.std.proofs.Common.{rules, List, inl, Err, refl, ◌++◌, []}
 use Rattle.std.specs.Global.{Vec}
 use Rattle.protocol.specs.Desk.{Commit_call}
 use Rattle.protocol.specs.Letters.{txn_name}

@@ -1,5 +1,5 @@
 -- Why `greet` meets its contract.
-use Rattle.std.proofs.Common.{rules, List, inl, ◌∙◌, ◌++◌, ◌≢◌, [], refl, IfOk}
+use Rattle.std.proofs.Common.{rules, List, inl, ◌++◌, ◌≢◌, [], refl, IfOk}
 use Rattle.std.specs.Global.{Vec}
 use Rattle.desk.specs.Database.{language}
 use Rattle.desk.specs.declared.reply.Notice.{Notice}

@@ -1,6 +1,5 @@
 -- Why `call` meets its contract.
 use Rattle.std.proofs.Common.{◌≡◌, ◌⊎◌, ◌++◌, ◌∷◌, [], refl, sym, subst, IfErr, IfOk}
-use Rattle.protocol.specs.Desk.{State}
 use Rattle.desk.specs.declared.refusal.Refusal.TheVariants as refusals
 use Rattle.desk.specs.State.{volatile_of}
 use Rattle.world.specs.declared.event.Call as calls
