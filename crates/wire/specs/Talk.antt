@@ -1,5 +1,5 @@
 -- What a session hears of its transaction.
-use Rattle.std.specs.Prelude.{◌≡◌, Bool, true, false, IfOk, Result, Ok, Err}
+use Rattle.std.specs.Prelude.{◌≡◌, Bool, true, false, IfOk, Option, Some, Result, Ok, Err}
 use Rattle.desk.specs.declared.reply.Reply as replies
 use Rattle.desk.specs.declared.reply.Reply.TheVariants as reply
 use Rattle.wire.specs.declared.fault.CallFault.{CallFault}
@@ -13,6 +13,11 @@ is_answered (reply.Answer answer) = true
 is_answered reply.Committed = true
 is_answered reply.RolledBack = true
 is_answered (reply.Aborted why) = false
+
+-- whether a reply, if there is one, answers a statement
+abbrev pub answers : Option replies.Reply → Bool
+answers (Some (reply.Answer answer)) = true
+answers other = false
 
 -- what was heard, if anything was, is such a reply
 abbrev pub IsAnswered : Result Heard CallFault → Type 0

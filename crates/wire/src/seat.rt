@@ -1,6 +1,7 @@
 //! Who waits for replies.
 
-ghost use Rattle.std.specs.Prelude.{◌≡◌, IfSome, None};
+ghost use Rattle.std.specs.Prelude.{◌≡◌, false, IfSome, None};
+ghost use Rattle.wire.specs.Talk.{answers};
 
 use crossbeam_channel::Sender;
 use desk::reply::{Notice, Reply};
@@ -18,6 +19,8 @@ pub(crate) struct Given {
     pub txn: Txn,
     /// The reply. There is none where memory ran out for its copy, of which only an answer takes any, or on its way.
     pub reply: Option<Reply>,
+    /// Whether the commit of its transaction has been asked for too.
+    pub is_followed: bool,
 }
 
 impl Given {
@@ -26,11 +29,13 @@ impl Given {
         ensures number { result.number ≡ 0 }
         ensures txn { result.txn ≡ txn }
         ensures reply { result.reply ≡ None }
+        ensures followed { result.is_followed ≡ false }
     {
         Given {
             number: 0,
             txn,
             reply: None,
+            is_followed: false,
         }
     }
 
@@ -39,6 +44,7 @@ impl Given {
         ensures number { result.number ≡ number }
         ensures txn { result.txn ≡ notice.now.txn }
         ensures reply { IfSome result.reply (λ reply. reply ≡ notice.now.reply) }
+        ensures followed { result.is_followed ≡ false }
     {
         let reply = match notice.reply.copy() {
             Ok(reply) => Some(reply),
@@ -48,7 +54,15 @@ impl Given {
             number,
             txn: notice.txn,
             reply,
+            is_followed: false,
         }
+    }
+
+    /// Whether it answers a statement.
+    pub fn is_answer(&self) -> bool
+        ensures { result ≡ answers self.now.reply }
+    {
+        matches!(&self.reply, Some(Reply::Answer(_)))
     }
 }
 
@@ -57,6 +71,8 @@ impl Given {
 struct Seat {
     txn: Txn,
     to: Sender<Given>,
+    /// Whether the transaction is that of a single statement, whose commit is asked for once it is answered.
+    is_lone: bool,
     /// Whether the session was told that memory ran out on the way of a reply.
     is_lost: bool,
 }
@@ -77,13 +93,22 @@ impl Seats {
     }
 
     /// The replies of a transaction go this way from now on. No clause says so, since none says where a channel leads.
-    pub fn enter(&mut self, txn: Txn, to: Sender<Given>) -> Result<(), Memory> {
+    pub fn enter(&mut self, txn: Txn, to: Sender<Given>, is_lone: bool) -> Result<(), Memory> {
         self.seats.push(Seat {
             txn,
             to,
+            is_lone,
             is_lost: false,
         })?;
         Ok(())
+    }
+
+    /// Whether a session waits for a transaction of a single statement. It stands in for what the session said as it began, so no clause
+    /// says it.
+    pub fn is_lone(&self, txn: Txn) -> bool {
+        self.seats
+            .iter()
+            .any(|seat| seat.txn == txn && seat.is_lone)
     }
 
     /// Nobody waits for the replies of a transaction any more. What a seat is for, a channel, has no clause, nor has this.

@@ -118,7 +118,7 @@ fn tell(told: &mut Vec<Told>, text: Text, heard: Heard) -> Result<Reply, CallFau
     ensures own { IfErr result (λ fault. is_abort fault ≡ false) }
     ensures still { Ascends told.new.items }
 {
-    let Heard { number, reply } = heard;
+    let Heard { number, reply, .. } = heard;
     if !is_above(told.as_slice(), number) {
         return Err(CallFault::Closed);
     }

@@ -15,6 +15,7 @@ use store::letter::{Body, Letter};
 use store::name::Txn;
 use store::reply::Reply;
 use terms::memory::Memory;
+use world::fault::Fault;
 
 /// How often a site's thread calls the coordinator for one letter, where memory runs out.
 const TRIES: usize = 3;
@@ -34,30 +35,61 @@ pub(crate) struct Shared<D: DeskStore, G> {
 }
 
 impl<D: DeskStore, G> Shared<D, G> {
-    /// Calls the coordinator, under its lock. No clause says what it answers, since none follows what lies under a lock.
-    pub fn call<R: Wait>(&self, rt: &R, errand: Errand<'_>) -> Result<Done, Memory> {
+    /// Calls the coordinator, under its lock. Where that answers a transaction of a single statement, its commit is asked for under the
+    /// same lock, so that its session doesn't wake for that; where memory runs out or it is refused, the session asks for it. No clause
+    /// says what is answered, since none follows what lies under a lock.
+    fn call<R: Wait>(&self, rt: &R, errand: Errand<'_>) -> Result<(Done, Option<Done>), Memory> {
         let mut front = hold(rt, &self.front);
-        front.call(rt, self.alloc, errand, &self.counter)
+        let mut done = front.call(rt, self.alloc, errand, &self.counter)?;
+        let Some(txn) = self.answered_alone(rt, done.given.as_slice()) else {
+            return Ok((done, None));
+        };
+        match front.call(rt, self.alloc, Errand::Commit(txn), &self.counter) {
+            Ok(commit) => {
+                mark_followed(&mut done, &commit);
+                Ok((done, Some(commit)))
+            }
+            Err(Memory) => Ok((done, None)),
+        }
+    }
+
+    /// The transaction of a single statement that one of these replies answers. No clause says so, since none follows what lies under
+    /// a lock.
+    fn answered_alone<R: Wait>(&self, rt: &R, given: &[Given]) -> Option<Txn> {
+        let answer = given.iter().find(|one| one.is_answer())?;
+        hold(rt, &self.seats)
+            .is_lone(answer.txn)
+            .then_some(answer.txn)
     }
 
     /// Calls the coordinator, and hands its replies out. A call that was refused is its refusal. No clause says so, since
     /// none follows what lies under a lock.
     pub fn ask<R: Wait>(&self, rt: &R, errand: Errand<'_>) -> Result<(), CallFault> {
-        let Done {
-            given,
-            given_up,
-            stuck,
-            fault,
-        } = self.call(rt, errand)?;
-        self.hand_out(rt, given);
-        self.hand_out(rt, given_up);
-        if let Some(txn) = stuck {
-            self.lose(rt, txn);
+        let (done, commit) = self.call(rt, errand)?;
+        let fault = self.hand_on(rt, done);
+        if let Some(commit) = commit {
+            self.hand_on(rt, commit);
         }
         match fault {
             Some(fault) => Err(CallFault::from(fault)),
             None => Ok(()),
         }
+    }
+
+    /// Hands on what came of a call, and answers why it was refused, if it was. No clause says so, since none follows a channel.
+    fn hand_on<R: Wait>(&self, rt: &R, done: Done) -> Option<Fault> {
+        let Done {
+            given,
+            given_up,
+            stuck,
+            fault,
+        } = done;
+        self.hand_out(rt, given);
+        self.hand_out(rt, given_up);
+        if let Some(txn) = stuck {
+            self.lose(rt, txn);
+        }
+        fault
     }
 
     /// Begins a transaction, whose replies go this way from then on. It is seated before the lock is free: until then no site's
@@ -67,6 +99,7 @@ impl<D: DeskStore, G> Shared<D, G> {
         rt: &R,
         errand: Errand<'_>,
         to: Sender<Given>,
+        is_lone: bool,
     ) -> Result<Begun, CallFault> {
         let mut front = hold(rt, &self.front);
         let Done {
@@ -79,7 +112,7 @@ impl<D: DeskStore, G> Shared<D, G> {
             return Err(CallFault::from(fault));
         }
         let begun = begun_in(given.as_slice())?;
-        let seated = hold(rt, &self.seats).enter(begun.txn, to);
+        let seated = hold(rt, &self.seats).enter(begun.txn, to, is_lone);
         drop(front);
         if seated.is_err() {
             self.give_up(rt, begun.txn);
@@ -129,6 +162,13 @@ impl<D: DeskStore, G> Shared<D, G> {
     /// Tells the session that waits for a transaction that memory ran out. No clause says so, since none follows a channel.
     fn lose<R: Wait>(&self, rt: &R, txn: Txn) {
         hold(rt, &self.seats).lose(rt, txn);
+    }
+}
+
+/// Marks the answers of a call as followed by a commit, unless that was refused.
+fn mark_followed(done: &mut Done, commit: &Done) {
+    for given in done.given.iter_mut() {
+        given.is_followed = given.is_answer() && commit.fault.is_none();
     }
 }
 

@@ -34,6 +34,8 @@ use store::name::Txn;
 pub(crate) struct Heard {
     pub number: u64,
     pub reply: Reply,
+    /// Whether the commit of its transaction has been asked for too.
+    pub is_followed: bool,
 }
 
 /// A session's side of the talk: the way of its replies, and the transaction that it has begun by BEGIN.
@@ -96,11 +98,12 @@ impl<'a, D: DeskStore, G> Talk<'a, D, G> {
         ensures begun { IfOk result (λ heard. (heard.reply ≡ replies.Begun) × (is_some self.new.current ≡ true)) }
         ensures still { OnErr result (self.new.current ≡ self.old.current) }
     {
-        let Begun { txn, number } = self.begin(rt, Errand::Begin)?;
+        let Begun { txn, number } = self.begin(rt, Errand::Begin, false)?;
         self.current = Some(txn);
         Ok(Heard {
             number,
             reply: Reply::Begun,
+            is_followed: false,
         })
     }
 
@@ -158,7 +161,7 @@ impl<'a, D: DeskStore, G> Talk<'a, D, G> {
     fn run<R: Wait>(&self, rt: &R, text: &str) -> Result<Heard, CallFault>
         ensures { IsAnswered result }
     {
-        let Begun { txn, .. } = self.begin(rt, Errand::Begin)?;
+        let Begun { txn, .. } = self.begin(rt, Errand::Begin, true)?;
         let answer = self.ask(rt, txn, Errand::State(txn, text));
         self.conclude(rt, txn, answer)
     }
@@ -167,13 +170,13 @@ impl<'a, D: DeskStore, G> Talk<'a, D, G> {
     fn refragment<R: Wait>(&self, rt: &R, text: &str) -> Result<Heard, CallFault>
         ensures { IsAnswered result }
     {
-        let Begun { txn, .. } = self.begin(rt, Errand::Refragment(text))?;
+        let Begun { txn, .. } = self.begin(rt, Errand::Refragment(text), true)?;
         let answer = self.hear(rt, txn);
         self.conclude(rt, txn, answer)
     }
 
-    /// Asks for the commit of a transaction of its own, whose statement has this answer: that is heard only where it was
-    /// committed. Unless it has aborted, it is given up otherwise.
+    /// The commit of a transaction of its own, whose statement has this answer: that is heard only where it was committed.
+    /// Unless it has aborted, it is given up otherwise.
     fn conclude<R: Wait>(
         &self,
         rt: &R,
@@ -192,7 +195,8 @@ impl<'a, D: DeskStore, G> Talk<'a, D, G> {
         heard
     }
 
-    /// The answer of a transaction's statement, once it is committed.
+    /// The answer of a transaction's statement, once it is committed. Whoever brought the answer has asked for the commit, or else that is
+    /// done now.
     fn committed<R: Wait>(
         &self,
         rt: &R,
@@ -203,15 +207,24 @@ impl<'a, D: DeskStore, G> Talk<'a, D, G> {
         ensures { IsAnswered result }
     {
         let heard = answer?;
-        let _committed = self.ask(rt, txn, Errand::Commit(txn))?;
+        let _committed = if heard.is_followed {
+            self.hear(rt, txn)?
+        } else {
+            self.ask(rt, txn, Errand::Commit(txn))?
+        };
         Ok(heard)
     }
 
-    /// Begins a transaction, whose replies come to this session.
-    fn begin<R: Wait>(&self, rt: &R, errand: Errand<'_>) -> Result<Begun, CallFault> {
+    /// Begins a transaction, whose replies come to this session; whether it is that of a single statement.
+    fn begin<R: Wait>(
+        &self,
+        rt: &R,
+        errand: Errand<'_>,
+        is_lone: bool,
+    ) -> Result<Begun, CallFault> {
         let to = self.to.clone()?;
         self.pass_over(rt);
-        self.shared.begin(rt, errand, to)
+        self.shared.begin(rt, errand, to, is_lone)
     }
 
     /// Passes over what is left of replies to transactions that have ended.
@@ -290,11 +303,20 @@ fn as_heard(given: Given) -> Result<Heard, CallFault>
     ensures same { IfOk result (λ heard. (heard.number ≡ given.number) × (given.reply ≡ Some heard.reply)) }
     ensures aborted { (why : WhyNow) → (result ≡ Err (faults.Aborted why)) ↔ (given.reply ≡ Some (replies.Aborted why)) }
 {
-    let Given { number, reply, .. } = given;
+    let Given {
+        number,
+        reply,
+        is_followed,
+        ..
+    } = given;
     match reply {
         Some(Reply::Aborted(why)) => Err(CallFault::Aborted(why)),
         Some(Reply::Begun) => Err(CallFault::Closed),
-        Some(reply) => Ok(Heard { number, reply }),
+        Some(reply) => Ok(Heard {
+            number,
+            reply,
+            is_followed,
+        }),
         None => Err(CallFault::Memory),
     }
 }
