@@ -133,22 +133,17 @@ pub(crate) fn without_votes(
     Ok(others)
 }
 
-/// A participant, with the ticket if it is that of the site.
-fn ticketed(participant: &Participant, site: &Text, ticket: Ticket) -> Result<Participant, Memory>
-    ensures { IfOk result (λ other. other ≡ changed_at site.now (with_ticket (Some ticket)) participant.now) }
+/// The ticket of a site has come.
+fn set_ticket(participants: &mut [Participant], site: &Text, ticket: Ticket)
+    ensures { participants.new ≡ map (changed_at site.now (with_ticket (Some ticket))) participants.old }
 {
-    let first = if is_at(participant, site) {
-        Some(ticket)
-    } else {
-        participant.ticket
+    let Some((participant, rest)) = participants.split_first_mut() else {
+        return;
     };
-    Ok(Participant {
-        site: participant.site.copy()?,
-        visited: participant.visited,
-        ticket: first,
-        sent: participant.sent,
-        vote: participant.vote,
-    })
+    if is_at(participant, site) {
+        participant.ticket = Some(ticket);
+    }
+    set_ticket(rest, site, ticket);
 }
 
 /// Participants, with the ticket of one site.
@@ -160,9 +155,7 @@ pub(crate) fn with_ticket(
 ) -> Result<Vec<Participant>, Memory>
     ensures { IfOk result (λ others. others.items ≡ map (changed_at site.now (with_ticket (Some ticket))) participants.now) }
 {
-    let mut others = Vec::with_capacity(alloc, participants.len())?;
-    for participant in participants {
-        others.push(ticketed(participant, site, ticket)?)?;
-    }
+    let mut others = copy_all(alloc, participants)?;
+    set_ticket(others.as_mut_slice(), site, ticket);
     Ok(others)
 }
