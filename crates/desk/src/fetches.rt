@@ -62,11 +62,7 @@ fn home_in(alloc: Global, catalog: &Catalog, leaf: &Leaf) -> Result<Text, Memory
 }
 
 /// The fetches of a plan, of which none is sent yet.
-pub(crate) fn asks_of(
-    alloc: Global,
-    catalog: &Catalog,
-    fetches: &[Fetch],
-) -> Result<Vec<Ask>, Memory>
+fn asks_of(alloc: Global, catalog: &Catalog, fetches: &[Fetch]) -> Result<Vec<Ask>, Memory>
     ensures { IfOk result (λ asks. asks.items ≡ map (ask_from (catalogue_of catalog.now)) fetches.now) }
 {
     let mut asks = Vec::new(alloc);
