@@ -47,3 +47,6 @@ returns-then-not-is_alone-clause-alone c = λ alone none. c.is_alone.ensures.no 
 
 pub returns-clause-next : goal.returns-clause-next
 returns-clause-next c = let yes = c.is_next.ensures.yes c.if-not-is_next.false in λ none. (let never = sym yes.1 ∙ none in cc)
+
+pub returns-clause-steps : goal.returns-clause-steps
+returns-clause-steps c = record { kept = c.out_of_begin.ensures.kept; err = tt }
