@@ -54,9 +54,10 @@ pub(crate) fn ends(
     ensures after { IfOk result (λ turn. turn.after ≡ Ends) }
     ensures reply { IfOk result (λ turn. turn.reply ≡ Some reply) }
 {
+    let letters = broadcast_letters(alloc, txn, word, participants)?;
     Ok(Transition {
         after: After::Ends,
-        letters: broadcast_letters(alloc, txn, word, participants)?,
+        letters,
         reply: Some(reply),
         kept,
     })

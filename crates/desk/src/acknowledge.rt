@@ -13,13 +13,14 @@ ghost use Rattle.desk.specs.Transaction.{voter_of};
 ghost use Rattle.desk.specs.Transition.{AtSites, IsTransition, after_of};
 
 use crate::participant::Participant;
+use crate::send::put_order;
 use crate::transaction::{Committed, TxnState};
 use crate::transition::{After, Transition, becomes, stays, tells};
 use std::alloc::Global;
 use store::commit::Voter;
 use store::desk_store::DeskStore;
 use store::fault::StoreFault;
-use store::letter::{Body, Letter};
+use store::letter::Letter;
 use store::name::{Ticket, Txn};
 use store::order::Order;
 use store::reply::{Reply, Vote};
@@ -81,11 +82,7 @@ pub(crate) fn add_commits(
     ensures { OnOk result (letters.new.items ≡ letters.old.items ++ commit_letters txn voters.now) }
 {
     for voter in voters {
-        letters.push(Letter {
-            site: voter.site.copy()?,
-            txn,
-            body: Body::Order(Order::Commit(voter.ticket)),
-        })?;
+        put_order(letters, txn, &voter.site, Order::Commit(voter.ticket))?;
     }
     Ok(())
 }

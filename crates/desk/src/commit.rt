@@ -9,6 +9,9 @@ ghost use Rattle.desk.specs.Commit.{is_idle, awaits_vote, counts_vote, has_read_
 ghost use Rattle.std.specs.List.{list_all};
 ghost use Rattle.desk.specs.Database.{Database, language, replied};
 ghost use Rattle.desk.specs.Participants.{sites_of, participant_in};
+ghost use Rattle.desk.specs.Orders.{broadcast_letters};
+ghost use Rattle.desk.specs.declared.participant.Participant.{Participant as ParticipantNow};
+ghost use Rattle.desk.specs.declared.send.Broadcast.TheVariants.{AbortVoting};
 ghost use Rattle.desk.specs.Transaction.{stage_of, undecided_of, voter_of, votes_of};
 ghost use Rattle.desk.specs.Transition.{AreParticipants, AtSites, IsTransition, after_of, commits_now, raises, voting};
 ghost use Rattle.desk.specs.Commit.{committed_by};
@@ -365,15 +368,15 @@ fn decides<S: DeskStore>(
         → in_force ≡ (if old.moves then suc (S.kept store.old).version else (S.kept store.old).version)
         → IfOk result (λ turn. Keeps txn (kept_voters (after_of (Some (standing.Undecided old)) turn.after)) (raises (Some (standing.Undecided old)) turn.reply) (S.kept store.old) (S.kept store.new)) }
 {
-    let aborts = unkept(alloc, txn, participants)?;
+    let aborts = broadcast_letters(alloc, txn, Broadcast::AbortVoting, participants)?;
     if !kept {
-        return Ok(aborts);
+        return Ok(unkept(aborts));
     }
     let letters = commit_letters(alloc, txn, &voters)?;
     match store.keep_commit(txn, &voters, in_force) {
         Ok(()) => Ok(committed(alloc, voters, letters)),
         Err(StoreFault::Memory) => Err(Memory),
-        Err(_) => Ok(aborts),
+        Err(_) => Ok(unkept(aborts)),
     }
 }
 
@@ -402,20 +405,18 @@ fn raises<S: DeskStore>(
     decides(store, alloc, txn, participants, voters, next, kept)
 }
 
-/// The commit row could not be kept: the transaction aborts.
-fn unkept(alloc: Global, txn: Txn, participants: &[Participant]) -> Result<Transition, Memory>
-    ensures turn { (db : Database) (old : Option TxnStateNow) (moves : Bool) → AreParticipants db participants.now
-        → IfOk result (λ turn. IsTransition db txn old turn (ends_by (txn_name txn) (undecided_of db (voting moves participants.now)) (protocol.Aborted (txn_name txn) By_store))) }
-    ensures kept { IfOk result (λ turn. turn.kept ≡ false) }
-    ensures after { IfOk result (λ turn. turn.after ≡ Ends) }
-    ensures reply { IfOk result (λ turn. turn.reply ≡ Some (replies.Aborted whys.Store)) }
+/// The commit row could not be kept: the transaction aborts, as these letters say.
+fn unkept(letters: Vec<Letter>) -> Transition
+    ensures turn { (db : Database) (txn : Txn) (old : Option TxnStateNow) (moves : Bool) (participants : List ParticipantNow) → AreParticipants db participants → letters.items ≡ broadcast_letters txn AbortVoting participants
+        → IsTransition db txn old result (ends_by (txn_name txn) (undecided_of db (voting moves participants)) (protocol.Aborted (txn_name txn) By_store)) }
+    ensures kept { result.kept ≡ false }
+    ensures after { result.after ≡ Ends }
+    ensures reply { result.reply ≡ Some (replies.Aborted whys.Store) }
 {
-    ends(
-        alloc,
-        txn,
-        participants,
-        Broadcast::AbortVoting,
-        Reply::Aborted(Why::Store),
-        false,
-    )
+    Transition {
+        after: After::Ends,
+        letters,
+        reply: Some(Reply::Aborted(Why::Store)),
+        kept: false,
+    }
 }

@@ -1,19 +1,23 @@
 //! The fetches of a statement, and the rows that come for them.
 
-ghost use Rattle.std.specs.Prelude.{◌≡◌, ◌≤◌, IfOk, length, map, OnErr, OnOk};
+ghost use Rattle.std.specs.Prelude.{◌≡◌, ◌≤◌, ℕ, IfOk, length, map, OnErr, OnOk};
 ghost use Rattle.std.specs.List.{position_or_len};
 ghost use Rattle.std.specs.Option.{option_copied};
 ghost use Rattle.catalog.specs.Relation.{catalogue_of};
 ghost use Rattle.protocol.specs.Letters.{leaf_of};
 ghost use Rattle.desk.specs.Place.{home_in, site_in};
-ghost use Rattle.desk.specs.Planned.{ask_from, unsent_by, unsent_from};
-ghost use Rattle.catalog.specs.FragmentLeaf.{catalogue_leaves, leaf_named};
+ghost use Rattle.desk.specs.Planned.{IsOfPlan, ask_from, unsent_by, unsent_from};
+ghost use Rattle.catalog.specs.FragmentLeaf.{catalogue_leaves, leaf_named, schemas_of};
+ghost use Rattle.meaning.specs.Statement.{IsStatementOf};
+ghost use Rattle.desk.specs.Database.{Database, IsStated};
+ghost use Rattle.desk.specs.OfCatalogue.{InForce, IsOfCatalogue};
 ghost use Rattle.desk.specs.Fetches.{are_in_with, awaits, fetched_with, fits_leaf, has_rows_with, with_rows};
 
-use crate::transaction::Unsent;
+use crate::transaction::{Planned, Unsent};
 use answers::moves::Move;
 use answers::table::{FetchRows, are_parts};
 use catalog::catalogue::Catalog;
+use meaning::statement::Statement;
 use plan::fetch::Fetch;
 use std::alloc::Global;
 use store::reply::Rows;
@@ -27,7 +31,7 @@ use terms::text::Text;
 use terms::write::Write;
 
 /// A fetch of a statement.
-#[derive(Debug, Drop)]
+#[derive(Drop)]
 pub(crate) struct Ask {
     pub(crate) leaf: Leaf,
     /// The site of the leaf.
@@ -37,28 +41,6 @@ pub(crate) struct Ask {
     pub(crate) number: Option<u64>,
     /// The parts that came.
     pub(crate) rows: Option<Seq<Part>>,
-}
-
-impl TryCopy for Ask {
-    fn copy(&self) -> Result<Ask, Memory> {
-        Ok(Ask {
-            leaf: self.leaf.copy()?,
-            site: self.site.copy()?,
-            conds: self.conds.copy()?,
-            number: self.number,
-            rows: copy_rows(&self.rows)?,
-        })
-    }
-}
-
-/// Rows that may have come, once more.
-fn copy_rows(rows: &Option<Seq<Part>>) -> Result<Option<Seq<Part>>, Memory>
-    ensures { IfOk result (λ copy. copy ≡ rows.now) }
-{
-    match rows {
-        Some(rows) => Ok(Some(rows.copy()?)),
-        None => Ok(None),
-    }
 }
 
 /// The site of a leaf, if the catalogue has the leaf.
@@ -80,11 +62,7 @@ fn home_in(alloc: Global, catalog: &Catalog, leaf: &Leaf) -> Result<Text, Memory
 }
 
 /// The fetches of a plan, of which none is sent yet.
-pub(crate) fn asks_of(
-    alloc: Global,
-    catalog: &Catalog,
-    fetches: &[Fetch],
-) -> Result<Vec<Ask>, Memory>
+fn asks_of(alloc: Global, catalog: &Catalog, fetches: &[Fetch]) -> Result<Vec<Ask>, Memory>
     ensures { IfOk result (λ asks. asks.items ≡ map (ask_from (catalogue_of catalog.now)) fetches.now) }
 {
     let mut asks = Vec::new(alloc);
@@ -98,6 +76,29 @@ pub(crate) fn asks_of(
         })?;
     }
     Ok(asks)
+}
+
+/// The plan of a statement, and its fetches, of which none is sent yet.
+#[derive(Drop)]
+pub(crate) struct Ready {
+    pub(crate) plan: Planned,
+    pub(crate) asks: Vec<Ask>,
+}
+
+/// What a statement of the catalogue's schema begins with.
+pub(crate) fn ready_for(
+    alloc: Global,
+    catalog: &Catalog,
+    statement: &Statement,
+) -> Result<Ready, Memory>
+    requires { IsStatementOf (schemas_of (catalogue_of catalog.now)) statement.now }
+    ensures of_plan { (db : Database) (n : ℕ) → IsOfCatalogue db → InForce db n catalog.now → IsStated db n statement.now
+        → IfOk result (λ ready. IsOfPlan db n statement.now ready.plan ready.asks.items) }
+    ensures asks { IfOk result (λ ready. ready.asks.items ≡ map (ask_from (catalogue_of catalog.now)) ready.plan.fetches) }
+{
+    let plan = Planned::new(alloc, catalog, statement)?;
+    let asks = asks_of(alloc, catalog, plan.fetches())?;
+    Ok(Ready { plan, asks })
 }
 
 /// The leaf of a write.

@@ -8,12 +8,12 @@ ghost use Rattle.desk.specs.Participants.{changed_at, is_at, is_in, is_in_beside
 use std::alloc::Global;
 use store::name::Ticket;
 use store::reply::Vote;
-use terms::copy::TryCopy;
+use terms::copy::{TryCopy, copy_all};
 use terms::memory::Memory;
 use terms::text::Text;
 
 /// What a transaction has to do with one site.
-#[derive(Debug, Drop)]
+#[derive(Drop)]
 pub(crate) struct Participant {
     pub(crate) site: Text,
     /// The first ticket that came.
@@ -103,17 +103,6 @@ pub(crate) fn set_vote(participants: &mut [Participant], site: &Text, vote: Vote
     set_vote(rest, site, vote);
 }
 
-/// A participant, with the vote counted if it is that of the site.
-fn voted(participant: &Participant, site: &Text, vote: Vote) -> Result<Participant, Memory>
-    ensures { IfOk result (λ other. other ≡ changed_at site.now (with_vote (Some vote)) participant.now) }
-{
-    let mut other = participant.copy()?;
-    if is_at(participant, site) {
-        other.vote = Some(vote);
-    }
-    Ok(other)
-}
-
 /// Participants, with the vote of one site counted.
 pub(crate) fn with_vote(
     alloc: Global,
@@ -123,10 +112,8 @@ pub(crate) fn with_vote(
 ) -> Result<Vec<Participant>, Memory>
     ensures { IfOk result (λ others. others.items ≡ map (changed_at site.now (with_vote (Some vote))) participants.now) }
 {
-    let mut others = Vec::new(alloc);
-    for participant in participants {
-        others.push(voted(participant, site, vote)?)?;
-    }
+    let mut others = copy_all(alloc, participants)?;
+    set_vote(others.as_mut_slice(), site, vote);
     Ok(others)
 }
 
@@ -146,22 +133,17 @@ pub(crate) fn without_votes(
     Ok(others)
 }
 
-/// A participant, with the ticket if it is that of the site.
-fn ticketed(participant: &Participant, site: &Text, ticket: Ticket) -> Result<Participant, Memory>
-    ensures { IfOk result (λ other. other ≡ changed_at site.now (with_ticket (Some ticket)) participant.now) }
+/// The ticket of a site has come.
+fn set_ticket(participants: &mut [Participant], site: &Text, ticket: Ticket)
+    ensures { participants.new ≡ map (changed_at site.now (with_ticket (Some ticket))) participants.old }
 {
-    let first = if is_at(participant, site) {
-        Some(ticket)
-    } else {
-        participant.ticket
+    let Some((participant, rest)) = participants.split_first_mut() else {
+        return;
     };
-    Ok(Participant {
-        site: participant.site.copy()?,
-        visited: participant.visited,
-        ticket: first,
-        sent: participant.sent,
-        vote: participant.vote,
-    })
+    if is_at(participant, site) {
+        participant.ticket = Some(ticket);
+    }
+    set_ticket(rest, site, ticket);
 }
 
 /// Participants, with the ticket of one site.
@@ -173,9 +155,7 @@ pub(crate) fn with_ticket(
 ) -> Result<Vec<Participant>, Memory>
     ensures { IfOk result (λ others. others.items ≡ map (changed_at site.now (with_ticket (Some ticket))) participants.now) }
 {
-    let mut others = Vec::with_capacity(alloc, participants.len())?;
-    for participant in participants {
-        others.push(ticketed(participant, site, ticket)?)?;
-    }
+    let mut others = copy_all(alloc, participants)?;
+    set_ticket(others.as_mut_slice(), site, ticket);
     Ok(others)
 }

@@ -1,6 +1,6 @@
 //! An incarnation of the coordinator begins.
 
-ghost use Rattle.std.specs.Prelude.{◌≡◌, [], map, Err, IfOk, IfErr, OnOk};
+ghost use Rattle.std.specs.Prelude.{◌≡◌, ◌⊎◌, ◌+◌, ◌^◌, ◌≤◌, ◌<◌, true, false, [], map, Err, IfOk, IfErr, OnOk};
 ghost use Rattle.std.specs.BTreeMap.{IsOrdered};
 ghost use Rattle.std.specs.List.{find};
 ghost use Rattle.std.specs.Option.{option_copied};
@@ -21,7 +21,7 @@ use crate::transaction::{Committed, TxnState, TxnStates};
 use crate::volatile::{LAST, Volatile, add};
 use std::alloc::Global;
 use std::collections::BTreeMap;
-use store::commit::{CommitRow, Voter};
+use store::commit::{CommitRow, DeskKept, Voter};
 use store::desk_store::DeskStore;
 use store::fault::StoreFault;
 use store::letter::Letter;
@@ -165,6 +165,37 @@ pub(crate) fn lost(volatile: &Volatile) -> Result<Vec<Notice>, Memory>
     Ok(notices)
 }
 
+/// What stands by all that a store keeps, and a Commit to each of its voters, before the next life begins. Full where there is no
+/// next life, and damage where the rows can be no coordinator's of these sites.
+fn stands_by(alloc: Global, sites: &[Text], all: &DeskKept) -> Result<Beginning, Refusal>
+    ensures standings { IfOk result (λ begun. begun.standings.entries ≡ stood_by (map (row_in_order sites.now) all.now.commits) []) }
+    ensures letters { IfOk result (λ begun. begun.letters.items ≡ commits_again (map (row_in_order sites.now) all.now.commits)) }
+    ensures version { IfOk result (λ begun. begun.version ≡ all.now.version) }
+    ensures ordered { IfOk result (λ begun. IsOrdered txn_cmp begun.standings) }
+    ensures below { OnOk result (all.now.life + 1 < 2 ^ 63) }
+    ensures may_stand { OnOk result (may_stand all.now.life sites.now all.now.commits ≡ true) }
+    ensures full { result ≡ Err refusals.Full → 2 ^ 63 ≤ all.now.life + 1 }
+    ensures damaged { result ≡ Err (refusals.Store store_faults.Damaged) → may_stand all.now.life sites.now all.now.commits ≡ false }
+    ensures own { IfErr result (λ told. (told ≡ refusals.Memory) ⊎ (told ≡ refusals.Full) ⊎ (told ≡ refusals.Store store_faults.Damaged)) }
+{
+    if all.life >= LAST {
+        return Err(Refusal::Full);
+    }
+    let commits = all.commits.as_slice();
+    if !may_stand(all.life, sites, commits) {
+        return Err(Refusal::Store(StoreFault::Damaged));
+    }
+    let rows = rows_in_order(alloc, sites, commits)?;
+    let standings = rest(alloc, &rows)?;
+    let letters = commits_again(alloc, &rows)?;
+    Ok(Beginning {
+        standings,
+        letters,
+        life: all.life,
+        version: all.version,
+    })
+}
+
 /// Loads what the store keeps, and begins the next life over these sites. On a refusal nothing has changed.
 pub(crate) fn begin<S: DeskStore>(
     store: &mut S,
@@ -181,22 +212,9 @@ pub(crate) fn begin<S: DeskStore>(
         Ok(all) => all,
         Err(fault) => return Err(store_refusal(fault)),
     };
-    if all.life >= LAST {
-        return Err(Refusal::Full);
-    }
-    if !may_stand(all.life, sites, all.commits.as_slice()) {
-        return Err(Refusal::Store(StoreFault::Damaged));
-    }
-    let rows = rows_in_order(alloc, sites, all.commits.as_slice())?;
-    let standings = rest(alloc, &rows)?;
-    let letters = commits_again(alloc, &rows)?;
+    let begun = stands_by(alloc, sites, &all)?;
     match store.next_incarnation() {
-        Ok(life) => Ok(Beginning {
-            standings,
-            letters,
-            life,
-            version: all.version,
-        }),
+        Ok(life) => Ok(Beginning { life, ..begun }),
         Err(fault) => Err(store_refusal(fault)),
     }
 }

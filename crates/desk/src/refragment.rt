@@ -1,6 +1,6 @@
 //! A relation gets the split that the next catalogue has for it: a transaction of its own, with one statement.
 
-ghost use Rattle.std.specs.Prelude.{◌≡◌, ◌≢◌, ◌⊎◌, ℕ, List, [], None, Some, true, false, IfOk, IfErr, OnOk, Err};
+ghost use Rattle.std.specs.Prelude.{◌≡◌, ◌≢◌, ◌⊎◌, ℕ, nat_eq, length, map, List, [], None, Some, true, false, IfOk, IfErr, OnOk, Err};
 ghost use Rattle.std.specs.Option.{option_copied};
 ghost use Rattle.meaning.specs.Statement.{IsStatementOf};
 ghost use Rattle.meaning.specs.declared.statement.Statement.TheVariants as statements;
@@ -19,6 +19,7 @@ ghost use Rattle.catalog.specs.declared.relation.SplitRelation.{SplitRelation as
 ghost use Rattle.desk.specs.Database.{Database, IsStated};
 ghost use Rattle.desk.specs.Does.{Does};
 ghost use Rattle.desk.specs.Frame.{StepsInMemory};
+ghost use Rattle.desk.specs.Planned.{IsOfPlan, ask_from};
 ghost use Rattle.desk.specs.Send.{AreShort};
 ghost use Rattle.desk.specs.Transaction.{undecided_of};
 ghost use Rattle.desk.specs.Transition.{AreParticipants};
@@ -26,12 +27,12 @@ ghost use Rattle.desk.specs.OfCatalogue.{InForce, IsNextOf, IsOfCatalogue};
 ghost use Rattle.desk.specs.Refragmented.{IsNoNext, IsNoRefragment, Refragments, is_refragment_command};
 ghost use Rattle.desk.specs.State.{Fits, desk_of, volatile_of};
 
-use crate::fetches::asks_of;
+use crate::fetches::{Ready, ready_for};
 use crate::refusal::Refusal;
 use crate::reply::Out;
 use crate::request::{nowhere_yet, out_of_begin, reader_refusal};
 use crate::statement::{Progress, reads};
-use crate::transaction::{Planned, TxnState, Undecided};
+use crate::transaction::{TxnState, Undecided};
 use crate::transition::room;
 use crate::volatile::{Volatile, begun};
 use catalog::catalogue::Catalog;
@@ -87,6 +88,22 @@ fn is_next(catalog: &Catalog, next: Option<&Catalog>, relation: &Text) -> bool
     }
 }
 
+/// What a statement that reads begins with.
+fn ready_to_read(alloc: Global, catalog: &Catalog, statement: &Statement) -> Result<Ready, Memory>
+    requires { IsStatementOf (schemas_of (catalogue_of catalog.now)) statement.now }
+    ensures of_plan { (db : Database) (n : ℕ) → IsOfCatalogue db → InForce db n catalog.now → IsStated db n statement.now
+        → IfOk result (λ ready. IsOfPlan db n statement.now ready.plan ready.asks.items) }
+    ensures asks { IfOk result (λ ready. ready.asks.items ≡ map (ask_from (catalogue_of catalog.now)) ready.plan.fetches) }
+    ensures some { IfOk result (λ ready. nat_eq (length ready.asks.items) 0 ≡ false) }
+{
+    let ready = ready_for(alloc, catalog, statement)?;
+    // Each relation has a leaf, so nothing is turned away here.
+    if ready.asks.is_empty() {
+        return Err(Memory);
+    }
+    Ok(ready)
+}
+
 /// The statement of a transaction that has just begun reads. No site has given a ticket yet, so nothing but Opens goes out,
 /// and no limit is passed.
 fn start(
@@ -105,12 +122,8 @@ fn start(
     ensures quiet { IfOk result (λ step. step.replies.items ≡ []) }
 {
     leaf_names_are_unique();
-    let plan = Planned::new(alloc, catalog, &statement)?;
-    let asks = asks_of(alloc, catalog, plan.fetches())?;
-    // Each relation has a leaf, so nothing is turned away here.
-    if asks.is_empty() {
-        return Err(Memory);
-    }
+    let ready = ready_to_read(alloc, catalog, &statement)?;
+    let Ready { plan, asks } = ready;
     match reads(alloc, txn, undecided, statement, plan, asks, version) {
         Ok(step) => Ok(step),
         Err(_) => Err(Memory),
@@ -146,8 +159,8 @@ pub(crate) fn call_refragment(
     }
     let room = room(alloc)?;
     let participants = nowhere_yet(alloc, catalog.sites())?;
-    let mut undecided = begun(participants, true);
     let copy = refragment.copy()?;
+    let mut undecided = begun(participants, true);
     let statement = Statement::Refragment(copy);
     let step = start(
         alloc,
@@ -157,6 +170,6 @@ pub(crate) fn call_refragment(
         statement,
         volatile.version,
     )?;
-    let txn = volatile.begin(TxnState::Undecided(undecided))?;
+    volatile.begin(txn, TxnState::Undecided(undecided))?;
     Ok(out_of_begin(room, txn, step.letters))
 }

@@ -56,25 +56,32 @@ impl Refusal {
             Refusal::Chain => 11,
         }
     }
+
+    /// The refusal's name.
+    fn name(self) -> &'static str
+        ensures { result.now ≡ refusal_name self }
+    {
+        match self {
+            Refusal::NoTransaction => "NoTransaction",
+            Refusal::Busy => "Busy",
+            Refusal::Ended => "Ended",
+            Refusal::Full => "Full",
+            Refusal::Read(_) => "Read",
+            Refusal::Aborted(_) => "Aborted",
+            Refusal::Memory => "Memory",
+            Refusal::Store(_) => "Store",
+            Refusal::NotAlone => "NotAlone",
+            Refusal::NoNext => "NoNext",
+            Refusal::Chain => "Chain",
+        }
+    }
 }
 
 impl fmt::Display for Refusal {
     ghost output = { λ refusal. Some (refusal_name refusal) };
 
     fn fmt<W: fmt::Write>(&self, f: &mut fmt::Formatter<W>) -> fmt::Result {
-        match self {
-            Refusal::NoTransaction => f.write_str("NoTransaction"),
-            Refusal::Busy => f.write_str("Busy"),
-            Refusal::Ended => f.write_str("Ended"),
-            Refusal::Full => f.write_str("Full"),
-            Refusal::Read(_) => f.write_str("Read"),
-            Refusal::Aborted(_) => f.write_str("Aborted"),
-            Refusal::Memory => f.write_str("Memory"),
-            Refusal::Store(_) => f.write_str("Store"),
-            Refusal::NotAlone => f.write_str("NotAlone"),
-            Refusal::NoNext => f.write_str("NoNext"),
-            Refusal::Chain => f.write_str("Chain"),
-        }
+        f.write_str(self.name())
     }
 }
 

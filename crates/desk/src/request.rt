@@ -36,7 +36,7 @@ ghost use Rattle.desk.specs.Transaction.{undecided_of};
 
 use crate::abort::{give_up, is_voting, roll_back};
 use crate::commit::commit;
-use crate::fetches::{Ask, asks_of};
+use crate::fetches::{Ask, Ready, ready_for};
 use crate::participant::Participant;
 use crate::refusal::Refusal;
 use crate::reply::{Notice, Out, Reply};
@@ -88,14 +88,12 @@ pub(crate) fn call_begin(volatile: &mut Volatile, sites: &[Text]) -> Result<Out,
 {
     let room = room(volatile.alloc)?;
     let participants = nowhere_yet(volatile.alloc, sites)?;
-    volatile.next()?;
+    let txn = volatile.next()?;
     if volatile.moves() {
         return Err(Refusal::NotAlone);
     }
-    match volatile.begin(TxnState::Undecided(begun(participants, false))) {
-        Ok(txn) => Ok(out_of_begin(room, txn, Vec::new(volatile.alloc))),
-        Err(refusal) => Err(refusal),
-    }
+    volatile.begin(txn, TxnState::Undecided(begun(participants, false)))?;
+    Ok(out_of_begin(room, txn, Vec::new(volatile.alloc)))
 }
 
 /// A transaction's client hears that it has begun, and these letters go out. There is room for its reply.
@@ -418,6 +416,32 @@ pub(crate) fn put_out(step: Progress) -> Out
     }
 }
 
+/// What a statement begins with, where its transaction may state it. A REFRAGMENT it may not.
+fn ready_to_run(
+    volatile: &Volatile,
+    catalog: &Catalog,
+    txn: &Txn,
+    statement: &Statement,
+) -> Result<Ready, Refusal>
+    requires { IsStatementOf (schemas_of (catalogue_of catalog.now)) statement.now }
+    ensures of_plan { (db : Database) → IsOfCatalogue db → InForce db volatile.now.version catalog.now
+        → IfOk result (λ ready. IsOfPlan db volatile.now.version statement.now ready.plan ready.asks.items) }
+    ensures asks { IfOk result (λ ready. ready.asks.items ≡ map (ask_from (catalogue_of catalog.now)) ready.plan.fetches) }
+    ensures accepted { (db : Database) (other : StatementNow) → OnOk result (refusal (State (volatile.now.version, other)) (txn_in db (volatile_of volatile.now) txn.now) ≡ None) }
+    ensures still { OnOk result (is_moving ((volatile_of volatile.now).standing txn.now) ≡ false) }
+    ensures idle { OnOk result (option_map (λ found. found.stage) (open_in ((volatile_of volatile.now).standing txn.now)) ≡ Some stages.Idle) }
+    ensures ordinary { OnOk result (is_refragment statement.now ≡ false) }
+    ensures told { (db : Database) → IfErr result (λ told. (told ≡ refusals.Memory) ⊎ WhyNotStated db (volatile_of volatile.now) txn.now statement.now told
+        ⊎ ((refusal (State (volatile.now.version, statement.now)) (txn_in db (volatile_of volatile.now) txn.now) ≡ None) × ((is_refragment statement.now ≡ true) × (told ≡ refusals.Busy)))) }
+    ensures own { result ≢ Err refusals.Full }
+{
+    may_state(volatile, txn)?;
+    if statement.is_refragment() {
+        return Err(Refusal::Busy);
+    }
+    Ok(ready_for(volatile.alloc, catalog, statement)?)
+}
+
 /// A statement of a transaction.
 pub(crate) fn call_run(
     volatile: &mut Volatile,
@@ -434,13 +458,8 @@ pub(crate) fn call_run(
     ensures full { (db : Database) (kept : DeskContent) → IsOfCatalogue db → InForce db volatile.old.version catalog.now → Fits db kept (volatile_of volatile.old) → result ≡ Err refusals.Full
         → RunsPastLimits db (volatile_of volatile.old) txn statement }
 {
-    may_state(volatile, &txn)?;
-    if statement.is_refragment() {
-        return Err(Refusal::Busy);
-    }
-    let plan = Planned::new(volatile.alloc, catalog, &statement)?;
-    let asks = asks_of(volatile.alloc, catalog, plan.fetches())?;
-    match start(volatile, catalog, txn, statement, plan, asks) {
+    let ready = ready_to_run(volatile, catalog, &txn, &statement)?;
+    match start(volatile, catalog, txn, statement, ready.plan, ready.asks) {
         Ok(step) => Ok(put_out(step)),
         Err(refusal) => Err(limit_or_memory(refusal)),
     }

@@ -8,7 +8,7 @@ ghost use Rattle.std.specs.Cmp.Lexicographic.{pointwise};
 ghost use Rattle.std.specs.List.{list_any, position_or_len};
 ghost use Rattle.desk.specs.Opening.{is_new, opens, opens_if, visited_if, visits};
 ghost use Rattle.desk.specs.Statement.{ask_sites, write_sites};
-ghost use Rattle.desk.specs.Orders.{is_for, broadcast_letters, may_hold, order_at, order_of};
+ghost use Rattle.desk.specs.Orders.{is_for, broadcast_letters, may_hold, order_at, order_of, ordered};
 
 use crate::fetches::Ask;
 use crate::participant::{Participant, find_participant, is_at};
@@ -73,6 +73,24 @@ fn next_number(participants: &[Participant], site: &Text) -> Option<u64>
     }
 }
 
+/// One letter more: an order to a site.
+#[inline(always)]
+pub(crate) fn put_order(
+    letters: &mut Vec<Letter>,
+    txn: Txn,
+    site: &Text,
+    order: Order,
+) -> Result<(), Memory>
+    ensures { OnOk result (letters.new.items ≡ letters.old.items ++ ordered txn site.now order ∷ []) }
+{
+    letters.push(Letter {
+        site: site.copy()?,
+        txn,
+        body: Body::Order(order),
+    })?;
+    Ok(())
+}
+
 /// The number of a fetch: a new one where it goes out now.
 #[inline(always)]
 fn ask_out(
@@ -96,16 +114,13 @@ fn ask_out(
     let Some(number) = next_number(participants, &ask.site) else {
         return Err(Refusal::Full);
     };
-    letters.push(Letter {
-        site: ask.site.copy()?,
-        txn,
-        body: Body::Order(Order::Fetch(Fetch {
-            ticket,
-            op: number,
-            leaf: ask.leaf.copy()?,
-            conds: ask.conds.copy()?,
-        })),
-    })?;
+    let fetch = Fetch {
+        ticket,
+        op: number,
+        leaf: ask.leaf.copy()?,
+        conds: ask.conds.copy()?,
+    };
+    put_order(letters, txn, &ask.site, Order::Fetch(fetch))?;
     set_sent(participants, &ask.site, number);
     Ok(Some(number))
 }
@@ -175,15 +190,12 @@ fn write_out(
     let Some(number) = next_number(participants, &unsent.site) else {
         return Err(Refusal::Full);
     };
-    letters.push(Letter {
-        site: unsent.site.copy()?,
-        txn,
-        body: Body::Order(Order::Intend(Intention {
-            ticket,
-            op: number,
-            write: unsent.write.copy()?,
-        })),
-    })?;
+    let intention = Intention {
+        ticket,
+        op: number,
+        write: unsent.write.copy()?,
+    };
+    put_order(letters, txn, &unsent.site, Order::Intend(intention))?;
     set_sent(participants, &unsent.site, number);
     Ok(())
 }
@@ -208,7 +220,7 @@ pub(crate) fn writes_out(
 }
 
 /// Letters that go out, and the participants after it.
-#[derive(Debug, Drop)]
+#[derive(Drop)]
 pub(crate) struct SentOut {
     pub(crate) participants: Vec<Participant>,
     pub(crate) letters: Vec<Letter>,
@@ -348,12 +360,7 @@ fn visit(
     if !is_new {
         return Ok(());
     }
-    going.letters.push(Letter {
-        site: participant.site.copy()?,
-        txn,
-        body: Body::Order(Order::Open),
-    })?;
-    Ok(())
+    put_order(&mut going.letters, txn, &participant.site, Order::Open)
 }
 
 /// The Opens to those sites of fetches that aren't visited yet, in the order of the sites, and the participants after them.
@@ -393,7 +400,7 @@ pub(crate) fn open_for_writes(
 }
 
 /// What is said to the sites of a transaction.
-#[derive(Clone, Copy, Debug)]
+#[derive(Clone, Copy)]
 pub(crate) enum Broadcast {
     /// The first phase begins.
     Prepare,
@@ -465,11 +472,7 @@ pub(crate) fn broadcast_letters(
     let mut letters = Vec::new(alloc);
     for participant in participants {
         if let Some(order) = order_at(word, participant) {
-            letters.push(Letter {
-                site: participant.site.copy()?,
-                txn,
-                body: Body::Order(order),
-            })?;
+            put_order(&mut letters, txn, &participant.site, order)?;
         }
     }
     Ok(letters)

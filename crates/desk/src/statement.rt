@@ -65,6 +65,7 @@ use meaning::statement::{Refragment, Statement};
 use plan::fetch::Fetch;
 use plan::postfix::Node;
 use std::alloc::Global;
+use std::mem;
 use store::letter::Letter;
 use store::name::{Ticket, Txn};
 use store::reply::Rows;
@@ -116,7 +117,7 @@ fn reading(undecided: &mut Undecided, participants: Vec<Participant>, reading: R
     ensures moves { undecided.new.moves ≡ undecided.old.moves }
 {
     undecided.participants = Seq::new(participants);
-    undecided.stage = Stage::Reading(reading);
+    stands(&mut undecided.stage, Stage::Reading(reading));
 }
 
 /// A statement that has fetches begins. The transaction is idle.
@@ -153,7 +154,7 @@ pub(crate) fn reads(
 }
 
 /// What a step of a statement brings about: the letters put out, and what its client hears.
-#[derive(Debug, Drop)]
+#[derive(Drop)]
 pub(crate) struct Progress {
     pub(crate) letters: Vec<Letter>,
     pub(crate) replies: Vec<Notice>,
@@ -214,11 +215,11 @@ fn writing_goes(
     Ok(Progress { letters, replies })
 }
 
-/// The statement is done.
-fn idles(stage: &mut Stage)
-    ensures { stage.new ≡ stages.Idle }
+/// A transaction stands here from now on.
+fn stands(stage: &mut Stage, next: Stage)
+    ensures { stage.new ≡ next }
 {
-    *stage = Stage::Idle;
+    drop(mem::replace(stage, next));
 }
 
 /// What waits for tickets goes out where they have come. With the last write the statement is answered.
@@ -245,7 +246,7 @@ fn stage_goes(
         Stage::Writing(writing) => {
             let step = writing_goes(alloc, txn, participants, writing)?;
             if writing.unsent.is_empty() {
-                idles(stage);
+                stands(stage, Stage::Idle);
             }
             Ok(step)
         }
@@ -280,7 +281,7 @@ pub(crate) fn ticket_goes(
 }
 
 /// What a statement answers, and its writes with their sites.
-#[derive(Debug, Drop)]
+#[derive(Drop)]
 pub(crate) struct Worked {
     pub(crate) answer: Answer,
     pub(crate) unsent: Vec<Unsent>,
@@ -425,13 +426,14 @@ fn put_writes(
 {
     if waiting.is_empty() {
         let replies = heard(alloc, txn, Reply::Answer(answer))?;
-        idles(stage);
+        stands(stage, Stage::Idle);
         return Ok(replies);
     }
-    *stage = Stage::Writing(Writing {
+    let writing = Writing {
         answer,
         unsent: waiting,
-    });
+    };
+    stands(stage, Stage::Writing(writing));
     Ok(Vec::new(alloc))
 }
 

@@ -30,7 +30,7 @@ use terms::text::Text;
 use terms::write::Write;
 
 /// A statement whose fetches were sent, or wait for a ticket.
-#[derive(Debug, Drop)]
+#[derive(Drop)]
 pub(crate) struct Reading {
     /// The number of the catalogue that the statement was made for.
     pub(crate) version: u64,
@@ -40,21 +40,21 @@ pub(crate) struct Reading {
 }
 
 /// A write that waits for a ticket of its leaf's site.
-#[derive(Debug, Drop)]
+#[derive(Drop)]
 pub(crate) struct Unsent {
     pub(crate) write: Write,
     pub(crate) site: Text,
 }
 
 /// A statement's answer, and those of its writes that wait for a ticket.
-#[derive(Debug, Drop)]
+#[derive(Drop)]
 pub(crate) struct Writing {
     pub(crate) answer: Answer,
     pub(crate) unsent: Vec<Unsent>,
 }
 
 /// Where a transaction stands.
-#[derive(Debug, Drop)]
+#[derive(Drop)]
 pub(crate) enum Stage {
     /// Between statements.
     Idle,
@@ -67,7 +67,7 @@ pub(crate) enum Stage {
 }
 
 /// A transaction that isn't decided: its sites in the catalogue's order, and where it stands.
-#[derive(Debug, Drop)]
+#[derive(Drop)]
 pub(crate) struct Undecided {
     pub(crate) participants: Seq<Participant>,
     pub(crate) stage: Stage,
@@ -77,7 +77,7 @@ pub(crate) struct Undecided {
 
 /// A reduced plan, as the list of its nodes, and its fetches. It reads its fetches alone, and both sides of each of its
 /// unions have the same columns.
-#[derive(Debug, Drop)]
+#[derive(Drop)]
 pub(crate) struct Planned {
     nodes: Vec<Node>,
     fetches: Vec<Fetch>,
@@ -130,14 +130,14 @@ impl Planned {
 }
 
 /// A transaction with a commit row, and the acknowledgements in the order in which they came.
-#[derive(Debug, Drop)]
+#[derive(Drop)]
 pub(crate) struct Committed {
     pub(crate) voters: Seq<Voter>,
     pub(crate) acked: Seq<Voter>,
 }
 
 /// What stands behind a transaction that isn't unknown.
-#[derive(Debug, Drop)]
+#[derive(Drop)]
 pub(crate) enum TxnState {
     /// It isn't decided.
     Undecided(Undecided),

@@ -16,19 +16,19 @@ ghost use Rattle.desk.specs.Request.{notices};
 ghost use Rattle.desk.specs.State.{closes, is_open, settled, volatile_from, volatile_of};
 
 use crate::reply::{Notice, Out, Reply};
+use crate::send::put_order;
 use crate::transaction::TxnState;
 use crate::volatile::Volatile;
 use std::alloc::Global;
-use store::letter::{Body, Letter};
+use store::letter::Letter;
 use store::name::Txn;
 use store::order::Order;
-use terms::copy::TryCopy;
 use terms::memory::Memory;
 use terms::seq::Seq;
 use terms::text::Text;
 
 /// What stands behind a transaction after a step.
-#[derive(Debug, Drop)]
+#[derive(Drop)]
 pub(crate) enum After {
     /// What stood there.
     Stays,
@@ -39,7 +39,7 @@ pub(crate) enum After {
 }
 
 /// What a step makes of a transaction, the letters put out, and what its client hears.
-#[derive(Debug, Drop)]
+#[derive(Drop)]
 pub(crate) struct Transition {
     pub(crate) after: After,
     pub(crate) letters: Vec<Letter>,
@@ -89,11 +89,7 @@ pub(crate) fn tells(
     ensures leaves { LeavesStanding result }
 {
     let mut letters = Vec::new(alloc);
-    letters.push(Letter {
-        site: site.copy()?,
-        txn,
-        body: Body::Order(order),
-    })?;
+    put_order(&mut letters, txn, site, order)?;
     Ok(Transition {
         after: After::Stays,
         letters,

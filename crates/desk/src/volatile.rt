@@ -24,6 +24,7 @@ use crate::transaction::{Stage, TxnState, TxnStates, Undecided};
 use crate::transition::After;
 use std::alloc::Global;
 use std::collections::BTreeMap;
+use std::mem;
 use store::name::Txn;
 use store::reply::Vote;
 use terms::seq::Seq;
@@ -85,8 +86,9 @@ fn put(standings: &mut TxnStates, txn: &Txn, standing: TxnState)
     ensures { (now : TxnStateNow) → tree.get txn_cmp standings.old txn.now ≡ Some now
         → standings.new.entries ≡ set_value (is_at (txn_cmp txn.now)) standings.old.entries standing }
 {
-    if let Some(old) = standings.get_mut(txn) {
-        *old = standing;
+    match standings.get_mut(txn) {
+        Some(old) => drop(mem::replace(old, standing)),
+        None => drop(standing),
     }
 }
 
@@ -98,7 +100,7 @@ pub(crate) fn add(standings: &mut TxnStates, txn: Txn, standing: TxnState) -> Re
     ensures refusal { IfErr result (λ refusal. refusal ≡ refusals.Memory) }
 {
     let _count = standings.len();
-    let _old = standings.insert(txn, standing)?;
+    drop(standings.insert(txn, standing)?);
     Ok(())
 }
 
@@ -108,7 +110,7 @@ fn forget(standings: &mut TxnStates, txn: &Txn)
     ensures ordered { IsOrdered txn_cmp standings.old }
 {
     let _count = standings.len();
-    let _gone = standings.remove(txn);
+    drop(standings.remove(txn));
 }
 
 /// A vote is counted of an undecided transaction.
@@ -155,22 +157,21 @@ impl Volatile {
         })
     }
 
-    /// A transaction begins, and this stands behind it: it is the next one of this life.
-    pub(crate) fn begin(&mut self, standing: TxnState) -> Result<Txn, Refusal>
-        ensures txn { IfOk result (λ txn. txn ≡ next_of (volatile_of self.old)) }
+    /// The next transaction of this life begins, and this stands behind it. The limits allow one more.
+    pub(crate) fn begin(&mut self, txn: Txn, standing: TxnState) -> Result<(), Refusal>
+        requires txn { txn ≡ next_of (volatile_of self.old) }
+        requires few { self.old.undecided + 1 ≤ 256 }
+        requires low { self.old.number + 2 ≤ 2 ^ 63 }
         ensures ok { OnOk result (volatile_of self.new ≡ volatile_from (insert_entry txn_cmp self.old.standings.entries (next_of (volatile_of self.old)) standing) (self.old.undecided + 1) self.old.life (self.old.number + 1) self.old.version) }
-        ensures few { OnOk result (self.old.undecided + 1 ≤ 256) }
-        ensures low { OnOk result (self.old.number + 2 ≤ 2 ^ 63) }
         ensures err { OnErr result (volatile_of self.new ≡ volatile_of self.old) }
         ensures ordered { IsOrdered txn_cmp self.old.standings }
-        ensures refusal { IfErr result (λ refusal. (refusal ≡ refusals.Memory) ⊎ ((refusal ≡ refusals.Full) × ((256 ≤ self.old.undecided) ⊎ (2 ^ 63 ≤ self.old.number + 1)))) }
+        ensures refusal { IfErr result (λ refusal. refusal ≡ refusals.Memory) }
     {
         let _count = self.standings.len();
-        let txn = self.next()?;
         add(&mut self.standings, txn, standing)?;
         self.undecided += 1;
         self.number += 1;
-        Ok(txn)
+        Ok(())
     }
 
     /// Whether nothing stands: no transaction is undecided, and there is no commit row.

@@ -9,6 +9,6 @@ use Rattle.desk.proofs.abort.ends.Goals as goal
 pub returns-clause-turn : goal.returns-clause-turn
 returns-clause-turn c = λ db old stage moves deed are is heard. record {
   stands = refl;
-  letters = ap (map (sent db)) (c.in_ok-broadcast_letters.ensures ∙ ap (λ w. broadcast_letters c.args.txn w c.args.participants.now) is) ∙ ends_letters db c.args.txn (record { participants = c.args.participants.now; stage = stage; moves = moves }) deed are;
+  letters = ap (map (sent db)) (c.in_ok-letters.ensures ∙ ap (λ w. broadcast_letters c.args.txn w c.args.participants.now) is) ∙ ends_letters db c.args.txn (record { participants = c.args.participants.now; stage = stage; moves = moves }) deed are;
   replies = sym (ap (λ o. cons_option o []) heard);
 }

@@ -6,7 +6,7 @@ use Rattle.desk.specs.Acknowledge.{AreInOrder}
 use Rattle.desk.specs.Database.{sent}
 use Rattle.desk.specs.Transition.{AtSites}
 use Rattle.desk.proofs.Acknowledged.{old_ack, one_ack, last_ack, lost_ack}
-use Rattle.desk.proofs.Called.{ack_calls}
+use Rattle.desk.proofs.Called.{ack_calls, no_call}
 use Rattle.desk.proofs.acknowledge.on_ack.Goals as goal
 
 pub returns-then-not-is_new-clause-turn : goal.returns-then-not-is_new-clause-turn
@@ -53,3 +53,18 @@ returns-clause-store g c = record {
 
 pub returns-then-not-is_done-clause-sites : goal.returns-then-not-is_done-clause-sites
 returns-then-not-is_done-clause-sites g c = λ sites order. subst (λ a. AtSites sites a) (sym c.becomes.ensures.after) (subst (λ (m : Committed). AreInOrder sites m.voters) (sym c.in_ok-more.ensures) order)
+
+pub returns-then-not-is_new-clause-store : goal.returns-then-not-is_new-clause-store
+returns-then-not-is_new-clause-store g c = no_call c.args.store.now _ c.stays.ensures.kept
+
+pub returns-then-not-is_done-clause-store : goal.returns-then-not-is_done-clause-store
+returns-then-not-is_done-clause-store g c = no_call c.args.store.now _ c.becomes.ensures.kept
+
+pub returns-in-Ok-clause-store : goal.returns-in-Ok-clause-store
+returns-in-Ok-clause-store g c = record {
+  leaves = c.drop_commit.ensures.leaves;
+  uncalled = λ unmade. (let made = c.if-not-kept.false in cc);
+  same = λ clean sound. tt;
+  called = λ unkept. (let no = unkept in cc);
+  refusal = λ unkept. (let no = unkept in cc);
+}

@@ -1,6 +1,7 @@
 -- Why `on_row` meets its contract.
 use Rattle.std.proofs.Common.{Some}
 use Rattle.desk.specs.declared.transaction.TxnState.TheVariants as standing
+use Rattle.desk.proofs.Called.{no_call}
 use Rattle.desk.proofs.acknowledge.on_row.Goals as goal
 
 pub returns-in-Ack-clause-turn : goal.returns-in-Ack-clause-turn
@@ -23,3 +24,18 @@ returns-in-Voted-clause-turn g c = λ db. rw c.in-Voted.is (c.stays-in-Voted.ens
 
 pub returns-in-Ack-clause-store : goal.returns-in-Ack-clause-store
 returns-in-Ack-clause-store g c = rw c.in-Ack.is c.on_ack.ensures.store
+
+pub returns-in-Inquire-clause-store : goal.returns-in-Inquire-clause-store
+returns-in-Inquire-clause-store g c = no_call c.args.store.now _ c.tells.ensures.leaves.kept
+
+pub returns-in-Ticket-clause-store : goal.returns-in-Ticket-clause-store
+returns-in-Ticket-clause-store g c = no_call c.args.store.now _ c.stays.ensures.kept
+
+pub returns-in-Rows-clause-store : goal.returns-in-Rows-clause-store
+returns-in-Rows-clause-store g c = no_call c.args.store.now _ c.stays-in-Rows.ensures.kept
+
+pub returns-in-Refused-clause-store : goal.returns-in-Refused-clause-store
+returns-in-Refused-clause-store g c = no_call c.args.store.now _ c.stays-in-Refused.ensures.kept
+
+pub returns-in-Voted-clause-store : goal.returns-in-Voted-clause-store
+returns-in-Voted-clause-store g c = no_call c.args.store.now _ c.stays-in-Voted.ensures.kept

@@ -21,13 +21,13 @@ at_row sites (v ∷ voters) order = order
 
 pub returns-then-not-kept-clause-turn : goal.returns-then-not-kept-clause-turn
 returns-then-not-kept-clause-turn g c = λ db old moves are some.
-    unkept_is db c.args.txn old (undecided_of db (voting moves c.args.participants.now)) c.args.voters.items some {E = Memory} (Ok c.in_ok-aborts.aborts) (c.in_ok-aborts.ensures.turn db old moves are) c.in_ok-aborts.ensures.kept
+    unkept_is db c.args.txn old (undecided_of db (voting moves c.args.participants.now)) c.args.voters.items some {E = Memory} (Ok c.unkept.result) (c.unkept.ensures.turn db c.args.txn old moves c.args.participants.now are c.in_ok-aborts.ensures) c.unkept.ensures.kept
 
 pub returns-then-not-kept-clause-keeps : goal.returns-then-not-kept-clause-keeps
 returns-then-not-kept-clause-keeps g c = λ old are clean sound none remembered.
     let kept = g.S.DeskStore.kept c.args.store.now in
     let here = Some (standing.Undecided old) in
-    ended_keeps c.args.txn here kept kept none (unchanged kept) {E = Memory} (Ok c.in_ok-aborts.aborts) c.in_ok-aborts.ensures.after (quiet_is here c.in_ok-aborts.aborts.reply (ap says_committed c.in_ok-aborts.ensures.reply))
+    ended_keeps c.args.txn here kept kept none (unchanged kept) {E = Memory} (Ok c.unkept.result) c.unkept.ensures.after (quiet_is here c.unkept.result.reply (ap says_committed c.unkept.ensures.reply))
 
 pub returns-in-Ok-clause-turn : goal.returns-in-Ok-clause-turn
 returns-in-Ok-clause-turn g c = λ db old moves are some.
@@ -43,13 +43,13 @@ returns-in-Ok-clause-keeps g c = λ old are clean sound none remembered.
 
 pub returns-clause-turn : goal.returns-clause-turn
 returns-clause-turn g c = λ db old moves are some.
-    unkept_is db c.args.txn old (undecided_of db (voting moves c.args.participants.now)) c.args.voters.items some {E = Memory} (Ok c.in_ok-aborts.aborts) (c.in_ok-aborts.ensures.turn db old moves are) c.in_ok-aborts.ensures.kept
+    unkept_is db c.args.txn old (undecided_of db (voting moves c.args.participants.now)) c.args.voters.items some {E = Memory} (Ok c.unkept-in-Err.result) (c.unkept-in-Err.ensures.turn db c.args.txn old moves c.args.participants.now are c.in_ok-aborts.ensures) c.unkept-in-Err.ensures.kept
 
 pub returns-clause-keeps : goal.returns-clause-keeps
 returns-clause-keeps g c = λ old are clean sound none remembered.
     let here = Some (standing.Undecided old) in
-    ended_keeps c.args.txn here (g.S.DeskStore.kept c.args.store.now) (g.S.DeskStore.kept c.keep_commit.new.self) none (c.in-Err.ensures.fails.err clean sound) {E = Memory} (Ok c.in_ok-aborts.aborts) c.in_ok-aborts.ensures.after
-    (quiet_is here c.in_ok-aborts.aborts.reply (ap says_committed c.in_ok-aborts.ensures.reply))
+    ended_keeps c.args.txn here (g.S.DeskStore.kept c.args.store.now) (g.S.DeskStore.kept c.keep_commit.new.self) none (c.in-Err.ensures.fails.err clean sound) {E = Memory} (Ok c.unkept-in-Err.result) c.unkept-in-Err.ensures.after
+    (quiet_is here c.unkept-in-Err.result.reply (ap says_committed c.unkept-in-Err.ensures.reply))
 
 pub returns-in-Ok-clause-sites : goal.returns-in-Ok-clause-sites
 returns-in-Ok-clause-sites g c = λ sites order. subst (AtSites sites) (sym c.committed.ensures.after) (at_row sites c.args.voters.items order)

@@ -9,7 +9,7 @@ use Rattle.desk.specs.declared.transaction.Stage.TheVariants.{Voting}
 use Rattle.desk.specs.Commit.{counts_vote}
 use Rattle.desk.specs.Participants.{changed_at, sites_of, with_vote}
 use Rattle.desk.proofs.Acknowledged.{keeps_same, turn_as, unchanged}
-use Rattle.desk.proofs.Called.{steps_as, vote_calls}
+use Rattle.desk.proofs.Called.{no_call, steps_as, vote_calls}
 use Rattle.desk.proofs.Counted.{at_same, copied_vote, no_turn, vote_lost, vote_turn, voted_are, voted_sites}
 use Rattle.desk.proofs.Decisions.{ended_keeps, votes_decide}
 use Rattle.desk.proofs.Reading.{reads}
@@ -120,3 +120,12 @@ returns-clause-store g c =
     vote_calls db u c.args.site.now c.args.voted.ticket c.args.voted.vote counts (sym c.is_no.ensures ∙ c.if-is_no.false) c.in_ok-participants.participants.items same
     (called db (voted_are db u.participants c.args.site.now c.args.voted.vote are c.in_ok-participants.participants.items same)))
     c.votes_go.ensures.store
+
+pub returns-then-not-counts-clause-store : goal.returns-then-not-counts-clause-store
+returns-then-not-counts-clause-store g c = no_call c.args.store.now _ c.stays.ensures.kept
+
+pub returns-then-only_reads-clause-store : goal.returns-then-only_reads-clause-store
+returns-then-only_reads-clause-store g c = no_call c.args.store.now _ c.commits_at_once.ensures.kept
+
+pub returns-then-is_no-clause-store : goal.returns-then-is_no-clause-store
+returns-then-is_no-clause-store g c = no_call c.args.store.now _ c.ends.ensures.kept

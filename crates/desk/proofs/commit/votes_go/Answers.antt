@@ -11,7 +11,7 @@ use Rattle.desk.specs.Transaction.{txn_of, undecided_of, votes_of}
 use Rattle.desk.specs.Transition.{AreParticipants, IsTransition, after_of, raises, says_committed, voting}
 use Rattle.desk.specs.Acknowledge.{AreInOrder, Keeps, kept_voters, voters_among}
 use Rattle.desk.proofs.Acknowledged.{keeps_same, turn_as, unchanged}
-use Rattle.desk.proofs.Called.{decides_all, steps_as}
+use Rattle.desk.proofs.Called.{decides_all, no_call, steps_as}
 use Rattle.desk.proofs.Decisions.{are_voters, decided_is, nobody, somebody, votes_decide, votes_wait}
 use Rattle.desk.proofs.InOrder.{decided_in_order}
 use Rattle.desk.proofs.Raised.{below_so, low_so, quiet_is}
@@ -106,3 +106,9 @@ returns-clause-sites g c = λ distinct.
     let participants = c.args.participants.items in
     c.decides.ensures.sites (sites_of participants)
     (subst (λ vs. AreInOrder (sites_of participants) vs) (sym (c.in_ok-voters.ensures ∙ ap voters_among c.deref-2.ensures.value)) (decided_in_order participants distinct))
+
+pub returns-then-not-are_all_in-clause-store : goal.returns-then-not-are_all_in-clause-store
+returns-then-not-are_all_in-clause-store g c = no_call c.args.store.now _ c.becomes.ensures.kept
+
+pub returns-then-are_none-clause-store : goal.returns-then-are_none-clause-store
+returns-then-are_none-clause-store g c = no_call c.args.store.now _ c.commits_at_once.ensures.kept

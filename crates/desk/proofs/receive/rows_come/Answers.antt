@@ -1,8 +1,10 @@
 -- Why `rows_come` meets its contract.
-use Rattle.std.proofs.Common.{rules, ◌≡◌, refl, true, false, sym, ap, ◌∙◌, map}
+use Rattle.std.proofs.Common.{rules, ◌≡◌, refl, true, false, sym, ap, ◌∙◌, subst, map, OnErr}
 use Rattle.catalog.specs.Relation.{catalogue_of}
 use Rattle.protocol.specs.Letters.{txn_name}
+use Rattle.desk.specs.declared.transaction.Stage.{Stage}
 use Rattle.desk.specs.declared.transaction.Stage.TheVariants as stages
+use Rattle.desk.specs.declared.transaction.Undecided.{Undecided}
 use Rattle.desk.specs.Commit.{is_first}
 use Rattle.desk.specs.Fetches.{are_in_with, brought, fetched_with, with_rows}
 use Rattle.desk.specs.Participants.{participant_in}
@@ -74,3 +76,10 @@ returns-clause-full c = λ db n of same next are known full.
     rows_long db n c.args.txn u c.args.site.now c.args.rows.now of c.leaf_names_are_unique.ensures reading here first known list same_list all worked.answer worked.unsent.items
     (c.in_ok-worked.ensures.explained db n (txn_name c.args.txn) list rows of same next planned)
     (writes_past db c.args.txn u are.sites (write_sites worked.unsent.items) (n, reading.statement) (map (ask_of db) list) worked.answer worked.unsent.items (c.works.ensures.sends.full full))
+
+pub returns-clause-goes : goal.returns-clause-goes
+returns-clause-goes c =
+    let u = c.args.undecided.now in
+    let here : u.stage ≡ stages.Reading c.in-Reading.reading = search rules in
+    let with_stage : Stage → Undecided = λ s. record { participants = u.participants; stage = s; moves = u.moves } in
+    record { short = c.works.ensures.sends.short; same = subst (λ (s : Stage). OnErr c.works.result (c.works.new.undecided ≡ with_stage s)) (sym here) c.works.ensures.sends.same }

@@ -10,7 +10,7 @@ use Rattle.desk.specs.Transaction.{txn_of}
 use Rattle.desk.specs.State.{volatile_of}
 use Rattle.desk.specs.Transition.{AreParticipants, AtSites, IsTransition, after_of, raises}
 use Rattle.desk.specs.Acknowledge.{Keeps, kept_voters}
-use Rattle.desk.proofs.Called.{steps_as}
+use Rattle.desk.proofs.Called.{no_call, steps_as}
 use Rattle.desk.proofs.receive.step.Goals as goal
 
 pub returns-in-None-clause-turn : goal.returns-in-None-clause-turn
@@ -70,3 +70,14 @@ returns-in-Some-Undecided-clause-below g c =
     let o = (volatile_of c.args.volatile.now).standing c.args.txn in
     let is : Some (standing.Undecided c.in-Some-Undecided.undecided) ≡ o = ap Some (sym c.in-Some-Undecided.field-0-is) ∙ c.in-Some-Undecided.ensures in
     subst (λ p. IfOk c.on_open.result (λ turn. raises p turn.reply ≡ true → c.args.volatile.now.version + 1 < 2 ^ 64)) is c.on_open.ensures.below
+
+pub returns-in-None-clause-store : goal.returns-in-None-clause-store
+returns-in-None-clause-store g c = no_call c.args.store.now _ c.on_unknown.ensures.leaves.kept
+
+pub returns-in-Some-Committed-clause-keeps : goal.returns-in-Some-Committed-clause-keeps
+returns-in-Some-Committed-clause-keeps g c = λ db.
+    let o = (volatile_of c.args.volatile.now).standing c.args.txn in
+    let kept = g.S.DeskStore.kept c.args.store.now in
+    let is : Some (standing.Committed c.in-Some-Committed.committed) ≡ o = ap Some (sym c.in-Some-Committed.field-0-is) ∙ c.in-Some-Committed.ensures in
+    subst (λ p. IsAt db p → g.S.DeskStore.is_clean c.on_row.new.store → g.S.DeskStore.is_sound c.args.store.now → kept.commits c.args.txn ≡ kept_voters p → c.args.volatile.now.version ≡ kept.version → IfOk c.on_row.result (λ turn. Keeps c.args.txn (kept_voters (after_of p turn.after)) (raises p turn.reply) kept (g.S.DeskStore.kept c.on_row.new.store)))
+    is (λ at clean sound here remembered. c.on_row.ensures.keeps clean sound here)

@@ -32,10 +32,10 @@ returns-clause-ok c = λ db kept of same next fits.
     let old_is = begun_is old c.in_ok-participants.participants.items sites c.begun-undecided.ensures c.in_ok-participants.ensures in
     let distinct : AreDistinct db.sites = subst AreDistinct (sym (of.sites n)) (of.formed n).distinct in
     subst (λ r. Refragments db (volatile_of p) kept (volatile_of c.begin.new.self) r c.out_of_begin.result.letters c.out_of_begin.result.replies) c.in_ok-copy.ensures
-    (refragments_by db kept p.standings.entries p.undecided p.life p.number n (c.is_alone.ensures.yes c.if-not-is_alone.false) fits sites those copy is_next c.in_ok-txn-2.ensures.few c.in_ok-txn-2.ensures.low
-    c.in_ok-participants.participants.items c.in_ok-participants.ensures old c.start.new.undecided c.begun-undecided.ensures c.in_ok-txn.txn c.in_ok-txn-2.txn c.in_ok-txn.ensures.txn c.in_ok-txn-2.ensures.txn c.in_ok-step.step
+    (refragments_by db kept p.standings.entries p.undecided p.life p.number n (c.is_alone.ensures.yes c.if-not-is_alone.false) fits sites those copy is_next c.in_ok-txn.ensures.few c.in_ok-txn.ensures.low
+    c.in_ok-participants.participants.items c.in_ok-participants.ensures old c.start.new.undecided c.begun-undecided.ensures c.in_ok-txn.txn c.in_ok-txn.txn c.in_ok-txn.ensures.txn c.in_ok-txn.ensures.txn c.in_ok-step.step
     (c.in_ok-step.ensures.does db of same (begun_are db old sites old_is those distinct) (begun_idle old sites old_is) (stated_by db of n (catalogue_of c.args.catalog.now) same copy fits_schema is_next))
-    (c.in_ok-step.ensures.short (begun_short old sites old_is)) (volatile_of c.begin.new.self) c.in_ok-txn-2.ensures.ok c.out_of_begin.result.letters c.out_of_begin.result.replies c.out_of_begin.ensures.letters (c.out_of_begin.ensures.replies c.in_ok-room.ensures.empty ∙ ap (λ l. notices c.in_ok-txn-2.txn (Some reply.Begun) ++ l) (sym c.in_ok-step.ensures.quiet)))
+    (c.in_ok-step.ensures.short (begun_short old sites old_is)) (volatile_of c.begin.new.self) c.in_ok-begin.ensures.ok c.out_of_begin.result.letters c.out_of_begin.result.replies c.out_of_begin.ensures.letters (c.out_of_begin.ensures.replies c.in_ok-room.ensures.empty ∙ ap (λ l. notices c.in_ok-txn.txn (Some reply.Begun) ++ l) (sym c.in_ok-step.ensures.quiet)))
 
 pub returns-in_err-txn-clause-full : goal.returns-in_err-txn-clause-full
 returns-in_err-txn-clause-full c = λ db kept fits full.
@@ -47,3 +47,6 @@ returns-then-not-is_alone-clause-alone c = λ alone none. c.is_alone.ensures.no 
 
 pub returns-clause-next : goal.returns-clause-next
 returns-clause-next c = let yes = c.is_next.ensures.yes c.if-not-is_next.false in λ none. (let never = sym yes.1 ∙ none in cc)
+
+pub returns-clause-steps : goal.returns-clause-steps
+returns-clause-steps c = record { kept = c.out_of_begin.ensures.kept; err = tt }

@@ -24,3 +24,13 @@ returns-clause-short c = λ short.
     let size : c.in_ok-opened.opened.participants.len ≡ length items = search rules in
     let long : length new ≡ length items = search rules in
     subst AreShort (sym (ap (λ n. take n (new ++ drop (length new) items)) size ∙ written_back new items long)) (c.in_ok-more.ensures.short (subst AreShort (search rules) (visits_short (ask_sites c.args.asks.now.items) c.args.participants.now short)))
+
+pub returns-clause-participants : goal.returns-clause-participants
+returns-clause-participants c =
+    let asks = c.args.asks.now.items in
+    let items = c.in_ok-opened.opened.participants.items in
+    let new = c.asks_step.new.participants in
+    let size : c.in_ok-opened.opened.participants.len ≡ length items = search rules in
+    let long : length new ≡ length items = search rules in
+    let out : new ≡ (asks_go c.args.txn asks (visits (ask_sites asks) c.args.participants.now)).participants = search rules in
+    ap (λ n. take n (new ++ drop (length new) items)) size ∙ written_back new items long ∙ out

@@ -31,7 +31,7 @@ returns-in_ok-letters-in-Reading-clause-within c = λ db n moves known.
 -- where the last write has gone out, the statement is done
 done : (c : goal.Joined-is_empty) → c.writing_goes.new.writing.unsent.items ≡ [] → c.if-is_empty.stage ≡ stages.Idle
 done c none = elim c.if-is_empty.branch [
-  | then-is_empty w ↦ w.stage-is ∙ w.idles.ensures
+  | then-is_empty w ↦ w.stage-is ∙ w.stands.ensures
   | else-is_empty w ↦ let some : nat_eq (length c.writing_goes.new.writing.unsent.items) 0 ≡ false = search rules in clash (ap (λ l. nat_eq (length l) 0) none) some
 ]
 

@@ -9,4 +9,4 @@ pub returns-clause-ok : goal.returns-clause-ok
 returns-clause-ok c =
     let old = c.args.self.now in
     ap (λ es. volatile_from es (old.undecided + 1) old.life (old.number + 1) old.version)
-    (c.in_ok-add.ensures.ok ∙ ap (λ txn. insert_entry txn_cmp old.standings.entries txn c.args.standing) c.in_ok-txn.ensures.txn)
+    (c.in_ok-add.ensures.ok ∙ ap (λ txn. insert_entry txn_cmp old.standings.entries txn c.args.standing) c.requires.txn)
