@@ -1,6 +1,6 @@
 //! Whether a schema is a site's.
 
-ghost use Rattle.std.specs.Prelude.{◌≡◌, ◌∷◌, [], IfOk, OnOk, IsTrue, false};
+ghost use Rattle.std.specs.Prelude.{◌≡◌, ◌∷◌, [], IfOk, OnOk, IsTrue, false, codes};
 ghost use Rattle.std.specs.Bool.{Decides};
 ghost use Rattle.sqlite.specs.Held.{state};
 ghost use Rattle.sqlite_sql.specs.Syntax.{term_of};
@@ -162,7 +162,10 @@ pub fn is_keyed_table(
     if table.name.as_slice() != name.as_bytes() || table.tree != tree || !is_keyed(table, key) {
         return Ok(false);
     }
-    Ok(are_no_terms(alloc, &table.checks)? && is_bare(alloc, table)?)
+    match are_no_terms(alloc, &table.checks) {
+        Ok(true) => is_bare(alloc, table),
+        other => other,
+    }
 }
 
 /// Whether the number of a table is its key.
@@ -185,7 +188,29 @@ fn is_state_table(alloc: Global, table: &Table) -> Result<bool, Memory>
     {
         return Ok(false);
     }
-    Ok(are_state_checks(alloc, &table.checks)? && is_bare(alloc, table)?)
+    match are_state_checks(alloc, &table.checks) {
+        Ok(true) => is_bare(alloc, table),
+        other => other,
+    }
+}
+
+/// Whether tables of these columns are a site's but that of state.
+fn are_keyed_tables(
+    alloc: Global,
+    part: &Table,
+    prepared: &Table,
+    intent: &Table,
+) -> Result<bool, Memory>
+    ensures { IfOk result (λ are. Decides are ((part.now ≡ keyed_table (codes "part") 0 part.now.columns (1 ∷ 2 ∷ [])) × (prepared.now ≡ keyed_table (codes "prepared") 2 prepared.now.columns (1 ∷ 2 ∷ [])) × (intent.now ≡ keyed_table (codes "intent") 4 intent.now.columns (1 ∷ 2 ∷ 3 ∷ 4 ∷ [])))) }
+{
+    match is_keyed_table(alloc, part, "part", 0, &[1, 2]) {
+        Ok(true) => {}
+        other => return other,
+    }
+    match is_keyed_table(alloc, prepared, "prepared", 2, &[1, 2]) {
+        Ok(true) => is_keyed_table(alloc, intent, "intent", 4, &[1, 2, 3, 4]),
+        other => other,
+    }
 }
 
 fn are_site_tables(alloc: Global, tables: &[Table]) -> Result<bool, Memory>
@@ -194,15 +219,16 @@ fn are_site_tables(alloc: Global, tables: &[Table]) -> Result<bool, Memory>
     let [part, prepared, intent, state] = tables else {
         return Ok(false);
     };
-    Ok(
-        are_part_columns(part.columns.as_slice())
-            && are_prepared_columns(prepared.columns.as_slice())
-            && are_intent_columns(intent.columns.as_slice())
-            && is_keyed_table(alloc, part, "part", 0, &[1, 2])?
-            && is_keyed_table(alloc, prepared, "prepared", 2, &[1, 2])?
-            && is_keyed_table(alloc, intent, "intent", 4, &[1, 2, 3, 4])?
-            && is_state_table(alloc, state)?,
-    )
+    if !are_part_columns(part.columns.as_slice())
+        || !are_prepared_columns(prepared.columns.as_slice())
+        || !are_intent_columns(intent.columns.as_slice())
+    {
+        return Ok(false);
+    }
+    match are_keyed_tables(alloc, part, prepared, intent) {
+        Ok(true) => is_state_table(alloc, state),
+        other => other,
+    }
 }
 
 /// Whether an index is a table's own, over these places in ascending order.
