@@ -47,8 +47,10 @@ pub fn discard<S: Alter>(conn: &mut Connection<S>, visit: &Visit) -> Result<(), 
 {
     let _settled = conn.is_autocommit();
     let mut tx = conn.transaction();
-    drop_visit(&mut tx, visit)?;
-    tx.commit()
+    match drop_visit(&mut tx, visit) {
+        Ok(_) => tx.commit(),
+        Err(error) => Err(error),
+    }
 }
 
 /// Makes a ticket's changes within a transaction, and takes out its rows.
@@ -66,8 +68,10 @@ fn make_at<S: Alter>(conn: &mut Connection<S>, visit: &Visit, slots: &[Row]) -> 
 {
     let _settled = conn.is_autocommit();
     let mut tx = conn.transaction();
-    make(&mut tx, visit, slots)?;
-    tx.commit()
+    match make(&mut tx, visit, slots) {
+        Ok(_) => tx.commit(),
+        Err(error) => Err(error),
+    }
 }
 
 /// Makes a ticket's changes, and drops its prepared row and its intents.

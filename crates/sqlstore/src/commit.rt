@@ -72,8 +72,10 @@ fn decide_in<S: Alter>(
 {
     let _settled = conn.is_autocommit();
     let mut tx = conn.transaction();
-    keep_rows(&mut tx, decision, life)?;
-    tx.commit()
+    match keep_rows(&mut tx, decision, life) {
+        Ok(_) => tx.commit(),
+        Err(error) => Err(error),
+    }
 }
 
 /// Keeps that a transaction is committed, who voted for it, and the catalogue's version. The incarnation stays.
@@ -94,6 +96,8 @@ pub fn undecide<S: Alter>(conn: &mut Connection<S>, txn: &Visit) -> Result<(), E
 {
     let _settled = conn.is_autocommit();
     let mut tx = conn.transaction();
-    take_out(&mut tx, txn)?;
-    tx.commit()
+    match take_out(&mut tx, txn) {
+        Ok(_) => tx.commit(),
+        Err(error) => Err(error),
+    }
 }

@@ -45,6 +45,8 @@ pub fn create<S: Alter>(conn: &mut Connection<S>) -> Result<(), Error>
 {
     let _settled = conn.is_autocommit();
     let mut tx = conn.transaction();
-    make_both(&mut tx)?;
-    tx.commit()
+    match make_both(&mut tx) {
+        Ok(_) => tx.commit(),
+        Err(error) => Err(error),
+    }
 }

@@ -40,6 +40,8 @@ pub fn keep<S: Alter>(
 {
     let _settled = conn.is_autocommit();
     let mut tx = conn.transaction();
-    keep_rows(&mut tx, visit, txn, intents)?;
-    tx.commit()
+    match keep_rows(&mut tx, visit, txn, intents) {
+        Ok(_) => tx.commit(),
+        Err(error) => Err(error),
+    }
 }

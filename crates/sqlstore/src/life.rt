@@ -29,8 +29,10 @@ pub fn live<S: Alter>(conn: &mut Connection<S>, life: &i64) -> Result<(), Error>
 {
     let _settled = conn.is_autocommit();
     let mut tx = conn.transaction();
-    live_on(&mut tx, life)?;
-    tx.commit()
+    match live_on(&mut tx, life) {
+        Ok(_) => tx.commit(),
+        Err(error) => Err(error),
+    }
 }
 
 /// The incarnation that rows of the query for it say.
