@@ -135,7 +135,7 @@ fn is_epoch(row: &Row) -> bool
 fn are_epochs(rows: &[Row]) -> bool
     ensures { Decides result (AllByRecursion IsEpoch rows.now) }
 {
-    rows.iter().all(|row| is_epoch(row))
+    rows.iter().all(is_epoch)
 }
 
 /// The incarnation that rows say: none has begun where there is no row.

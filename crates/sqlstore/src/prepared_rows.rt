@@ -146,7 +146,7 @@ fn are_all_numbered(tables: &Gathered) -> bool
 fn are_intended(rows: &[PreparedRow]) -> bool
     ensures { Decides result (AllByRecursion HasChanges rows.now) }
 {
-    rows.iter().all(|row| has_changes(row))
+    rows.iter().all(has_changes)
 }
 
 fn has_changes(row: &PreparedRow) -> bool

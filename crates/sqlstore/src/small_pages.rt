@@ -5,7 +5,6 @@
 
 ghost use Rattle.std.specs.Prelude.{◌≡◌, ◌≢◌, IfOk, IsTrue, Err};
 ghost use Rattle.sqlite_store.specs.FileStore.{state};
-ghost use Rattle.sqlite_store.specs.Unopened.{files_of, state_of};
 ghost use Rattle.sqlite_wal.specs.PageSize.{bytes_of};
 ghost use Rattle.store.specs.declared.fault.StoreFault.TheVariants.{Damaged};
 
@@ -55,42 +54,6 @@ fn are_blank<D: Disk>(alloc: Global, files: &mut Files<D>) -> Result<bool, Store
     }
 }
 
-/// Files that have no database yet, as those of one of small pages.
-fn unopened<D: Disk + Drop>(
-    alloc: Global,
-    files: Files<D>,
-    options: Options,
-) -> Result<Unopened<D>, StoreFault>
-    ensures files { IfOk result (λ fresh. files_of fresh ≡ (files.log, files.db)) }
-    ensures size { IfOk result (λ fresh. (state_of fresh).page_size ≡ 1024) }
-    ensures intact { result ≢ Err Damaged }
-{
-    let pager = match Pager::new(alloc, files, small_page(), options) {
-        Ok(pager) => pager,
-        Err(failed) => {
-            drop(failed);
-            return Err(StoreFault::Memory);
-        }
-    };
-    match Unopened::new(alloc, pager, &[]) {
-        Ok(fresh) => Ok(fresh),
-        Err(failed) => {
-            drop(failed);
-            Err(StoreFault::Memory)
-        }
-    }
-}
-
-/// The fault that an error is by which a database is made.
-fn making_fault(error: OpenError) -> StoreFault
-    ensures { result ≢ Damaged }
-{
-    match error {
-        OpenError::OutOfMemory => StoreFault::Memory,
-        _ => StoreFault::Refused,
-    }
-}
-
 /// An empty database of small pages, in files that have none yet.
 fn create<D: Disk + Drop>(
     alloc: Global,
@@ -102,45 +65,25 @@ fn create<D: Disk + Drop>(
     ensures size { IfOk result (λ store. IsTrue (state store).is_clean → (state store).page_size ≡ 1024) }
     ensures intact { result ≢ Err Damaged }
 {
-    let fresh = match unopened(alloc, files, options) {
+    let Ok(pager) = Pager::new(alloc, files, small_page(), options) else {
+        return Err(StoreFault::Memory);
+    };
+    let fresh = match Unopened::new(alloc, pager, &[]) {
         Ok(fresh) => fresh,
-        Err(fault) => return Err(fault),
+        Err(failed) => {
+            drop(failed);
+            return Err(StoreFault::Memory);
+        }
     };
     match fresh.create() {
         Ok(store) => Ok(store),
         Err((error, unmade)) => {
             drop(unmade);
-            Err(making_fault(error))
+            match error {
+                OpenError::OutOfMemory => Err(StoreFault::Memory),
+                _ => Err(StoreFault::Refused),
+            }
         }
-    }
-}
-
-/// The options of a new database.
-fn new_options(rt: &HostRuntime) -> Result<Options, StoreFault>
-    ensures { result ≢ Err Damaged }
-{
-    match RandomState::new(rt) {
-        Ok(seeds) => Ok(Options::new(seeds.hash_one(&0u8))),
-        Err(_) => Err(StoreFault::Refused),
-    }
-}
-
-/// Makes an empty database in files that have none yet.
-fn make_in<D: Disk + Drop>(rt: &HostRuntime, files: Files<D>) -> Result<(), StoreFault>
-    requires log { IsTrue (D.Disk.is_usable files.log) }
-    requires db { IsTrue (D.Disk.is_usable files.db) }
-    ensures { result ≢ Err Damaged }
-{
-    let options = match new_options(rt) {
-        Ok(options) => options,
-        Err(fault) => return Err(fault),
-    };
-    match create(rt.alloc(), files, options) {
-        Ok(made) => {
-            drop(made);
-            Ok(())
-        }
-        Err(fault) => Err(fault),
     }
 }
 
@@ -152,9 +95,17 @@ pub fn make_small(rt: &HostRuntime, path: &str) -> Result<(), StoreFault>
         Ok(files) => files,
         Err(error) => return Err(path_fault(error)),
     };
-    match are_blank(rt.alloc(), &mut files) {
-        Ok(true) => make_in(rt, files),
-        Ok(false) => Ok(()),
+    if !are_blank(rt.alloc(), &mut files)? {
+        return Ok(());
+    }
+    let Ok(seeds) = RandomState::new(rt) else {
+        return Err(StoreFault::Refused);
+    };
+    match create(rt.alloc(), files, Options::new(seeds.hash_one(&0u8))) {
+        Ok(made) => {
+            drop(made);
+            Ok(())
+        }
         Err(fault) => Err(fault),
     }
 }
