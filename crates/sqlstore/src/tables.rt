@@ -2,7 +2,7 @@
 
 ghost use Rattle.std.specs.Prelude.{◌≡◌, false};
 ghost use Rattle.sqlite.specs.Held.{state};
-ghost use Rattle.sqlstore.specs.Fresh.{AreFresh, MakesAll, MakesFirst, MakesOthers, MakesTable, one_table, two_tables, three_tables};
+ghost use Rattle.sqlstore.specs.Fresh.{AreFresh, MakesAll, MakesTable, one_table, two_tables, three_tables};
 ghost use Rattle.sqlstore.specs.Tables.{no_schema, part_table, prepared_table, intent_table, state_table};
 ghost use Rattle.sqlstore.specs.Frame.{CreatesTables, RunsWithin};
 ghost use Rattle.sqlstore.specs.Rows.{HasSchema};
@@ -45,25 +45,13 @@ fn make_state<S: Alter>(tx: &mut Transaction<'_, S>) -> Result<usize, Error>
     )
 }
 
-fn make_first<S: Alter>(tx: &mut Transaction<'_, S>) -> Result<usize, Error>
-    ensures { RunsWithin S.Store (HasSchema no_schema) MakesFirst tx.old.conn tx.new.conn result }
-{
-    make_part(tx)?;
-    make_prepared(tx)
-}
-
-fn make_others<S: Alter>(tx: &mut Transaction<'_, S>) -> Result<usize, Error>
-    ensures { RunsWithin S.Store (HasSchema two_tables) MakesOthers tx.old.conn tx.new.conn result }
-{
-    make_intent(tx)?;
-    make_state(tx)
-}
-
 fn make_all<S: Alter>(tx: &mut Transaction<'_, S>) -> Result<usize, Error>
     ensures { RunsWithin S.Store (HasSchema no_schema) MakesAll tx.old.conn tx.new.conn result }
 {
-    make_first(tx)?;
-    make_others(tx)
+    make_part(tx)?;
+    make_prepared(tx)?;
+    make_intent(tx)?;
+    make_state(tx)
 }
 
 /// Makes the tables of a site in an empty database.
