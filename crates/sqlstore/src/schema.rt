@@ -1,6 +1,6 @@
 //! Whether a schema is a site's.
 
-ghost use Rattle.std.specs.Prelude.{◌≡◌, ◌∷◌, [], IfOk, OnOk, IsTrue, false, codes};
+ghost use Rattle.std.specs.Prelude.{◌≡◌, ◌∷◌, [], IfOk, OnOk, IsTrue, false};
 ghost use Rattle.std.specs.Bool.{Decides};
 ghost use Rattle.sqlite.specs.Held.{state};
 ghost use Rattle.sqlite_sql.specs.Syntax.{term_of};
@@ -106,19 +106,19 @@ pub fn are_state_checks(alloc: Global, terms: &Terms) -> Result<bool, Memory>
     }
 }
 
-fn are_no_stamps(alloc: Global, stamps: &Stamps) -> Result<bool, Memory>
-    ensures { IfOk result (λ is. Decides is (stamps.now ≡ no_stamps)) }
-{
-    let bare = stamps.places.is_empty() && stamps.formats.is_empty();
-    Ok(are_no_terms(alloc, &stamps.terms)? && bare)
-}
-
 /// Whether a table refers to no other, computes no column and doesn't count.
 pub fn is_bare(alloc: Global, table: &Table) -> Result<bool, Memory>
     ensures { IfOk result (λ is. Decides is (IsBare table.now)) }
 {
-    let bare = table.references.is_empty() && table.computed.is_empty() && !table.is_counted;
-    Ok(are_no_stamps(alloc, &table.stamps)? && bare)
+    let bare = table.references.is_empty()
+        && table.computed.is_empty()
+        && table.stamps.places.is_empty()
+        && table.stamps.formats.is_empty()
+        && !table.is_counted;
+    match are_no_terms(alloc, &table.stamps.terms) {
+        Ok(true) => Ok(bare),
+        other => other,
+    }
 }
 
 fn is_one_key(keys: &[Items<usize>], key: &[usize]) -> bool
@@ -194,25 +194,6 @@ fn is_state_table(alloc: Global, table: &Table) -> Result<bool, Memory>
     }
 }
 
-/// Whether tables of these columns are a site's but that of state.
-fn are_keyed_tables(
-    alloc: Global,
-    part: &Table,
-    prepared: &Table,
-    intent: &Table,
-) -> Result<bool, Memory>
-    ensures { IfOk result (λ are. Decides are ((part.now ≡ keyed_table (codes "part") 0 part.now.columns (1 ∷ 2 ∷ [])) × (prepared.now ≡ keyed_table (codes "prepared") 2 prepared.now.columns (1 ∷ 2 ∷ [])) × (intent.now ≡ keyed_table (codes "intent") 4 intent.now.columns (1 ∷ 2 ∷ 3 ∷ 4 ∷ [])))) }
-{
-    match is_keyed_table(alloc, part, "part", 0, &[1, 2]) {
-        Ok(true) => {}
-        other => return other,
-    }
-    match is_keyed_table(alloc, prepared, "prepared", 2, &[1, 2]) {
-        Ok(true) => is_keyed_table(alloc, intent, "intent", 4, &[1, 2, 3, 4]),
-        other => other,
-    }
-}
-
 fn are_site_tables(alloc: Global, tables: &[Table]) -> Result<bool, Memory>
     ensures { IfOk result (λ are. Decides are (tables.now ≡ site_schema.tables)) }
 {
@@ -225,7 +206,15 @@ fn are_site_tables(alloc: Global, tables: &[Table]) -> Result<bool, Memory>
     {
         return Ok(false);
     }
-    match are_keyed_tables(alloc, part, prepared, intent) {
+    match is_keyed_table(alloc, part, "part", 0, &[1, 2]) {
+        Ok(true) => {}
+        other => return other,
+    }
+    match is_keyed_table(alloc, prepared, "prepared", 2, &[1, 2]) {
+        Ok(true) => {}
+        other => return other,
+    }
+    match is_keyed_table(alloc, intent, "intent", 4, &[1, 2, 3, 4]) {
         Ok(true) => is_state_table(alloc, state),
         other => other,
     }
