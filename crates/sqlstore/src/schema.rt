@@ -5,13 +5,13 @@ ghost use Rattle.std.specs.Bool.{Decides};
 ghost use Rattle.sqlite.specs.Held.{state};
 ghost use Rattle.sqlite_sql.specs.Syntax.{term_of};
 ghost use Rattle.sqlstore.specs.Schemas.{is_one, IsBare, IsKeyedBy, IsKeyedByNumber, keyed_table, index_of, site_indexes};
-ghost use Rattle.sqlstore.specs.Tables.{column_of, no_stamps, part_table, prepared_table, intent_table, state_table, site_schema};
+ghost use Rattle.sqlstore.specs.Tables.{column_of, part_table, prepared_table, intent_table, state_table, site_schema};
 ghost use Rattle.sqlstore.specs.Frame.{FailsUnless};
 
 use sqlite::{Alter, Connection};
 use sqlite_items::Items;
 use sqlite_schema::code::Terms;
-use sqlite_schema::schema::{Column, Index, Kind, Schema, Stamps, Table};
+use sqlite_schema::schema::{Column, Index, Kind, Schema, Table};
 use sqlite_sql::expr::{Node, open};
 use sqlite_sql::ops::{BinaryOp, CompareOp};
 use sqlite_value::keys::{Collation, Order};
