@@ -39,10 +39,8 @@ pub fn discard<S: Alter>(conn: &mut Connection<S>, visit: &Visit) -> Result<(), 
 {
     let _settled = conn.is_autocommit();
     let mut tx = conn.transaction();
-    match drop_visit(&mut tx, visit) {
-        Ok(_) => tx.commit(),
-        Err(error) => Err(error),
-    }
+    drop_visit(&mut tx, visit)?;
+    tx.commit()
 }
 
 /// Makes a ticket's changes within a transaction, and takes out its rows.
@@ -61,10 +59,8 @@ fn make_at<S: Alter>(conn: &mut Connection<S>, visit: &Visit, slots: &[Row]) -> 
 {
     let _settled = conn.is_autocommit();
     let mut tx = conn.transaction();
-    match make(&mut tx, visit, slots) {
-        Ok(_) => tx.commit(),
-        Err(error) => Err(error),
-    }
+    make(&mut tx, visit, slots)?;
+    tx.commit()
 }
 
 /// Makes a ticket's changes, and drops its prepared row and its intents.

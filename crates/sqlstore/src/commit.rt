@@ -62,10 +62,8 @@ fn decide_in<S: Alter>(
 {
     let _settled = conn.is_autocommit();
     let mut tx = conn.transaction();
-    match keep_rows(&mut tx, decision, life) {
-        Ok(_) => tx.commit(),
-        Err(error) => Err(error),
-    }
+    keep_rows(&mut tx, decision, life)?;
+    tx.commit()
 }
 
 /// Keeps that a transaction is committed, who voted for it, and the catalogue's version. The incarnation stays.
@@ -86,12 +84,9 @@ pub fn undecide<S: Alter>(conn: &mut Connection<S>, txn: &Visit) -> Result<(), E
 {
     let _settled = conn.is_autocommit();
     let mut tx = conn.transaction();
-    let gone = tx.execute(
+    tx.execute(
         "DELETE FROM decided WHERE tlife = ?1 AND tnumber = ?2",
         &[number(&txn.life), number(&txn.visit)],
-    );
-    match gone {
-        Ok(_) => tx.commit(),
-        Err(error) => Err(error),
-    }
+    )?;
+    tx.commit()
 }

@@ -33,13 +33,12 @@ pub fn decision_of(
     let Some(version) = number_of(version) else {
         return Ok(None);
     };
-    match votes_of(alloc, voters) {
-        Ok(Some(votes)) => Ok(Some(Decision {
-            txn,
-            votes,
-            version,
-        })),
-        Ok(None) => Ok(None),
-        Err(memory) => Err(memory),
-    }
+    let Some(votes) = votes_of(alloc, voters)? else {
+        return Ok(None);
+    };
+    Ok(Some(Decision {
+        txn,
+        votes,
+        version,
+    }))
 }

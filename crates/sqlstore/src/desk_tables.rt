@@ -30,8 +30,6 @@ pub fn create<S: Alter>(conn: &mut Connection<S>) -> Result<(), Error>
 {
     let _settled = conn.is_autocommit();
     let mut tx = conn.transaction();
-    match make_both(&mut tx) {
-        Ok(_) => tx.commit(),
-        Err(error) => Err(error),
-    }
+    make_both(&mut tx)?;
+    tx.commit()
 }

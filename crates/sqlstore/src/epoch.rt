@@ -63,10 +63,8 @@ fn keep_epoch<S: Alter>(conn: &mut Connection<S>, life: &i64, version: &i64) -> 
 {
     let _settled = conn.is_autocommit();
     let mut tx = conn.transaction();
-    match move_to(&mut tx, life, version) {
-        Ok(_) => tx.commit(),
-        Err(error) => Err(error),
-    }
+    move_to(&mut tx, life, version)?;
+    tx.commit()
 }
 
 /// Begins the incarnation after the one that is kept, and answers it, if a table holds it. The version stays.

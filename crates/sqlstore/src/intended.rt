@@ -47,10 +47,7 @@ fn leaf_of(alloc: Global, leaves: &[Leaf], name: &[u8]) -> Result<Leaf, StoreFau
     ensures fails { FailsUnless (IsSome (leaf_named leaves.now name.now)) result }
 {
     match named(alloc, leaves, name) {
-        Ok(Some(leaf)) => match leaf.copy() {
-            Ok(leaf) => Ok(leaf),
-            Err(_) => Err(StoreFault::Memory),
-        },
+        Ok(Some(leaf)) => Ok(leaf.copy()?),
         Ok(None) => Err(StoreFault::Damaged),
         Err(fault) => Err(fault),
     }

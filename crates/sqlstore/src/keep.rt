@@ -40,8 +40,6 @@ pub fn keep<S: Alter>(
 {
     let _settled = conn.is_autocommit();
     let mut tx = conn.transaction();
-    match keep_rows(&mut tx, visit, txn, intents) {
-        Ok(_) => tx.commit(),
-        Err(error) => Err(error),
-    }
+    keep_rows(&mut tx, visit, txn, intents)?;
+    tx.commit()
 }

@@ -29,10 +29,8 @@ pub fn live<S: Alter>(conn: &mut Connection<S>, life: &i64) -> Result<(), Error>
 {
     let _settled = conn.is_autocommit();
     let mut tx = conn.transaction();
-    match live_on(&mut tx, life) {
-        Ok(_) => tx.commit(),
-        Err(error) => Err(error),
-    }
+    live_on(&mut tx, life)?;
+    tx.commit()
 }
 
 /// The incarnation that rows of the query for it say.

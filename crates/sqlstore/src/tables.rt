@@ -38,8 +38,6 @@ pub fn create<S: Alter>(conn: &mut Connection<S>) -> Result<(), Error>
 {
     let _settled = conn.is_autocommit();
     let mut tx = conn.transaction();
-    match make_all(&mut tx) {
-        Ok(_) => tx.commit(),
-        Err(error) => Err(error),
-    }
+    make_all(&mut tx)?;
+    tx.commit()
 }

@@ -1,17 +1,17 @@
-use Rattle.std.proofs.Common.{not, ap, refl, ◌∙◌, Err, rules}
+use Rattle.std.proofs.Common.{not, ap, ◌∙◌, rules}
 use Rattle.sqlstore.specs.DeskStep.{Decides}
 use Rattle.sqlstore.specs.DeskTables.{desk_schema}
 use Rattle.sqlstore.proofs.Framing.{commits, commits_nothing}
 use Rattle.sqlstore.proofs.commit.decide_in.Goals as goal
 
-pub returns-in-Ok : goal.returns-in-Ok
-returns-in-Ok g c =
+pub returns : goal.returns
+returns g c =
     let made = commits g.S.Store c.args.conn.now c.transaction-tx.result.conn c.keep_rows.new.tx.conn (c.is_autocommit-settled.ensures.settled (c.is_autocommit-settled.ensures.value ∙ ap not c.requires)) c.transaction-tx.ensures.begun
-    (Decides c.args.decision.now.txn c.args.decision.now.votes.items c.args.life.now c.args.decision.now.version) c.in-Ok.field-0 c.in-Ok.ensures c.commit.new.self.0 c.commit.result c.commit.ensures.ended c.commit.ensures.ok c.commit.ensures.err c.commit.ensures.survives in
+    (Decides c.args.decision.now.txn c.args.decision.now.votes.items c.args.life.now c.args.decision.now.version) c.in_ok-keep_rows.field-0 c.in_ok-keep_rows.ensures c.commit.new.self.0 c.commit.result c.commit.ensures.ended c.commit.ensures.ok c.commit.ensures.err c.commit.ensures.survives in
     search (rules, made)
 
-pub returns-in-Err : goal.returns-in-Err
-returns-in-Err g c =
+pub returns-in_err-keep_rows : goal.returns-in_err-keep_rows
+returns-in_err-keep_rows g c =
     let made = commits_nothing g.S.Store c.args.conn.now c.transaction-tx.result.conn c.keep_rows.new.tx.conn (c.is_autocommit-settled.ensures.settled (c.is_autocommit-settled.ensures.value ∙ ap not c.requires)) c.transaction-tx.ensures.begun
-    (Decides c.args.decision.now.txn c.args.decision.now.votes.items c.args.life.now c.args.decision.now.version) c.in-Err.error c.in-Err.ensures c.drop-tx.new.self.0 c.drop-tx.ensures.ended c.drop-tx.ensures.undone c.drop-tx.ensures.survives {own = desk_schema} {B = Unit {0}} (Decides c.args.decision.now.txn c.args.decision.now.votes.items c.args.life.now c.args.decision.now.version) (Err c.in-Err.error) refl in
+    (Decides c.args.decision.now.txn c.args.decision.now.votes.items c.args.life.now c.args.decision.now.version) c.in_err-keep_rows.field-0.0 c.in_err-keep_rows.ensures c.drop-tx.new.self.0 c.drop-tx.ensures.ended c.drop-tx.ensures.undone c.drop-tx.ensures.survives {own = desk_schema} (Decides c.args.decision.now.txn c.args.decision.now.votes.items c.args.life.now c.args.decision.now.version) c.from_residual.result c.from_residual.ensures.0 in
     search (rules, made)

@@ -1,17 +1,17 @@
-use Rattle.std.proofs.Common.{not, ap, refl, ◌∙◌, Err, rules}
+use Rattle.std.proofs.Common.{not, ap, ◌∙◌, rules}
 use Rattle.sqlstore.specs.Fresh.{AreFresh, MakesAll}
 use Rattle.sqlstore.proofs.Creating.{makes_all}
 use Rattle.sqlstore.proofs.Framing.{creates, creates_nothing}
 use Rattle.sqlstore.proofs.tables.create.Goals as goal
 
-pub returns-in-Ok : goal.returns-in-Ok
-returns-in-Ok g c =
+pub returns : goal.returns
+returns g c =
     let made = creates g.S.Store c.args.conn.now c.transaction-tx.result.conn c.make_all.new.tx.conn (c.is_autocommit-settled.ensures.settled (c.is_autocommit-settled.ensures.value ∙ ap not c.requires)) c.transaction-tx.ensures.begun
-    MakesAll AreFresh makes_all c.in-Ok.field-0 c.in-Ok.ensures c.commit.new.self.0 c.commit.result c.commit.ensures.ended c.commit.ensures.ok c.commit.ensures.err c.commit.ensures.survives in
+    MakesAll AreFresh makes_all c.in_ok-make_all.field-0 c.in_ok-make_all.ensures c.commit.new.self.0 c.commit.result c.commit.ensures.ended c.commit.ensures.ok c.commit.ensures.err c.commit.ensures.survives in
     search (rules, made)
 
-pub returns-in-Err : goal.returns-in-Err
-returns-in-Err g c =
+pub returns-in_err-make_all : goal.returns-in_err-make_all
+returns-in_err-make_all g c =
     let made = creates_nothing g.S.Store c.args.conn.now c.transaction-tx.result.conn c.make_all.new.tx.conn (c.is_autocommit-settled.ensures.settled (c.is_autocommit-settled.ensures.value ∙ ap not c.requires)) c.transaction-tx.ensures.begun
-    MakesAll c.in-Err.error c.in-Err.ensures c.drop-tx.new.self.0 c.drop-tx.ensures.ended c.drop-tx.ensures.undone c.drop-tx.ensures.survives {B = Unit {0}} AreFresh (Err c.in-Err.error) refl in
+    MakesAll c.in_err-make_all.field-0.0 c.in_err-make_all.ensures c.drop-tx.new.self.0 c.drop-tx.ensures.ended c.drop-tx.ensures.undone c.drop-tx.ensures.survives AreFresh c.from_residual.result c.from_residual.ensures.0 in
     search (rules, made)
