@@ -24,14 +24,6 @@ fn empty<S: Alter>(tx: &mut Transaction<'_, S>, visit: &Visit, slots: &[Row]) ->
     Ok(())
 }
 
-/// Puts in the parts that a ticket's intents put, and takes out the intents.
-fn fill<S: Alter>(tx: &mut Transaction<'_, S>, visit: &Visit) -> Result<usize, Error>
-    ensures { RunsWithin S.Store AreTables (Fills visit.now) tx.old.conn tx.new.conn result }
-{
-    give(tx, visit)?;
-    clear(tx, visit)
-}
-
 /// Takes out a ticket's prepared row and its intents.
 fn drop_visit<S: Alter>(tx: &mut Transaction<'_, S>, visit: &Visit) -> Result<usize, Error>
     ensures { RunsWithin S.Store AreTables (Drops visit.now) tx.old.conn tx.new.conn result }
@@ -56,7 +48,8 @@ fn make<S: Alter>(tx: &mut Transaction<'_, S>, visit: &Visit, slots: &[Row]) -> 
     ensures { RunsWithin S.Store AreTables (Follows (Empties visit.now slots.now) (Fills visit.now)) tx.old.conn tx.new.conn result }
 {
     empty(tx, visit, slots)?;
-    fill(tx, visit)
+    give(tx, visit)?;
+    clear(tx, visit)
 }
 
 /// Makes a ticket's changes, with the parts at these slots taken out, and drops its prepared row and its intents.

@@ -35,16 +35,6 @@ fn vote<S: Alter>(
     )
 }
 
-/// Takes out the voters of a transaction.
-fn take_out<S: Alter>(tx: &mut Transaction<'_, S>, txn: &Visit) -> Result<usize, Error>
-    ensures { RunsWithin S.Store (AreTablesOf desk_schema) (Undecides txn.now) tx.old.conn tx.new.conn result }
-{
-    tx.execute(
-        "DELETE FROM decided WHERE tlife = ?1 AND tnumber = ?2",
-        &[number(&txn.life), number(&txn.visit)],
-    )
-}
-
 /// Puts the version beside an incarnation, and puts in the voters.
 fn keep_rows<S: Alter>(
     tx: &mut Transaction<'_, S>,
@@ -94,6 +84,9 @@ pub fn undecide<S: Alter>(conn: &mut Connection<S>, txn: &Visit) -> Result<(), E
 {
     let _settled = conn.is_autocommit();
     let mut tx = conn.transaction();
-    take_out(&mut tx, txn)?;
+    tx.execute(
+        "DELETE FROM decided WHERE tlife = ?1 AND tnumber = ?2",
+        &[number(&txn.life), number(&txn.visit)],
+    )?;
     tx.commit()
 }

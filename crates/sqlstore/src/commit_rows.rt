@@ -1,6 +1,6 @@
 //! Commit rows, the incarnation and the version, from the rows of the tables.
 
-ghost use Rattle.std.specs.Prelude.{◌≡◌, ◌++◌, ◌∷◌, [], MatchOption, IfOk, IfSome, IsSome, OnOk, Some, None, true, if◌then◌else◌, unwrap_or};
+ghost use Rattle.std.specs.Prelude.{◌≡◌, ◌++◌, ◌∷◌, [], MatchOption, IfOk, OnOk, Some, None, true, if◌then◌else◌, unwrap_or};
 ghost use Rattle.std.specs.BTreeMap as tree;
 ghost use Rattle.std.specs.BTreeMap.{IsOrdered};
 ghost use Rattle.std.specs.Bool.{Decides};
@@ -135,39 +135,21 @@ fn is_epoch(row: &Row) -> bool
 fn are_epochs(rows: &[Row]) -> bool
     ensures { Decides result (AllByRecursion IsEpoch rows.now) }
 {
-    rows.iter().all(|row| is_epoch(row))
+    rows.iter().all(is_epoch)
 }
 
-/// The incarnation that rows say: none has begun where there is no row.
-fn life_of(rows: &[Row]) -> Option<u64>
-    ensures life { IfSome result (λ life. life ≡ life_in rows.now) }
-    ensures some { AllByRecursion IsEpoch rows.now → IsSome result }
-{
-    match rows.first() {
-        Some(row) => natural_in(row, 2),
-        None => Some(0),
-    }
-}
-
-/// The version that rows say: the first where there is no row.
-fn version_of(rows: &[Row]) -> Option<u64>
-    ensures version { IfSome result (λ version. version ≡ version_in rows.now) }
-    ensures some { AllByRecursion IsEpoch rows.now → IsSome result }
-{
-    match rows.first() {
-        Some(row) => natural_in(row, 3),
-        None => Some(1),
-    }
-}
-
-/// The incarnation and the version, where the rows are as the store leaves them.
+/// The incarnation and the version, where the rows are as the store leaves them: none has begun and the first is in force
+/// where there is no row.
 fn epoch_of(rows: &[Row]) -> Option<(u64, u64)>
     ensures { MatchOption result (¬ (AllByRecursion IsEpoch rows.now)) (λ epoch. AllByRecursion IsEpoch rows.now × (epoch.0 ≡ life_in rows.now) × (epoch.1 ≡ version_in rows.now)) }
 {
     if !are_epochs(rows) {
         return None;
     }
-    Some((life_of(rows)?, version_of(rows)?))
+    match rows.first() {
+        Some(row) => Some((natural_in(row, 2)?, natural_in(row, 3)?)),
+        None => Some((0, 1)),
+    }
 }
 
 /// What rows keep.

@@ -46,7 +46,10 @@ fn is_epoch_table(alloc: Global, table: &Table) -> Result<bool, Memory>
     {
         return Ok(false);
     }
-    Ok(are_state_checks(alloc, &table.checks)? && is_bare(alloc, table)?)
+    match are_state_checks(alloc, &table.checks) {
+        Ok(true) => is_bare(alloc, table),
+        other => other,
+    }
 }
 
 fn are_desk_tables(alloc: Global, tables: &[Table]) -> Result<bool, Memory>
@@ -55,11 +58,13 @@ fn are_desk_tables(alloc: Global, tables: &[Table]) -> Result<bool, Memory>
     let [decided, epoch] = tables else {
         return Ok(false);
     };
-    Ok(
-        are_decided_columns(decided.columns.as_slice())
-            && is_keyed_table(alloc, decided, "decided", 0, &[1, 2, 3])?
-            && is_epoch_table(alloc, epoch)?,
-    )
+    if !are_decided_columns(decided.columns.as_slice()) {
+        return Ok(false);
+    }
+    match is_keyed_table(alloc, decided, "decided", 0, &[1, 2, 3]) {
+        Ok(true) => is_epoch_table(alloc, epoch),
+        other => other,
+    }
 }
 
 fn are_desk_indexes(indexes: &[Index]) -> bool

@@ -2,40 +2,25 @@
 
 ghost use Rattle.std.specs.Prelude.{◌≡◌, false};
 ghost use Rattle.sqlite.specs.Held.{state};
-ghost use Rattle.sqlstore.specs.DeskFresh.{IsFresh, MakesBoth, first_schema};
-ghost use Rattle.sqlstore.specs.DeskTables.{decided_table, epoch_table};
-ghost use Rattle.sqlstore.specs.Fresh.{MakesTable};
+ghost use Rattle.sqlstore.specs.DeskFresh.{IsFresh, MakesBoth};
 ghost use Rattle.sqlstore.specs.Tables.{no_schema};
 ghost use Rattle.sqlstore.specs.Frame.{CreatesTables, RunsWithin};
 ghost use Rattle.sqlstore.specs.Rows.{HasSchema};
 
 use sqlite::{Alter, Connection, Error, Transaction};
 
-/// Makes the table of voters.
-fn make_decided<S: Alter>(tx: &mut Transaction<'_, S>) -> Result<usize, Error>
-    ensures { RunsWithin S.Store (HasSchema no_schema) (MakesTable no_schema decided_table) tx.old.conn tx.new.conn result }
+/// Makes the table of voters, and that of the incarnation and the version.
+fn make_both<S: Alter>(tx: &mut Transaction<'_, S>) -> Result<usize, Error>
+    ensures { RunsWithin S.Store (HasSchema no_schema) MakesBoth tx.old.conn tx.new.conn result }
 {
     tx.execute(
         "CREATE TABLE decided (tlife INTEGER NOT NULL, tnumber INTEGER NOT NULL, site TEXT NOT NULL, life INTEGER NOT NULL, visit INTEGER NOT NULL, PRIMARY KEY (tlife, tnumber, site)) STRICT",
         &[],
-    )
-}
-
-/// Makes the table of the incarnation and the version.
-fn make_epoch<S: Alter>(tx: &mut Transaction<'_, S>) -> Result<usize, Error>
-    ensures { RunsWithin S.Store (HasSchema first_schema) (MakesTable first_schema epoch_table) tx.old.conn tx.new.conn result }
-{
+    )?;
     tx.execute(
         "CREATE TABLE state (one INTEGER NOT NULL PRIMARY KEY CHECK (one = 1), life INTEGER NOT NULL, version INTEGER NOT NULL) STRICT",
         &[],
     )
-}
-
-fn make_both<S: Alter>(tx: &mut Transaction<'_, S>) -> Result<usize, Error>
-    ensures { RunsWithin S.Store (HasSchema no_schema) MakesBoth tx.old.conn tx.new.conn result }
-{
-    make_decided(tx)?;
-    make_epoch(tx)
 }
 
 /// Makes the tables of the coordinator in an empty database.

@@ -4,7 +4,7 @@ ghost use Rattle.std.specs.Prelude.{◌≡◌, IfOk, false, FitsSigned};
 ghost use Rattle.std.specs.Int.{w64};
 ghost use Rattle.sqlite.specs.Held.{state};
 ghost use Rattle.sqlstore.specs.DeskQuery.{HasDeskSchema, AreEpochs, BeginsSome, first_version, BeginsIf};
-ghost use Rattle.sqlstore.specs.DeskStep.{EndsEpoch, StartsEpoch, MovesTo};
+ghost use Rattle.sqlstore.specs.DeskStep.{MovesTo};
 ghost use Rattle.sqlstore.specs.DeskTables.{desk_schema};
 ghost use Rattle.sqlstore.specs.Query.{first_life};
 ghost use Rattle.sqlstore.specs.Rows.{AreTablesOf};
@@ -14,27 +14,6 @@ use crate::life::{after, first_life};
 use crate::param::number;
 use sqlite::{Alter, Connection, Error, Row, Transaction};
 
-/// Takes out the incarnation and the version.
-fn end_epoch<S: Alter>(tx: &mut Transaction<'_, S>) -> Result<usize, Error>
-    ensures { RunsWithin S.Store (AreTablesOf desk_schema) EndsEpoch tx.old.conn tx.new.conn result }
-{
-    tx.execute("DELETE FROM state", &[])
-}
-
-/// Puts in an incarnation and a version.
-fn start_epoch<S: Alter>(
-    tx: &mut Transaction<'_, S>,
-    life: &i64,
-    version: &i64,
-) -> Result<usize, Error>
-    ensures { RunsWithin S.Store (AreTablesOf desk_schema) (StartsEpoch life.now version.now) tx.old.conn tx.new.conn result }
-{
-    tx.execute(
-        "INSERT INTO state (one, life, version) VALUES (1, ?1, ?2)",
-        &[number(life), number(version)],
-    )
-}
-
 /// Puts an incarnation and a version in place of others.
 pub fn move_to<S: Alter>(
     tx: &mut Transaction<'_, S>,
@@ -43,8 +22,11 @@ pub fn move_to<S: Alter>(
 ) -> Result<usize, Error>
     ensures { RunsWithin S.Store (AreTablesOf desk_schema) (MovesTo life.now version.now) tx.old.conn tx.new.conn result }
 {
-    end_epoch(tx)?;
-    start_epoch(tx, life, version)
+    tx.execute("DELETE FROM state", &[])?;
+    tx.execute(
+        "INSERT INTO state (one, life, version) VALUES (1, ?1, ?2)",
+        &[number(life), number(version)],
+    )
 }
 
 /// What the table of state says.

@@ -76,15 +76,10 @@ pub fn part_row<'a>(
         Ok(part) => part,
         Err(fault) => return Err(fault),
     };
-    let leaf = match named(alloc, leaves, name) {
-        Ok(Some(leaf)) => leaf,
-        Ok(None) => return Err(StoreFault::Damaged),
-        Err(fault) => return Err(fault),
-    };
-    if part.key() == key {
-        Ok((leaf, part))
-    } else {
-        Err(StoreFault::Damaged)
+    match named(alloc, leaves, name) {
+        Ok(Some(leaf)) if part.key() == key => Ok((leaf, part)),
+        Ok(_) => Err(StoreFault::Damaged),
+        Err(fault) => Err(fault),
     }
 }
 

@@ -1,6 +1,6 @@
 //! Prepared rows and the incarnation, from the rows of the tables.
 
-ghost use Rattle.std.specs.Prelude.{◌≡◌, MatchOption, IfOk, OnOk, Some, true, if◌then◌else◌, [], unsigned_abs};
+ghost use Rattle.std.specs.Prelude.{◌≡◌, ◌≤ℤ◌, pos, MatchOption, IfOk, OnOk, Some, true, if◌then◌else◌, [], unsigned_abs};
 ghost use Rattle.std.specs.Bool.{Decides};
 ghost use Rattle.std.specs.BTreeMap as tree;
 ghost use Rattle.std.specs.BTreeMap.{IsOrdered};
@@ -115,11 +115,17 @@ fn list_prepared(
     Ok(Seq::new(rows))
 }
 
+fn is_begun(row: &Row) -> bool
+    ensures { Decides result (pos 0 ≤ℤ int_at row.now 2) }
+{
+    int_in(row, 2) >= 0
+}
+
 /// Whether no incarnation is below zero.
 fn are_begun(rows: &[Row]) -> bool
     ensures { Decides result (AreBegun rows.now) }
 {
-    rows.iter().all(|row| int_in(row, 2) >= 0)
+    rows.iter().all(is_begun)
 }
 
 /// The incarnation that rows say: none has begun where there is no row.
@@ -146,7 +152,7 @@ fn are_all_numbered(tables: &Gathered) -> bool
 fn are_intended(rows: &[PreparedRow]) -> bool
     ensures { Decides result (AllByRecursion HasChanges rows.now) }
 {
-    rows.iter().all(|row| has_changes(row))
+    rows.iter().all(has_changes)
 }
 
 fn has_changes(row: &PreparedRow) -> bool

@@ -5,13 +5,13 @@ ghost use Rattle.std.specs.Bool.{Decides};
 ghost use Rattle.sqlite.specs.Held.{state};
 ghost use Rattle.sqlite_sql.specs.Syntax.{term_of};
 ghost use Rattle.sqlstore.specs.Schemas.{is_one, IsBare, IsKeyedBy, IsKeyedByNumber, keyed_table, index_of, site_indexes};
-ghost use Rattle.sqlstore.specs.Tables.{column_of, no_stamps, part_table, prepared_table, intent_table, state_table, site_schema};
+ghost use Rattle.sqlstore.specs.Tables.{column_of, part_table, prepared_table, intent_table, state_table, site_schema};
 ghost use Rattle.sqlstore.specs.Frame.{FailsUnless};
 
 use sqlite::{Alter, Connection};
 use sqlite_items::Items;
 use sqlite_schema::code::Terms;
-use sqlite_schema::schema::{Column, Index, Kind, Schema, Stamps, Table};
+use sqlite_schema::schema::{Column, Index, Kind, Schema, Table};
 use sqlite_sql::expr::{Node, open};
 use sqlite_sql::ops::{BinaryOp, CompareOp};
 use sqlite_value::keys::{Collation, Order};
@@ -106,19 +106,19 @@ pub fn are_state_checks(alloc: Global, terms: &Terms) -> Result<bool, Memory>
     }
 }
 
-fn are_no_stamps(alloc: Global, stamps: &Stamps) -> Result<bool, Memory>
-    ensures { IfOk result (λ is. Decides is (stamps.now ≡ no_stamps)) }
-{
-    let bare = stamps.places.is_empty() && stamps.formats.is_empty();
-    Ok(are_no_terms(alloc, &stamps.terms)? && bare)
-}
-
 /// Whether a table refers to no other, computes no column and doesn't count.
 pub fn is_bare(alloc: Global, table: &Table) -> Result<bool, Memory>
     ensures { IfOk result (λ is. Decides is (IsBare table.now)) }
 {
-    let bare = table.references.is_empty() && table.computed.is_empty() && !table.is_counted;
-    Ok(are_no_stamps(alloc, &table.stamps)? && bare)
+    let bare = table.references.is_empty()
+        && table.computed.is_empty()
+        && table.stamps.places.is_empty()
+        && table.stamps.formats.is_empty()
+        && !table.is_counted;
+    match are_no_terms(alloc, &table.stamps.terms) {
+        Ok(true) => Ok(bare),
+        other => other,
+    }
 }
 
 fn is_one_key(keys: &[Items<usize>], key: &[usize]) -> bool
@@ -162,7 +162,10 @@ pub fn is_keyed_table(
     if table.name.as_slice() != name.as_bytes() || table.tree != tree || !is_keyed(table, key) {
         return Ok(false);
     }
-    Ok(are_no_terms(alloc, &table.checks)? && is_bare(alloc, table)?)
+    match are_no_terms(alloc, &table.checks) {
+        Ok(true) => is_bare(alloc, table),
+        other => other,
+    }
 }
 
 /// Whether the number of a table is its key.
@@ -185,7 +188,10 @@ fn is_state_table(alloc: Global, table: &Table) -> Result<bool, Memory>
     {
         return Ok(false);
     }
-    Ok(are_state_checks(alloc, &table.checks)? && is_bare(alloc, table)?)
+    match are_state_checks(alloc, &table.checks) {
+        Ok(true) => is_bare(alloc, table),
+        other => other,
+    }
 }
 
 fn are_site_tables(alloc: Global, tables: &[Table]) -> Result<bool, Memory>
@@ -194,15 +200,24 @@ fn are_site_tables(alloc: Global, tables: &[Table]) -> Result<bool, Memory>
     let [part, prepared, intent, state] = tables else {
         return Ok(false);
     };
-    Ok(
-        are_part_columns(part.columns.as_slice())
-            && are_prepared_columns(prepared.columns.as_slice())
-            && are_intent_columns(intent.columns.as_slice())
-            && is_keyed_table(alloc, part, "part", 0, &[1, 2])?
-            && is_keyed_table(alloc, prepared, "prepared", 2, &[1, 2])?
-            && is_keyed_table(alloc, intent, "intent", 4, &[1, 2, 3, 4])?
-            && is_state_table(alloc, state)?,
-    )
+    if !are_part_columns(part.columns.as_slice())
+        || !are_prepared_columns(prepared.columns.as_slice())
+        || !are_intent_columns(intent.columns.as_slice())
+    {
+        return Ok(false);
+    }
+    match is_keyed_table(alloc, part, "part", 0, &[1, 2]) {
+        Ok(true) => {}
+        other => return other,
+    }
+    match is_keyed_table(alloc, prepared, "prepared", 2, &[1, 2]) {
+        Ok(true) => {}
+        other => return other,
+    }
+    match is_keyed_table(alloc, intent, "intent", 4, &[1, 2, 3, 4]) {
+        Ok(true) => is_state_table(alloc, state),
+        other => other,
+    }
 }
 
 /// Whether an index is a table's own, over these places in ascending order.

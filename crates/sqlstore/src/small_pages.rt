@@ -68,13 +68,22 @@ fn create<D: Disk + Drop>(
     let Ok(pager) = Pager::new(alloc, files, small_page(), options) else {
         return Err(StoreFault::Memory);
     };
-    let Ok(fresh) = Unopened::new(alloc, pager, &[]) else {
-        return Err(StoreFault::Memory);
+    let fresh = match Unopened::new(alloc, pager, &[]) {
+        Ok(fresh) => fresh,
+        Err(failed) => {
+            drop(failed);
+            return Err(StoreFault::Memory);
+        }
     };
     match fresh.create() {
         Ok(store) => Ok(store),
-        Err((OpenError::OutOfMemory, _)) => Err(StoreFault::Memory),
-        Err(_) => Err(StoreFault::Refused),
+        Err((error, unmade)) => {
+            drop(unmade);
+            match error {
+                OpenError::OutOfMemory => Err(StoreFault::Memory),
+                _ => Err(StoreFault::Refused),
+            }
+        }
     }
 }
 
@@ -92,6 +101,11 @@ pub fn make_small(rt: &HostRuntime, path: &str) -> Result<(), StoreFault>
     let Ok(seeds) = RandomState::new(rt) else {
         return Err(StoreFault::Refused);
     };
-    let _made = create(rt.alloc(), files, Options::new(seeds.hash_one(&0u8)))?;
-    Ok(())
+    match create(rt.alloc(), files, Options::new(seeds.hash_one(&0u8))) {
+        Ok(made) => {
+            drop(made);
+            Ok(())
+        }
+        Err(fault) => Err(fault),
+    }
 }

@@ -136,8 +136,6 @@ pub fn load_parts<S: Alter>(
     ensures walks { WalksParts leaves.now (λ db changes. HasWalked leaves.now (db.trees 0) true map.empty changes) (state S.Store conn.old) (state S.Store conn.new) result }
     ensures counted { CountsRefusals refusals.old refusals.new result }
 {
-    let _live = conn.schema();
-    let _settled = conn.is_autocommit();
     let mut changes = Changes::new(alloc);
     match walk(conn, refusals, alloc, leaves, &mut changes, true) {
         Ok(()) => Ok(changes),
