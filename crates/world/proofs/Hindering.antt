@@ -97,13 +97,13 @@ module _ (db : Database) where
   by_first : (call : Ask (language db)) (before middle after : Machines) (past second : List (Deed (language db))) {heard : _} (serves : Serves db call before middle heard) → SomeHinder (HaveRefused before.refused middle.refused) serves.comings (asked call (world_of db before [] past)) →
       Led middle after (past ++ serves.deeds) second → WereHindered db before after past (serves.deeds ++ second)
   by_first call before middle after past second serves met rest = record {
-      front = [];
-      call = call;
-      comings = serves.comings;
-      back = rest.calls;
-      led = then_led before middle after past serves.deeds second ((call, serves.comings) ∷ []) rest.calls (serves.is past) rest.led;
-      met = hinder_so (λ refused. refused_before before.refused middle.refused after.refused serves.counts refused rest.counts) serves.comings (asked call (world_of db before [] past)) met;
-    }
+    front = [];
+    call = call;
+    comings = serves.comings;
+    back = rest.calls;
+    led = then_led before middle after past serves.deeds second ((call, serves.comings) ∷ []) rest.calls (serves.is past) rest.led;
+    met = hinder_so (λ refused. refused_before before.refused middle.refused after.refused serves.counts refused rest.counts) serves.comings (asked call (world_of db before [] past)) met;
+  }
 
   move_hindered : (move : Move) (before middle after : Machines) (past second : List (Deed (language db))) (moves : Moves db move before middle) → IsHindered db move before middle past moves → Led middle after (past ++ deeds_of db move before middle moves) second →
       WereHindered db before after past (deeds_of db move before middle moves ++ second)
