@@ -133,9 +133,7 @@ pub fn explain_fault<E: Write>(
 fn refusal_of(alloc: Global, schema: &Schema, text: &str) -> Option<ReadFault>
     ensures { (command : CommandOf) → IsTextOf schema.now.relations text.now command → result ≡ None }
 {
-    let Err(fault) = read(alloc, text, schema) else {
-        return None;
-    };
+    let fault = read(alloc, text, schema).err()?;
     match fault.rule() {
         Rule::Memory => None,
         _ => Some(fault),
