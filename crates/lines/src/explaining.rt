@@ -35,7 +35,11 @@ pub fn explain_outcome<C: Read + Drop, E: Write>(
 {
     match outcome {
         Outcome::SomeRefused => match read_catalog(alloc, file, catalog) {
-            Ok(catalog) => explain_script(alloc, catalog.schema(), script, errors),
+            Ok(catalog) => {
+                let explained = explain_script(alloc, catalog.schema(), script, errors);
+                drop(catalog);
+                explained
+            }
             Err(_) => Ok(()),
         },
         Outcome::Refused(fault) => {

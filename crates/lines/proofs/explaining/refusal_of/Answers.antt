@@ -1,4 +1,4 @@
-use Rattle.std.proofs.Common.{◌≡◌, ◌≢◌, ◌∙◌, Option, Some, Result, Ok, Err, IfErr, subst, sym}
+use Rattle.std.proofs.Common.{◌≡◌, ◌≢◌, ◌∙◌, Some, Result, Ok, Err, IfErr, subst, sym}
 use Rattle.std.specs.Result.{result_err}
 use Rattle.reader.specs.Command.{IsTextOf}
 use Rattle.reader.specs.Fault.{Fault}

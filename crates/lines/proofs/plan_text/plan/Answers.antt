@@ -1,5 +1,5 @@
 -- Why `plan_text::plan` meets its contract.
-use Rattle.std.proofs.Common.{List, subst, string_bytes, rules}
+use Rattle.std.proofs.Common.{string_bytes, rules}
 use Rattle.catalog.specs.Relation.{catalogue_of}
 use Rattle.lines.proofs.PlanLemmas.{refused_text, shown_plan}
 use Rattle.lines.proofs.plan_text.plan.Goals as goal
