@@ -1,5 +1,5 @@
 -- Lemmas on what is shown of a plan.
-use Rattle.std.proofs.Common.{◌≡◌, ◌≢◌, ℕ, Bool, false, List, [], ◌∷◌, ◌++◌, Option, Some, None, Result, Ok, Err, IfErr, IfSome, OnOk, inl, inr, append_assoc, refl, subst}
+use Rattle.std.proofs.Common.{◌≡◌, ◌≢◌, ℕ, Bool, false, List, [], ◌∷◌, ◌++◌, Option, Some, None, Result, Ok, Err, IfErr, IfSome, OnOk, inl, inr, append_assoc, refl, subst, sym}
 use Rattle.meaning.specs.declared.schema.RelationSchema.{RelationSchema}
 use Rattle.meaning.specs.declared.statement.Statement.{Statement}
 use Rattle.meaning.specs.Statement.{is_refragment}
@@ -10,7 +10,7 @@ use Rattle.reader.specs.declared.fault.Rule.TheVariants as rules
 use Rattle.reader.specs.Command.{IsTextOf, OneCommandOfText}
 use Rattle.reader.specs.Fault.{Fault}
 use Rattle.std.specs.Borrow.{Bor}
-use Rattle.std.specs.Io.KnownBytes.{Appends}
+use Rattle.std.specs.Io.KnownBytes.{Appends, Keeps}
 use Rattle.catalog.specs.Catalogue.{Catalogue, IsValidCatalogue}
 use Rattle.catalog.specs.FragmentLeaf.{schemas_of}
 use Rattle.lines.specs.declared.fault.ProgramFault.TheVariants.{Memory}
@@ -56,9 +56,14 @@ shown_plan (Some bytes) as_tree file text old new catalogue statement shown writ
 shown_plan (Some bytes) as_tree file text old new catalogue statement shown written (Err (Refused fault)) of valid read planned same said faults = absurd faults
 shown_plan (Some bytes) as_tree file text old new catalogue statement shown written (Err (NoStatement fault)) of valid read planned same said faults = absurd faults
 
--- memory ran out
-pub out_of_memory : (known : Option (List ℕ)) (as_tree : Bool) (file : Bor (List ℕ)) (text : List ℕ) (old new : Option (List ℕ)) (result : Result Unit PlanFault) (fault : PlanFault) → result ≡ Err fault → fault ≡ Program Memory → IfSome known (λ bytes. PlansFile as_tree file text bytes old new result)
-out_of_memory None as_tree file text old new result fault is memory = tt
-out_of_memory (Some bytes) as_tree file text old new result fault is memory =
-    let same : Err (Program Memory) ≡ result = cc in
-    subst (λ (r : Result Unit PlanFault). PlansFile as_tree file text bytes old new r) same (inl (inl refl))
+-- the text is refused, and nothing was written
+pub refused_text : (known : Option (List ℕ)) (as_tree : Bool) (file : Bor (List ℕ)) (text : List ℕ) (old new : Option (List ℕ)) (catalogue : Catalogue) (result : Result Unit PlanFault) (fault : PlanFault) → IfSome known (λ bytes. IsCatalogueFile bytes catalogue) → IsValidCatalogue catalogue →
+    result ≡ Err fault → IsReadFault (schemas_of catalogue) text fault → Keeps old new → IfSome known (λ bytes. PlansFile as_tree file text bytes old new result)
+refused_text None as_tree file text old new catalogue result fault of valid is refused quiet = tt
+refused_text (Some bytes) as_tree file text old new catalogue result fault of valid is refused quiet =
+    subst (λ (r : Result Unit PlanFault). PlansFile as_tree file text bytes old new r) (sym is) (go fault refused)
+  where
+    go : (other : PlanFault) → IsReadFault (schemas_of catalogue) text other → PlansFile as_tree file text bytes old new (Err other)
+    go (Program program) memory = inl (inl memory)
+    go (Refused refusal) none = absurd none
+    go (NoStatement refusal) none = record { catalogue = catalogue; file = of; valid = valid; refused = none; quiet = quiet }

@@ -54,10 +54,10 @@ pub fn tell_difference<E: Write>(
 
 /// Tells the sites of both.
 fn tell_sites<E: Write>(alloc: Global, both: Compared<'_>, errors: &mut E) -> io::Result<()> {
-    let (Ok(kept), Ok(given)) = (
-        names_of(alloc, both.kept.sites()),
-        names_of(alloc, both.given.sites()),
-    ) else {
+    let Ok(kept) = names_of(alloc, both.kept.sites()) else {
+        return Ok(());
+    };
+    let Ok(given) = names_of(alloc, both.given.sites()) else {
         return Ok(());
     };
     let path = both.path;
@@ -116,7 +116,10 @@ fn tell_column<E: Write>(
     pair: (Option<&Column>, Option<&Column>),
     errors: &mut E,
 ) -> io::Result<()> {
-    let (Ok(kept), Ok(given)) = (column_words(alloc, pair.0), column_words(alloc, pair.1)) else {
+    let Ok(kept) = column_words(alloc, pair.0) else {
+        return Ok(());
+    };
+    let Ok(given) = column_words(alloc, pair.1) else {
         return Ok(());
     };
     let path = both.path;
@@ -150,10 +153,10 @@ fn tell_leaf<E: Write>(
 ) -> io::Result<()> {
     let path = both.path;
     for number in 1..=both.kept.leaves().len().max(both.given.leaves().len()) {
-        let (Ok(kept), Ok(given)) = (
-            leaf_words(alloc, both.kept, name, number),
-            leaf_words(alloc, both.given, name, number),
-        ) else {
+        let Ok(kept) = leaf_words(alloc, both.kept, name, number) else {
+            return Ok(());
+        };
+        let Ok(given) = leaf_words(alloc, both.given, name, number) else {
             return Ok(());
         };
         if kept != given {

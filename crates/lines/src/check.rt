@@ -33,7 +33,9 @@ pub fn check<'a, R: Read + Drop, W: Write>(
     ensures { IfSome (R.remaining input) (λ bytes. ChecksFile tree file.entry bytes (W.contents output.old) (W.contents output.new) result) }
 {
     let catalog = read_catalog(alloc, file, input)?;
-    let text = check_text(alloc, tree, &catalog)?;
+    let text = check_text(alloc, tree, &catalog);
+    drop(catalog);
+    let text = text?;
     write_text(output, text.as_str())
 }
 

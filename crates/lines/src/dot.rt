@@ -60,16 +60,12 @@ pub fn read(line: &str) -> (Option<Word>, &str)
 fn known_word(text: &str) -> Option<Word>
     ensures { result ≡ spec.word_of text.now }
 {
-    if text == ".help" {
-        Some(Word::Help)
-    } else if text == ".quit" {
-        Some(Word::Quit)
-    } else if text == ".timer" {
-        Some(Word::Timer)
-    } else if text == ".mode" {
-        Some(Word::Mode)
-    } else {
-        telling_word(text)
+    match text {
+        ".help" => Some(Word::Help),
+        ".quit" => Some(Word::Quit),
+        ".timer" => Some(Word::Timer),
+        ".mode" => Some(Word::Mode),
+        _ => telling_word(text),
     }
 }
 
@@ -77,18 +73,13 @@ fn known_word(text: &str) -> Option<Word>
 fn telling_word(text: &str) -> Option<Word>
     ensures { result ≡ spec.telling_word text.now }
 {
-    if text == ".tables" {
-        Some(Word::Tables)
-    } else if text == ".schema" {
-        Some(Word::Schema)
-    } else if text == ".leaves" {
-        Some(Word::Leaves)
-    } else if text == ".catalog" {
-        Some(Word::Catalog)
-    } else if text == ".stats" {
-        Some(Word::Stats)
-    } else {
-        showing_word(text)
+    match text {
+        ".tables" => Some(Word::Tables),
+        ".schema" => Some(Word::Schema),
+        ".leaves" => Some(Word::Leaves),
+        ".catalog" => Some(Word::Catalog),
+        ".stats" => Some(Word::Stats),
+        _ => showing_word(text),
     }
 }
 
@@ -96,14 +87,11 @@ fn telling_word(text: &str) -> Option<Word>
 fn showing_word(text: &str) -> Option<Word>
     ensures { result ≡ spec.showing_word text.now }
 {
-    if text == ".show" {
-        Some(Word::Show)
-    } else if text == ".leaf" {
-        Some(Word::Leaf)
-    } else if text == ".plan" {
-        Some(Word::Plan)
-    } else {
-        filing_word(text)
+    match text {
+        ".show" => Some(Word::Show),
+        ".leaf" => Some(Word::Leaf),
+        ".plan" => Some(Word::Plan),
+        _ => filing_word(text),
     }
 }
 
@@ -111,14 +99,11 @@ fn showing_word(text: &str) -> Option<Word>
 fn filing_word(text: &str) -> Option<Word>
     ensures { result ≡ spec.filing_word text.now }
 {
-    if text == ".dump" {
-        Some(Word::Dump)
-    } else if text == ".read" {
-        Some(Word::Read)
-    } else if text == ".import" {
-        Some(Word::Import)
-    } else {
-        None
+    match text {
+        ".dump" => Some(Word::Dump),
+        ".read" => Some(Word::Read),
+        ".import" => Some(Word::Import),
+        _ => None,
     }
 }
 
@@ -126,16 +111,12 @@ fn filing_word(text: &str) -> Option<Word>
 pub fn mode_named(name: &str) -> Option<Mode>
     ensures { result ≡ spec.mode_named name.now }
 {
-    if name == "tabs" {
-        Some(Mode::Tabs)
-    } else if name == "columns" {
-        Some(Mode::Columns)
-    } else if name == "csv" {
-        Some(Mode::Csv)
-    } else if name == "json" {
-        Some(Mode::Json)
-    } else {
-        None
+    match name {
+        "tabs" => Some(Mode::Tabs),
+        "columns" => Some(Mode::Columns),
+        "csv" => Some(Mode::Csv),
+        "json" => Some(Mode::Json),
+        _ => None,
     }
 }
 
@@ -143,11 +124,9 @@ pub fn mode_named(name: &str) -> Option<Mode>
 pub fn switch_named(name: &str) -> Option<bool>
     ensures { result ≡ spec.switch_named name.now }
 {
-    if name == "on" {
-        Some(true)
-    } else if name == "off" {
-        Some(false)
-    } else {
-        None
+    match name {
+        "on" => Some(true),
+        "off" => Some(false),
+        _ => None,
     }
 }

@@ -35,7 +35,11 @@ pub fn explain_outcome<C: Read + Drop, E: Write>(
 {
     match outcome {
         Outcome::SomeRefused => match read_catalog(alloc, file, catalog) {
-            Ok(catalog) => explain_script(alloc, catalog.schema(), script, errors),
+            Ok(catalog) => {
+                let explained = explain_script(alloc, catalog.schema(), script, errors);
+                drop(catalog);
+                explained
+            }
             Err(_) => Ok(()),
         },
         Outcome::Refused(fault) => {
@@ -133,9 +137,7 @@ pub fn explain_fault<E: Write>(
 fn refusal_of(alloc: Global, schema: &Schema, text: &str) -> Option<ReadFault>
     ensures { (command : CommandOf) → IsTextOf schema.now.relations text.now command → result ≡ None }
 {
-    let Err(fault) = read(alloc, text, schema) else {
-        return None;
-    };
+    let fault = read(alloc, text, schema).err()?;
     match fault.rule() {
         Rule::Memory => None,
         _ => Some(fault),

@@ -78,8 +78,9 @@ pub fn plan<'a, R: Read + Drop, W: Write>(
     ensures { IfSome (R.remaining input) (λ bytes. PlansFile tree file.entry statement.now bytes (W.contents output.old) (W.contents output.new) result) }
 {
     let catalog = open_catalog(alloc, file, input)?;
-    let statement = read_statement(alloc, catalog.schema(), statement)?;
-    let text = shown_plan(alloc, tree, &catalog, &statement)?;
+    let text = shown_of_text(alloc, tree, &catalog, statement);
+    drop(catalog);
+    let text = text?;
     write_plan(output, text.as_str())
 }
 
@@ -87,8 +88,23 @@ pub fn plan<'a, R: Read + Drop, W: Write>(
 pub fn plan_typed<'a>(alloc: Global, catalog: &Catalog, text: &str) -> Result<String, PlanFault<'a>>
     ensures { IfOk result (λ shown. IsPlanOf (catalogue_of catalog.now) text.now (string_bytes shown)) }
 {
+    shown_of_text(alloc, false, catalog, text)
+}
+
+/// What is shown of the plan of a statement of this text, its fetches or its tree.
+fn shown_of_text<'a>(
+    alloc: Global,
+    tree: bool,
+    catalog: &Catalog,
+    text: &str,
+) -> Result<String, PlanFault<'a>>
+    ensures shown { IfOk result (λ shown. (statement : StatementValue) × IsTextOf (schemas_of (catalogue_of catalog.now)) text.now (Run statement) × IsShownPlan tree (catalogue_of catalog.now) statement (string_bytes shown)) }
+    ensures faults { IfErr result (IsReadFault (schemas_of (catalogue_of catalog.now)) text.now) }
+{
     let statement = read_statement(alloc, catalog.schema(), text)?;
-    plan_of(alloc, catalog, &statement)
+    let shown = shown_plan(alloc, tree, catalog, &statement);
+    drop(statement);
+    shown
 }
 
 /// The catalogue that `input` gives.
@@ -165,21 +181,8 @@ fn shown_plan<'a>(
     if tree {
         Ok(tree_text(alloc, catalog, statement)?)
     } else {
-        plan_of(alloc, catalog, statement)
+        Ok(planned(alloc, catalog, statement)?)
     }
-}
-
-/// What is shown of a statement's plan, if there is memory for it.
-fn plan_of<'a>(
-    alloc: Global,
-    catalog: &Catalog,
-    statement: &Statement,
-) -> Result<String, PlanFault<'a>>
-    requires { IsStatementOf (schemas_of (catalogue_of catalog.now)) statement.now }
-    ensures text { IfOk result (λ text. IsPlanText (catalogue_of catalog.now) statement.now (string_bytes text)) }
-    ensures faults { IfErr result (λ fault. fault ≡ PlanFault.Program ProgramFault.Memory) }
-{
-    Ok(planned(alloc, catalog, statement)?)
 }
 
 /// What is shown of a statement's plan.

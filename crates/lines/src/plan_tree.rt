@@ -1,9 +1,10 @@
 //! A statement's plan shown as a tree.
 
-ghost use Rattle.std.specs.Prelude.{◌≡◌, ◌++◌, IfOk, OnOk, string_bytes};
+ghost use Rattle.std.specs.Prelude.{◌≡◌, ◌++◌, IfOk, OnOk, length, string_bytes};
 ghost use Rattle.catalog.specs.FragmentLeaf.{schemas_of};
 ghost use Rattle.catalog.specs.Relation.{catalogue_of};
 ghost use Rattle.meaning.specs.Statement.{IsStatementOf};
+ghost use Rattle.lines.specs.FetchLine.{count_line};
 ghost use Rattle.lines.specs.PlanTree.{IsPlanTree, qualified, qualified_all, select_columns, statement_columns, tree_lines};
 ghost use Rattle.plan.specs.Shape.{shape};
 
@@ -16,7 +17,7 @@ use meaning::schema::{Column, Schema};
 use meaning::statement::{Select, Statement};
 use plan::localize::localize;
 use plan::plan::Plan;
-use plan::reduce::reduce;
+use plan::reduce::{Reduced, reduce};
 use std::alloc::Global;
 use terms::copy::copy_all;
 use terms::memory::Memory;
@@ -29,6 +30,20 @@ pub fn tree_text(alloc: Global, catalog: &Catalog, statement: &Statement) -> Res
 {
     let plan = localize(alloc, catalog, statement)?;
     let less = reduce(alloc, catalog, statement, plan)?;
+    let text = reduced_text(alloc, catalog, statement, &less);
+    drop(less);
+    text
+}
+
+/// The plan of a statement, reduced to these fetches, as a tree, and how many fetches there are.
+fn reduced_text(
+    alloc: Global,
+    catalog: &Catalog,
+    statement: &Statement,
+    less: &Reduced,
+) -> Result<String, Memory>
+    ensures { IfOk result (λ text. string_bytes text ≡ tree_lines (catalogue_of catalog.now) (statement_columns (schemas_of (catalogue_of catalog.now)) statement.now) (shape less.now.plan) ++ count_line (length less.now.fetches.items)) }
+{
     let columns = statement_columns(alloc, catalog.schema(), statement)?;
     let mut text = String::new(alloc);
     put_tree(&mut text, catalog, columns.as_slice(), &less.plan)?;

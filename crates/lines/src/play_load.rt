@@ -100,8 +100,10 @@ fn load(alloc: Global, schema: &Schema, text: &str, whole: &mut Whole) -> Result
     one_command();
     match read_insert(alloc, text, schema)? {
         Some(insert) => {
-            let answer = run(alloc, whole, &Statement::Insert(insert))?;
-            Ok(is_changed(&answer))
+            let statement = Statement::Insert(insert);
+            let answer = run(alloc, whole, &statement);
+            drop(statement);
+            Ok(is_changed(answer?))
         }
         None => Ok(false),
     }
@@ -129,12 +131,15 @@ fn insert_of(command: Command) -> Option<Insert>
 {
     match command {
         Command::Run(Statement::Insert(insert)) => Some(insert),
-        _ => None,
+        other => {
+            drop(other);
+            None
+        }
     }
 }
 
-fn is_changed(answer: &Answer) -> bool
-    ensures { result ≡ spec.is_changed answer.now }
+fn is_changed(answer: Answer) -> bool
+    ensures { result ≡ spec.is_changed answer }
 {
     matches!(answer, Answer::Changed(_))
 }

@@ -166,50 +166,37 @@ fn read_verb(word: &str) -> Option<Verb>
 fn call_verb(word: &str) -> Option<Verb>
     ensures { result ≡ spec.call_verb word.now }
 {
-    if word == "load" {
-        Some(Verb::Load)
-    } else if word == "begin" {
-        Some(Verb::Begin)
-    } else if word == "refragment" {
-        Some(Verb::Refragment)
-    } else if word == "do" {
-        Some(Verb::Do)
-    } else if word == "commit" {
-        Some(Verb::Commit)
-    } else if word == "rollback" {
-        Some(Verb::Rollback)
-    } else {
-        None
+    match word {
+        "load" => Some(Verb::Load),
+        "begin" => Some(Verb::Begin),
+        "refragment" => Some(Verb::Refragment),
+        "do" => Some(Verb::Do),
+        "commit" => Some(Verb::Commit),
+        "rollback" => Some(Verb::Rollback),
+        _ => None,
     }
 }
 
 fn event_verb(word: &str) -> Option<Verb>
     ensures { result ≡ spec.event_verb word.now }
 {
-    if word == "deliver" {
-        Some(Verb::Deliver)
-    } else if word == "all" {
-        Some(Verb::All)
-    } else if word == "giveup" {
-        Some(Verb::GiveUp)
-    } else if word == "inquire" {
-        Some(Verb::Inquire)
-    } else if word == "restart" {
-        Some(Verb::Restart)
-    } else {
-        None
+    match word {
+        "deliver" => Some(Verb::Deliver),
+        "all" => Some(Verb::All),
+        "giveup" => Some(Verb::GiveUp),
+        "inquire" => Some(Verb::Inquire),
+        "restart" => Some(Verb::Restart),
+        _ => None,
     }
 }
 
 fn shown_verb(word: &str) -> Option<Verb>
     ensures { result ≡ spec.shown_verb word.now }
 {
-    if word == ".show" {
-        Some(Verb::Show)
-    } else if word == ".leaf" {
-        Some(Verb::Leaf)
-    } else {
-        None
+    match word {
+        ".show" => Some(Verb::Show),
+        ".leaf" => Some(Verb::Leaf),
+        _ => None,
     }
 }
 

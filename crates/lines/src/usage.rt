@@ -5,7 +5,7 @@ ghost use Rattle.std.specs.Io.KnownBytes.{Keeps};
 ghost use Rattle.std.specs.List.{AllByRecursion};
 ghost use Rattle.std.specs.IoError.{error_kind};
 ghost use Rattle.clap.specs.Matches.{first_value};
-ghost use Rattle.clap.specs.Words.{Text, found_of, kind_of, subcommand_of, subcommand_rows_of};
+ghost use Rattle.clap.specs.Words.{Text, app_of, found_of, kind_of, subcommand_of, subcommand_rows_of};
 ghost use Rattle.lines.specs.Grammar.{usage};
 ghost use Rattle.lines.specs.NextFiles.{Gives};
 ghost use Rattle.lines.specs.Usage.{Asks, AsksFor, AsksForInput, IsMisuse, IsNoNumber, asked, asked_dump, asked_sessions, flags_of, flags_of_mode, is_columns, is_csv, is_interactive, is_json, mode_of_flags, retry_of, script_of, stores_in, usage_status};
@@ -176,9 +176,37 @@ fn read_given<'a, S: AsStr>(
     ensures { IfOk result (λ given. Gives (map S.text words.entry.now) is_at_terminal given) }
 {
     let mut command = command(alloc)?;
+    let given = given_to(alloc, &mut command, words, is_at_terminal);
+    drop(command);
+    given
+}
+
+/// What the words ask this command for.
+fn given_to<'a, S: AsStr>(
+    alloc: Global,
+    command: &mut Command<'a>,
+    words: &'a [S],
+    is_at_terminal: bool,
+) -> Result<Given<'a>, Error>
+    ensures { app_of command.old ≡ usage → IfOk result (λ given. Gives (map S.text words.entry.now) is_at_terminal given) }
+{
     let matches = command.try_get_matches_from_mut(words)?;
-    let next = next_given(alloc, &mut command, &matches)?;
-    let asked = asked_given(alloc, &mut command, &matches, is_at_terminal)?;
+    let given = given_in(alloc, command, &matches, is_at_terminal);
+    drop(matches);
+    given
+}
+
+/// What these matches ask for, and the files that they name.
+fn given_in<'a>(
+    alloc: Global,
+    command: &mut Command<'_>,
+    matches: &ArgMatches<'a>,
+    is_at_terminal: bool,
+) -> Result<Given<'a>, Error>
+    ensures { (words : List Text) → subcommand_rows_of matches.entry.now ≡ subcommand_of usage words → IfOk result (λ given. Gives words is_at_terminal given) }
+{
+    let next = next_given(alloc, command, matches)?;
+    let asked = asked_given(alloc, command, matches, is_at_terminal)?;
     Ok(Given { asked, next })
 }
 
@@ -438,7 +466,10 @@ fn not_text(alloc: Global) -> Result<Error, AllocError>
     ensures { IfOk result (λ error. kind_of error ≡ ErrorKind.InvalidValue) }
 {
     let message = "invalid UTF-8 was detected in one or more arguments";
-    command(alloc)?.error(ErrorKind::InvalidValue, message)
+    let mut command = command(alloc)?;
+    let error = command.error(ErrorKind::InvalidValue, message);
+    drop(command);
+    error
 }
 
 /// Writes clap's text where it belongs, help to the output and a mistake to the errors, and answers the
