@@ -10,7 +10,7 @@ use Rattle.catalog.specs.Counts.{has}
 use Rattle.catalog.specs.Keyed.{row_at}
 use Rattle.plan.specs.declared.fetch.Fetch as fetch
 use Rattle.plan.specs.declared.postfix.Node.{Node}
-use Rattle.plan.specs.Postfix.{plan_of, stack_of, under}
+use Rattle.plan.specs.Postfix.{plan_of, stack_of, top, under}
 use Rattle.plan.specs.Rows.{is_seen, met, seen_meets, seen_part}
 use Rattle.plan.specs.Shape.{Shape}
 use Rattle.plan.specs.Uniform.{beside, columns_had, past}
@@ -95,3 +95,14 @@ pub record IsOnTop (nodes before : List Node) (contents : Leaf → List (List Va
   pub steps : new ≤ old + rows_joined (plan_of nodes) contents
   pub stack : stack_of before [] ≡ under (stack_of nodes [])
   pub fewer : length before ≤ length nodes
+
+-- so tables of the two plans on top, the upper one first
+pub record AreOnTop (nodes before : List Node) (contents : Leaf → List (List Value)) (table others : Table) (old new : ℕ) : Type 0 where
+  pub middle : List Node
+  pub between : ℕ
+  pub upper : IsOnTop nodes middle contents others old between
+  pub lower : IsOnTop middle before contents table between new
+
+-- something holds of both plans that nodes leave on top
+abbrev pub AreAsked : (Shape → Type 0) → List Node → Type 0
+AreAsked P nodes = P (plan_of nodes) × P (top (under (stack_of nodes [])))

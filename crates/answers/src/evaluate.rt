@@ -3,7 +3,7 @@
 ghost use Rattle.std.specs.Prelude.{◌≡◌, ◌+◌, ◌≤◌, IfOk};
 ghost use Rattle.plan.specs.Postfix.{plan_of};
 ghost use Rattle.plan.specs.Uniform.{EachRead, IsUniform};
-ghost use Rattle.answers.specs.Evaluated.{IsOnTop};
+ghost use Rattle.answers.specs.Evaluated.{AreAsked, AreOnTop, IsOnTop};
 ghost use Rattle.answers.specs.Joined.{rows_joined};
 ghost use Rattle.answers.specs.Table.{AreParts, HasRows, given};
 
@@ -46,6 +46,7 @@ pub fn evaluate_counted(
 }
 
 /// The table of the plan that nodes leave on top, and the nodes before those that it is made of.
+#[cycle(table_of)]
 fn table_of<'a>(
     alloc: Global,
     ledger: &mut Ledger,
@@ -74,20 +75,34 @@ fn table_of<'a>(
             Ok((cut(columns.as_slice(), table), before))
         }
         Node::Union => {
-            let (others, below) = table_of(alloc, ledger, below, fetched)?;
-            let (table, before) = table_of(alloc, ledger, below, fetched)?;
+            let (table, others, before) = tables_of(alloc, ledger, below, fetched)?;
             Ok((united(alloc, ledger, table, others)?, before))
         }
         Node::KeyJoin => {
-            let (others, below) = table_of(alloc, ledger, below, fetched)?;
-            let (table, before) = table_of(alloc, ledger, below, fetched)?;
+            let (table, others, before) = tables_of(alloc, ledger, below, fetched)?;
             Ok((keyed(alloc, ledger, table, others)?, before))
         }
         Node::Lookup { col, width } => {
-            let (others, below) = table_of(alloc, ledger, below, fetched)?;
-            let (table, before) = table_of(alloc, ledger, below, fetched)?;
+            let (table, others, before) = tables_of(alloc, ledger, below, fetched)?;
             let table = partnered(alloc, ledger, *col, *width, table, &others)?;
             Ok((table, before))
         }
     }
+}
+
+/// The tables of the two plans that nodes leave on top, the one on top second, and the nodes before those that they are made of.
+#[cycle(table_of)]
+fn tables_of<'a>(
+    alloc: Global,
+    ledger: &mut Ledger,
+    nodes: &'a [Node],
+    fetched: &[FetchRows],
+) -> Result<(Table, Table, &'a [Node]), Memory>
+    requires plans { AreAsked IsUniform nodes.now }
+    requires parts { AreAsked (EachRead (λ read. AreParts read.columns (given fetched.now read.leaf))) nodes.now }
+    ensures { IfOk result (λ made. AreOnTop nodes.now made.2.now (given fetched.now) made.0 made.1 ledger.old.steps ledger.new.steps) }
+{
+    let (others, below) = table_of(alloc, ledger, nodes, fetched)?;
+    let (table, before) = table_of(alloc, ledger, below, fetched)?;
+    Ok((table, others, before))
 }
