@@ -1,6 +1,6 @@
 //! The rows of plans, each given as the list of its nodes.
 
-ghost use Rattle.std.specs.Prelude.{◌≡◌, ◌+◌, ◌≤◌, IfOk};
+ghost use Rattle.std.specs.Prelude.{◌≤◌, IfOk};
 ghost use Rattle.plan.specs.Postfix.{plan_of};
 ghost use Rattle.plan.specs.Uniform.{EachRead, IsUniform};
 ghost use Rattle.answers.specs.Evaluated.{AreAsked, AreOnTop, IsOnTop};
