@@ -324,7 +324,7 @@ fn explain_answer<B: Database, E: Write>(
 ) {
     let schema = database.catalog().schema();
     let _ = explain_text(alloc, schema, text, errors);
-    match read(alloc, text, schema) {
+    match &read(alloc, text, schema) {
         Ok(Command::Begin | Command::Run(Statement::Refragment(_))) if was_open => {
             tell(
                 errors,

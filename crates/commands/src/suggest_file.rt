@@ -29,7 +29,28 @@ pub fn suggest_file<'a, R: Read + Drop, W: Write, E: Write>(
 ) -> Result<bool, ProgramFault<'a>>
     ensures { IfOk input (λ reader. IfOk result (λ is_refused. is_refused ≡ false → HasSuggested (R.remaining reader) relation.now key.now sites (W.contents output.old) (W.contents output.new))) }
 {
-    let input = input.map_err(|error| ProgramFault::reading(file, &error))?;
+    match input {
+        Ok(input) => suggest_over(
+            alloc, file, input, relation, key, split, sites, output, errors,
+        ),
+        Err(error) => Err(ProgramFault::reading(file, &error)),
+    }
+}
+
+/// Writes one for a file that was opened.
+fn suggest_over<'a, R: Read + Drop, W: Write, E: Write>(
+    alloc: Global,
+    file: &'a str,
+    input: R,
+    relation: &str,
+    key: &str,
+    split: &str,
+    sites: usize,
+    output: &mut W,
+    errors: &mut E,
+) -> Result<bool, ProgramFault<'a>>
+    ensures { IfOk result (λ is_refused. is_refused ≡ false → HasSuggested (R.remaining input) relation.now key.now sites (W.contents output.old) (W.contents output.new)) }
+{
     match suggest(alloc, relation, key, split, sites, input) {
         Ok(text) => {
             write_text(output, text.as_str())?;

@@ -137,7 +137,7 @@ pub fn is_whole<'a>(alloc: Global, schema: &Schema, text: &str) -> Result<bool, 
     if text.ends_with(';') {
         return Ok(true);
     }
-    match read(alloc, text, schema) {
+    match &read(alloc, text, schema) {
         Ok(_) => Ok(true),
         Err(fault) => match fault.rule() {
             Rule::Memory => Err(ProgramFault::Memory),
