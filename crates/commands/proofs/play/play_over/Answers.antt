@@ -1,4 +1,4 @@
-use Rattle.std.proofs.Common.{◌≡◌, ◌∷◌, [], Err, IfErr, List, Ok, Option, Result, ap, inl, inr, map, subst, sym, ◌∙◌, ℕ}
+use Rattle.std.proofs.Common.{◌∷◌, [], Err, IfErr, List, Ok, Option, Result, ap, inl, inr, map, subst, sym, ◌∙◌, ℕ}
 use Rattle.store.specs.declared.fault.StoreFault.{StoreFault}
 use Rattle.lines.specs.declared.fault.ProgramFault.{ProgramFault}
 use Rattle.lines.specs.Input.{IsOfOutput}
