@@ -1,13 +1,15 @@
 //! Relations as statements that make their rows anew.
 
-ghost use Rattle.std.specs.Prelude.{◌≡◌, IfErr, IfOk, IfSome, OnOk, map, option_map};
+ghost use Rattle.std.specs.Prelude.{◌≡◌, ℕ, Bool, IfErr, IfOk, IfSome, List, OnOk, map, option_map};
+ghost use Rattle.std.specs.Io.KnownBytes.{Appends};
 ghost use Rattle.catalog.specs.Relation.{catalogue_of};
 ghost use Rattle.commands.specs.Dump.{DumpsFile, HasDumped, dumps_of};
 ghost use Rattle.commands.specs.Dump as spec;
 ghost use Rattle.lines.specs.Script.{DumpsRelation, task_of};
 ghost use Rattle.commands.specs.Session.{Talks};
-ghost use Rattle.databases.specs.Solo.{IsOfRun, Stretches};
+ghost use Rattle.databases.specs.Solo.{IsOfRun, IsRun, Stretches};
 
+use crate::play::send_out;
 use crate::session_word::Turn;
 use catalog::catalogue::Catalog;
 use databases::database::Database;
@@ -39,7 +41,7 @@ pub fn dump_files<'a, B: Database + Drop, O: Opens<B>, C: Read + Drop, W: Write>
     ensures { IfSome (C.remaining catalog) (λ bytes. DumpsFile B.seen O.origin mode (option_map (λ name. name.now) relation.entry) catalog_file.entry bytes (W.contents output.old) (W.contents output.new) result) }
 {
     match read_catalog(alloc, catalog_file, catalog) {
-        Ok(catalog) => match dump_over(alloc, opener, catalog, relation, mode, output) {
+        Ok(catalog) => match dump_over(alloc, opener, &catalog, relation, mode, output) {
             Ok(is_missing) => Ok(is_missing),
             Err(fault) => Err(CatalogFault::Program(fault)),
         },
@@ -51,25 +53,40 @@ pub fn dump_files<'a, B: Database + Drop, O: Opens<B>, C: Read + Drop, W: Write>
 fn dump_over<'a, B: Database + Drop, O: Opens<B>, W: Write>(
     alloc: Global,
     opener: &O,
-    catalog: Catalog,
+    catalog: &Catalog,
     relation: Option<&str>,
     mode: Mode,
     output: &mut W,
 ) -> Result<bool, ProgramFault<'a>>
-    ensures ok { IfOk result (HasDumped B.seen O.origin mode (option_map (λ name. name.now) relation.entry) (catalogue_of catalog) (W.contents output.old) (W.contents output.new)) }
+    ensures ok { IfOk result (HasDumped B.seen O.origin mode (option_map (λ name. name.now) relation.entry) (catalogue_of catalog.now) (W.contents output.old) (W.contents output.new)) }
     ensures err { IfErr result IsOfRun }
 {
-    let is_missing = is_missing(relation, catalog.schema());
     let names = names_of(alloc, catalog.schema())?;
     let items = items_asked(alloc, mode, relation, names.as_slice())?;
-    moves_follow(&catalog);
-    let mut database = open_alone(alloc, opener, &catalog)?;
-    let outcome = run_items(alloc, mode, &mut database, items.as_slice(), output);
+    let outcome = answer_items(alloc, opener, catalog, mode, items.as_slice(), output);
     // What was written before a fault goes out too.
-    let flushed = output.flush();
+    let sent = send_out(output);
     outcome?;
-    flushed.map_err(|error| ProgramFault::writing(&error))?;
-    Ok(is_missing)
+    sent?;
+    Ok(is_missing(relation, catalog.schema()))
+}
+
+/// Answers these items over a new database of this catalogue.
+fn answer_items<'a, B: Database + Drop, O: Opens<B>, W: Write>(
+    alloc: Global,
+    opener: &O,
+    catalog: &Catalog,
+    mode: Mode,
+    items: &[Item<'_>],
+    output: &mut W,
+) -> Result<(), ProgramFault<'a>>
+    ensures ok { OnOk result ((written : List ℕ) × (any_refused : Bool) × Appends (W.contents output.old) (W.contents output.new) written × IsRun B.seen O.origin mode (catalogue_of catalog.now) (map task_of items.now) written any_refused) }
+    ensures err { IfErr result IsOfRun }
+{
+    moves_follow(catalog);
+    let mut database = open_alone(alloc, opener, catalog)?;
+    run_items(alloc, mode, &mut database, items, output)?;
+    Ok(())
 }
 
 /// Whether there is no relation of the name that is asked for.

@@ -2,17 +2,16 @@
 //! `dump_files` says what is done.
 
 use crate::dump::dump_files;
+use crate::transfer::{Transfer, do_transfer};
 use databases::catalog_files::{ChainFault, Source};
 use databases::database::Database;
 use databases::ending::{of_script, unread};
 use databases::folder::{CATALOGUE, path_in};
 use databases::opened::{open_catalog, open_file};
-use databases::opener::{Folder, Lists, Opens};
-use databases::sql_stores::{Files, OpensFiles};
+use databases::opener::Opens;
 use lines::fault::ProgramFault;
 use lines::outcome::{Outcome, Status, exit};
 use lines::transfer::Dump;
-use sqlite::Alter;
 use std::io::Write;
 
 /// Writes what is asked for, over the stores of the folder that is named, and tells what it came to. A folder that has no
@@ -24,18 +23,25 @@ pub fn do_dump<W: Write, E: Write>(
     output: &mut W,
     errors: &mut E,
 ) -> Status {
-    let outcome = match dump.dir {
-        Some(dir) => match find_database(rt, dir) {
-            Ok(()) => dump_in(rt, &Files::new(rt), dir, dump, output),
-            Err(fault) => Outcome::Stopped(fault),
-        },
-        None => dump_over(rt, &Lists, dump, output),
+    let outcome = match find_database(rt, dump.dir) {
+        Ok(()) => do_transfer(
+            rt,
+            dump.dir,
+            dump.catalog,
+            Transfer::Dump(dump),
+            output,
+            errors,
+        ),
+        Err(fault) => Outcome::Stopped(fault),
     };
     exit(errors, &outcome)
 }
 
-/// Looks whether a folder has a database: it has its catalogue then.
-fn find_database<'a>(rt: &HostRuntime, dir: &'a str) -> Result<(), ProgramFault<'a>> {
+/// Looks whether the folder that is named, if one is, has a database: it has its catalogue then.
+fn find_database<'a>(rt: &HostRuntime, dir: Option<&'a str>) -> Result<(), ProgramFault<'a>> {
+    let Some(dir) = dir else {
+        return Ok(());
+    };
     let path = path_in(rt.alloc(), dir, CATALOGUE)?;
     match open_file(rt, path.as_str()) {
         Ok(_there) => Ok(()),
@@ -43,20 +49,8 @@ fn find_database<'a>(rt: &HostRuntime, dir: &'a str) -> Result<(), ProgramFault<
     }
 }
 
-/// Writes what is asked for of the database in a folder.
-fn dump_in<'a, M: Alter + Drop, F: OpensFiles<M>, W: Write>(
-    rt: &HostRuntime,
-    files: &F,
-    dir: &str,
-    dump: Dump<'a>,
-    output: &mut W,
-) -> Outcome<'a> {
-    let folder = Folder::new(rt, files, dir, dump.catalog);
-    dump_over(rt, &folder, dump, output)
-}
-
 /// Writes what is asked for over the catalogue that is named, or the built-in one.
-fn dump_over<'a, B: Database + Drop, O: Opens<B>, W: Write>(
+pub(crate) fn dump_over<'a, B: Database + Drop, O: Opens<B>, W: Write>(
     rt: &HostRuntime,
     opener: &O,
     dump: Dump<'a>,

@@ -28,16 +28,28 @@ pub fn tell_folder<M: Alter + Drop, F: OpensFiles<M>, C: Read + Drop, E: Write>(
     fault: StoreFault,
     errors: &mut E,
 ) -> io::Result<()> {
-    let Ok(catalog) = read_catalog(rt.alloc(), file, catalog) else {
-        return Ok(());
-    };
+    match read_catalog(rt.alloc(), file, catalog) {
+        Ok(catalog) => tell_files(rt, files, dir, &catalog, fault, errors),
+        Err(_) => Ok(()),
+    }
+}
+
+/// Tells it of a folder that is opened for this catalogue.
+fn tell_files<M: Alter + Drop, F: OpensFiles<M>, E: Write>(
+    rt: &HostRuntime,
+    files: &F,
+    dir: &str,
+    catalog: &Catalog,
+    fault: StoreFault,
+    errors: &mut E,
+) -> io::Result<()> {
     // A store of another catalogue's site is not to be opened: its file would be made.
-    let Some(standing) = tell_catalogue(rt, dir, &catalog, errors)? else {
+    let Some(standing) = tell_catalogue(rt, dir, catalog, errors)? else {
         return Ok(());
     };
     let mut is_told = false;
     for place in 0..catalog.sites().len() {
-        is_told |= tell_site(rt, files, dir, &catalog, place, standing, errors)?;
+        is_told |= tell_site(rt, files, dir, catalog, place, standing, errors)?;
     }
     is_told |= tell_desk(rt, files, dir, standing, errors)?;
     if is_told {
@@ -55,23 +67,41 @@ fn tell_catalogue<E: Write>(
     errors: &mut E,
 ) -> io::Result<Option<Standing>> {
     let path = format!(in rt.alloc(); "{dir}/{CATALOGUE}")?;
-    let kept = match fs::open(rt, path.as_str()) {
-        Ok(kept) => kept,
-        Err(error) => return tell_unread(rt, dir, path.as_str(), error.kind(), errors),
-    };
-    let Ok(kept) = read_catalog(rt.alloc(), CATALOGUE, kept) else {
-        writeln!(errors, "{path}: it is no catalogue")?;
-        return Ok(None);
-    };
-    if is_same(&kept, catalog) {
+    match fs::open(rt, path.as_str()) {
+        Ok(kept) => tell_kept(rt, path.as_str(), kept, catalog, errors),
+        Err(error) => tell_unread(rt, dir, path.as_str(), error.kind(), errors),
+    }
+}
+
+/// Tells it of the catalogue that `kept` gives, which the file of this path holds.
+fn tell_kept<C: Read + Drop, E: Write>(
+    rt: &HostRuntime,
+    path: &str,
+    kept: C,
+    catalog: &Catalog,
+    errors: &mut E,
+) -> io::Result<Option<Standing>> {
+    match read_catalog(rt.alloc(), CATALOGUE, kept) {
+        Ok(kept) => compare(rt, path, &kept, catalog, errors),
+        Err(_) => {
+            writeln!(errors, "{path}: it is no catalogue")?;
+            Ok(None)
+        }
+    }
+}
+
+/// Tells what the folder's catalogue, in the file of this path, has otherwise than this one, unless they are the same.
+fn compare<E: Write>(
+    rt: &HostRuntime,
+    path: &str,
+    kept: &Catalog,
+    given: &Catalog,
+    errors: &mut E,
+) -> io::Result<Option<Standing>> {
+    if is_same(kept, given) {
         return Ok(Some(Standing::Kept));
     }
-    let both = Compared {
-        path: path.as_str(),
-        kept: &kept,
-        given: catalog,
-    };
-    tell_difference(rt.alloc(), both, errors)?;
+    tell_difference(rt.alloc(), Compared { path, kept, given }, errors)?;
     Ok(None)
 }
 

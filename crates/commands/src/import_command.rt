@@ -3,15 +3,14 @@
 
 use crate::import_file::import_files;
 use crate::row_progress::RowProgress;
+use crate::transfer::{Transfer, do_transfer};
 use databases::catalog_files::{ChainFault, Source};
 use databases::database::Database;
 use databases::ending::{of_script, unread};
 use databases::opened::{open_catalog, open_input};
-use databases::opener::{Folder, Lists, Opens};
-use databases::sql_stores::{Files, OpensFiles};
+use databases::opener::Opens;
 use lines::outcome::{Outcome, Status, exit};
 use lines::transfer::Import;
-use sqlite::Alter;
 use std::io::Write;
 
 /// Inserts the rows of the file that is named, over the stores of the folder that is named, and tells what it came to. What files
@@ -22,28 +21,19 @@ pub fn do_import<W: Write, E: Write>(
     output: &mut W,
     errors: &mut E,
 ) -> Status {
-    let outcome = match import.dir {
-        Some(dir) => import_in(rt, &Files::new(rt), dir, import, output, errors),
-        None => import_over(rt, &Lists, import, output, errors),
-    };
+    let outcome = do_transfer(
+        rt,
+        import.dir,
+        import.catalog,
+        Transfer::Import(import),
+        output,
+        errors,
+    );
     exit(errors, &outcome)
 }
 
-/// Inserts them into the database of a folder.
-fn import_in<'a, M: Alter + Drop, F: OpensFiles<M>, W: Write, E: Write>(
-    rt: &HostRuntime,
-    files: &F,
-    dir: &str,
-    import: Import<'a>,
-    output: &mut W,
-    errors: &mut E,
-) -> Outcome<'a> {
-    let folder = Folder::new(rt, files, dir, import.catalog);
-    import_over(rt, &folder, import, output, errors)
-}
-
 /// Inserts them over the catalogue that is named, or the built-in one, once that can be opened.
-fn import_over<'a, B: Database + Drop, O: Opens<B>, W: Write, E: Write>(
+pub(crate) fn import_over<'a, B: Database + Drop, O: Opens<B>, W: Write, E: Write>(
     rt: &HostRuntime,
     opener: &O,
     import: Import<'a>,

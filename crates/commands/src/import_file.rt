@@ -1,11 +1,12 @@
 //! A file of comma-separated values, whose rows are inserted into a relation.
 
-ghost use Rattle.std.specs.Prelude.{◌≡◌, ◌<◌, IfOk, IfSome, OnOk, length, string_bytes};
+ghost use Rattle.std.specs.Prelude.{◌≡◌, ◌<◌, IfErr, IfOk, IfSome, OnOk, length, string_bytes};
 ghost use Rattle.std.specs.Io.KnownBytes.{Appends};
 ghost use Rattle.catalog.specs.Relation.{catalogue_of};
 ghost use Rattle.commands.specs.Import as imports;
 ghost use Rattle.commands.specs.ImportFile.{HasInserted, ImportsFile, ImportsOver};
 ghost use Rattle.commands.specs.ImportFile as spec;
+ghost use Rattle.databases.specs.Solo.{IsOfRun};
 
 use crate::import::{Imported, import};
 use crate::row_progress::RowProgress;
@@ -152,12 +153,13 @@ pub fn many_of(many: Option<u64>, rows: &[Row]) -> usize
 }
 
 /// Tells how many rows are committed.
-fn tell_count<'a, W: Write>(
+pub(crate) fn tell_count<'a, W: Write>(
     alloc: Global,
     count: usize,
     output: &mut W,
 ) -> Result<(), ProgramFault<'a>>
-    ensures { OnOk result (Appends (W.contents output.old) (W.contents output.new) (imports.imported_text count)) }
+    ensures told { OnOk result (Appends (W.contents output.old) (W.contents output.new) (imports.imported_text count)) }
+    ensures err { IfErr result IsOfRun }
 {
     let text = imported_text(alloc, count)?;
     write_text(output, text.as_str())

@@ -6,7 +6,7 @@ ghost use Rattle.commands.specs.Session.{Talks};
 ghost use Rattle.databases.specs.Solo.{IsOfRun};
 
 use crate::import::{Imported, import};
-use crate::import_file::{imported_text, many_of, tell_line, tell_row};
+use crate::import_file::{many_of, tell_count, tell_line, tell_row};
 use crate::row_progress::RowProgress;
 use crate::session_word::{Turn, tell};
 use crate::texts::OpensText;
@@ -16,7 +16,6 @@ use exchange::line_fault::{LineFault, LineWhat};
 use lines::cut::cut;
 use lines::fault::ProgramFault;
 use lines::play_script::number;
-use lines::written::write_text;
 use meaning::schema::RelationSchema;
 use std::alloc::Global;
 use std::io;
@@ -189,17 +188,13 @@ fn bring_in<'a, B: Database, W: Write, E: Write>(
 {
     let many = many_of(many, rows);
     match import(alloc, database, relation, rows, many, progress)? {
-        Imported::All => {
-            let text = imported_text(alloc, rows.len())?;
-            write_text(output, text.as_str())
-        }
+        Imported::All => tell_count(alloc, rows.len(), output),
         Imported::Until {
             row,
             committed,
             reply,
         } => {
-            let text = imported_text(alloc, committed)?;
-            write_text(output, text.as_str())?;
+            tell_count(alloc, committed, output)?;
             tell_row(alloc, rows, row, reply.text(), errors)?;
             Ok(())
         }

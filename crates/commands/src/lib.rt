@@ -25,4 +25,5 @@ pub mod stats;
 pub mod suggest_command;
 pub mod suggest_file;
 pub mod texts;
+mod transfer;
 pub mod typed;

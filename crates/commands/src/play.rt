@@ -152,7 +152,22 @@ fn play_over<'a, D: DeskStore + Drop, S: SiteStore + Drop, O: OpensWorld<D, S>, 
     runs_are_serial();
     let world = opener.open(alloc, chain, whole)?;
     let mut schedule = Schedule::new(alloc, world);
-    let done = play_items(alloc, &mut schedule, items, output);
+    play_and_send(alloc, &mut schedule, items, output)
+}
+
+/// Plays items in order, writes what is told of each, and waits until that has gone out.
+fn play_and_send<'a, D: DeskStore, S: SiteStore, W: Write>(
+    alloc: Global,
+    schedule: &mut Schedule<D, S>,
+    items: &[Placed],
+    output: &mut W,
+) -> Result<(), ProgramFault<'a>>
+    requires { IsCounted (stage_of schedule.old) }
+    ensures ok { OnOk result (PlaysItems (world_over D.is_clean S.is_clean D.is_sound S.is_sound D.kept S.kept D.refused S.refused) items.now (W.contents output.old) (W.contents output.new) schedule.old schedule.new) }
+    ensures leaves { LeavesWorld (world_over D.is_clean S.is_clean D.is_sound S.is_sound D.kept S.kept D.refused S.refused) schedule.old.world schedule.new.world }
+    ensures err { IfErr result IsOfOutput }
+{
+    let done = play_items(alloc, schedule, items, output);
     // What was told before a fault goes out too.
     let sent = send_out(output);
     done?;
@@ -161,7 +176,7 @@ fn play_over<'a, D: DeskStore + Drop, S: SiteStore + Drop, O: OpensWorld<D, S>, 
 }
 
 /// Waits until what was written has gone out.
-fn send_out<'a, W: Write>(output: &mut W) -> Result<(), ProgramFault<'a>>
+pub(crate) fn send_out<'a, W: Write>(output: &mut W) -> Result<(), ProgramFault<'a>>
     ensures same { Keeps (W.contents output.old) (W.contents output.new) }
     ensures err { IfErr result IsOfOutput }
 {

@@ -325,18 +325,28 @@ fn explain_answer<B: Database, E: Write>(
     let schema = database.catalog().schema();
     let _ = explain_text(alloc, schema, text, errors);
     match read(alloc, text, schema) {
-        Ok(Command::Begin | Command::Run(Statement::Refragment(_))) if was_open => {
+        Ok(command) => {
+            explain_command(&command, was_open, database.later(), errors);
+            drop(command);
+        }
+        Err(_) => tell_word(text, errors),
+    }
+}
+
+/// Explains why a command that can be read was refused, before catalogues that come later.
+fn explain_command<E: Write>(command: &Command, was_open: bool, later: &[Catalog], errors: &mut E) {
+    match command {
+        Command::Begin | Command::Run(Statement::Refragment(_)) if was_open => {
             tell(
                 errors,
                 "a transaction is open; COMMIT or ROLLBACK ends it\n",
             );
         }
-        Ok(Command::Run(Statement::Refragment(_))) => tell_no_next(database.later(), errors),
-        Ok(Command::Commit | Command::Rollback) if !was_open => {
+        Command::Run(Statement::Refragment(_)) => tell_no_next(later, errors),
+        Command::Commit | Command::Rollback if !was_open => {
             tell(errors, "no transaction is open; BEGIN begins one\n");
         }
-        Ok(_) => {}
-        Err(_) => tell_word(text, errors),
+        _ => {}
     }
 }
 

@@ -1,6 +1,6 @@
 //! A catalogue that is suggested for a file of comma-separated values.
 
-ghost use Rattle.std.specs.Prelude.{◌≡◌, false, IfOk};
+ghost use Rattle.std.specs.Prelude.{◌≡◌, false, true, IfOk};
 ghost use Rattle.commands.specs.SuggestFile.{HasSuggested};
 
 use crate::session_word::tell;
@@ -29,29 +29,49 @@ pub fn suggest_file<'a, R: Read + Drop, W: Write, E: Write>(
 ) -> Result<bool, ProgramFault<'a>>
     ensures { IfOk input (λ reader. IfOk result (λ is_refused. is_refused ≡ false → HasSuggested (R.remaining reader) relation.now key.now sites (W.contents output.old) (W.contents output.new))) }
 {
-    let input = input.map_err(|error| ProgramFault::reading(file, &error))?;
+    match input {
+        Ok(input) => suggest_over(
+            alloc, file, input, relation, key, split, sites, output, errors,
+        ),
+        Err(error) => Err(ProgramFault::reading(file, &error)),
+    }
+}
+
+/// Writes one for a file that was opened.
+fn suggest_over<'a, R: Read + Drop, W: Write, E: Write>(
+    alloc: Global,
+    file: &'a str,
+    input: R,
+    relation: &str,
+    key: &str,
+    split: &str,
+    sites: usize,
+    output: &mut W,
+    errors: &mut E,
+) -> Result<bool, ProgramFault<'a>>
+    ensures { IfOk result (λ is_refused. is_refused ≡ false → HasSuggested (R.remaining input) relation.now key.now sites (W.contents output.old) (W.contents output.new)) }
+{
     match suggest(alloc, relation, key, split, sites, input) {
         Ok(text) => {
             write_text(output, text.as_str())?;
             Ok(false)
         }
-        Err(fault) => {
-            tell_fault(alloc, file, key, split, &fault, errors)?;
-            Ok(true)
-        }
+        Err(fault) => refuse(alloc, file, key, split, &fault, errors),
     }
 }
 
-/// Tells why there is no catalogue; that memory ran out is the program's fault. Nothing is claimed of what stands on the standard
-/// error.
-fn tell_fault<'a, E: Write>(
+/// Tells why there is no catalogue, and answers that it was refused; that memory ran out is the program's fault. Nothing is claimed of
+/// what stands on the standard error.
+fn refuse<'a, E: Write>(
     alloc: Global,
     file: &'a str,
     key: &str,
     split: &str,
     fault: &SuggestFault,
     errors: &mut E,
-) -> Result<(), ProgramFault<'a>> {
+) -> Result<bool, ProgramFault<'a>>
+    ensures { IfOk result (λ is_refused. is_refused ≡ true) }
+{
     match fault {
         SuggestFault::Memory => return Err(ProgramFault::Memory),
         SuggestFault::Line(line) => match &line.what {
@@ -64,7 +84,7 @@ fn tell_fault<'a, E: Write>(
     let why = tell_suggestion(alloc, key, split, fault)?;
     let text = format!(in alloc; "{file}: {why}\n")?;
     tell(errors, text.as_str());
-    Ok(())
+    Ok(true)
 }
 
 /// The name of a file's relation: that of the file without its folders, up to its first dot. It stands in for a name that isn't given,

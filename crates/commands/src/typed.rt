@@ -137,12 +137,12 @@ pub fn is_whole<'a>(alloc: Global, schema: &Schema, text: &str) -> Result<bool, 
     if text.ends_with(';') {
         return Ok(true);
     }
-    match read(alloc, text, schema) {
-        Ok(_) => Ok(true),
-        Err(fault) => match fault.rule() {
-            Rule::Memory => Err(ProgramFault::Memory),
-            Rule::Syntax => Ok(fault.offset() < text.len()),
-            _ => Ok(true),
-        },
+    let Some(fault) = read(alloc, text, schema).err() else {
+        return Ok(true);
+    };
+    match fault.rule() {
+        Rule::Memory => Err(ProgramFault::Memory),
+        Rule::Syntax => Ok(fault.offset() < text.len()),
+        _ => Ok(true),
     }
 }

@@ -1,4 +1,4 @@
-use Rattle.std.proofs.Common.{◌≡◌, ◌∷◌, [], Err, IfErr, List, Option, Result, ap, inl, inr, map, rules, subst, sym, ◌∙◌, ℕ}
+use Rattle.std.proofs.Common.{◌∷◌, [], Err, IfErr, List, Ok, Option, Result, ap, inl, inr, map, subst, sym, ◌∙◌, ℕ}
 use Rattle.store.specs.declared.fault.StoreFault.{StoreFault}
 use Rattle.lines.specs.declared.fault.ProgramFault.{ProgramFault}
 use Rattle.lines.specs.Input.{IsOfOutput}
@@ -6,12 +6,12 @@ use Rattle.catalog.specs.Catalogue.{Catalogue}
 use Rattle.catalog.specs.Relation.{catalogue_of}
 use Rattle.desk.specs.CatalogueDatabase.{database, databases}
 use Rattle.world.specs.Listed.{IsListed}
-use Rattle.commands.specs.Play.{StopsItems}
+use Rattle.commands.specs.Play.{PlaysItems, StopsItems}
 use Rattle.databases.specs.Schedule.{HasRun, world_over}
 use Rattle.databases.specs.WorldOpener.{IsChainOpened, IsOpenedOver}
 use Rattle.commands.proofs.PlayLemmas.{PlaysAll-weaker}
+use Rattle.commands.proofs.SessionLemmas.{on_ok}
 use Rattle.databases.proofs.ChainLemmas.{first_is}
-use Rattle.databases.proofs.SoloLemmas.{Appends-kept}
 use Rattle.commands.proofs.play.play_over.Goals as goal
 
 pub returns-clause-ok : goal.returns-clause-ok
@@ -20,9 +20,8 @@ returns-clause-ok g c = λ first rest is.
     let db = databases first rest in
     let whole = c.args.whole.now in
     let opening = c.new-schedule.result in
-    let ended = c.play_items-done.new.schedule in
-    let leaves = c.play_items-done.ensures.leaves in
-    let ran = c.in_ok-done.ensures.ok in
+    let ended = c.play_and_send.new.schedule in
+    let leaves = c.play_and_send.ensures.leaves in
     let opened : IsChainOpened seen first rest whole opening.world = subst (IsChainOpened seen first rest whole) (sym c.new-schedule.ensures.world) (c.in_ok-world.ensures.lists first rest is) in
     let listed = c.chain_is_listed.ensures first rest is in
     let began = λ (clean : seen.is_clean ended.world).
@@ -30,7 +29,8 @@ returns-clause-ok g c = λ first rest is.
     let has : HasRun seen db whole opening.world = record { listed = listed; sound = opened.sound then; stands = opened.stands then; reached = rw opened.none ([], opened.run then) } in
     has in
     let runs = λ (clean : seen.is_clean ended.world). leaves.runs db whole clean (began clean) in
-    record {
+    on_ok c.play_and_send.result
+    (λ (ran : PlaysItems seen c.args.items.now (g.W.Write.contents c.args.output.now) (g.W.Write.contents c.play_and_send.new.output) opening ended). record {
       opening = opening;
       opens = record { entries = opened.none; txns = c.new-schedule.ensures.txns; names = c.new-schedule.ensures.names; came = c.new-schedule.ensures.came };
       number = opened.number;
@@ -60,16 +60,18 @@ returns-clause-ok g c = λ first rest is.
             run = λ clean. (goes clean).reached;
             serial = λ clean. c.runs_are_serial.ensures own lawful whole (seen.machines ended.world) (seen.entries ended.world) (goes clean).reached.0 (goes clean).reached.1;
           };
-      said = Appends-kept (g.W.Write.contents c.args.output.now) (g.W.Write.contents c.play_items-done.new.output) (g.W.Write.contents c.send_out-sent.new.output) ran.told ran.said c.send_out-sent.ensures.same;
-    }
+      said = ran.said;
+    })
+    c.play_and_send.ensures.ok
 
 -- a fault of a write stops items
 written_stops : (Fails : StoreFault → Type 0) (old new : Option (List ℕ)) (fault : ProgramFault) → IsOfOutput fault → StopsItems Fails old new fault
 written_stops Fails old new fault (inl memory) = rw memory tt
 written_stops Fails old new fault (inr closed) = rw closed tt
 
-passed_on : {T : Type 0} (Fails : StoreFault → Type 0) (old new : Option (List ℕ)) (result : Result T ProgramFault) (fault : ProgramFault) → result ≡ Err fault → IsOfOutput fault → IfErr result (StopsItems Fails old new)
-passed_on Fails old new result fault is why = rw is (written_stops Fails old new fault why)
+stops_items : {T : Type 0} (Fails : StoreFault → Type 0) (old new : Option (List ℕ)) (result : Result T ProgramFault) → IfErr result IsOfOutput → IfErr result (StopsItems Fails old new)
+stops_items Fails old new (Ok x) why = tt
+stops_items Fails old new (Err fault) why = written_stops Fails old new fault why
 
-pub returns-in_err-sent-clause-err : goal.returns-in_err-sent-clause-err
-returns-in_err-sent-clause-err g c = passed_on g.O.OpensWorld.fails_for (g.W.Write.contents c.args.output.now) (g.W.Write.contents c.send_out-sent.new.output) c.from_residual-in_err-sent.result c.in_err-sent.field-0.0 (search rules) c.in_err-sent.ensures.err
+pub returns-clause-err : goal.returns-clause-err
+returns-clause-err g c = stops_items g.O.OpensWorld.fails_for (g.W.Write.contents c.args.output.now) (g.W.Write.contents c.play_and_send.new.output) c.play_and_send.result c.play_and_send.ensures.err
